@@ -1,0 +1,4 @@
+pub mod Finite
+pub mod Ranks
+pub mod Made
+pub mod OneReply

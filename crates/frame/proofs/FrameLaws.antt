@@ -1,0 +1,136 @@
+-- What every well-framed item keeps: its own place, a next place after it and within the sheet, and a name that ends where the item ends.
+-- What the header and the end say of the sheet's length. One law goes by the tests of the definitions, and the others follow from it.
+-- Assumes nothing.
+use Prim.Native.Nat.{ℕ, _+_, _-_, _<_, _≤_}
+use mathlib.Core.Path.{_≡_, refl, ap, _∙_}
+use mathlib.Core.List.{List}
+use mathlib.Core.Bool.{Bool, true, false, _&&_}
+use native.Mathlib.Omega.{arith}
+use lib.ListN.{length, getD, take, drop, length-take, length-drop}
+use lib.Dec.{ltb, leb, eqb}
+use borrow.Author.Tests.{leb-true, ltb-true, eqb-true, eqb-false, ltb-false, leb-false}
+use Rattle.frame.specs.declared.Part.{Part}
+use Rattle.frame.specs.declared.Item.{Item}
+use Rattle.frame.specs.declared.Item.the-variants.{Push, Unary, Binary, Call, CallTemplate, Take, End, Bad}
+use Rattle.frame.specs.declared.Placed.{Placed}
+use Rattle.frame.specs.Frame.{pick, place, typeNo, part, still, follows, payloadItem, payloadAt, itemAt, isItem, nameOf, namePart, Within, headerOk, headerSize, longest, lengthOf}
+
+-- a property of both sides, each where its test holds, is one of the choice
+pub pick-elim : {A : Type 0} (P : A → Type 0) (b : Bool) {x y : A} → (b ≡ true → P x) → (b ≡ false → P y) → P (pick b x y)
+pick-elim P true h k = h refl
+pick-elim P false h k = k refl
+
+-- two truth values are two
+absurd : {X : Type 0} → true ≡ false → X
+absurd e = let z : _≡_ {A = ℕ} 0 1 = cc in let f : ⊥ = omega arith in elim f [ ]
+
+-- a call's name has 1 to 32 bytes and ends where the next item begins
+abbrev pub NameEnds : Item → ℕ → Type 0
+NameEnds (Push t) n = Unit {0}
+NameEnds (Unary o) n = Unit {0}
+NameEnds (Binary o) n = Unit {0}
+NameEnds (Call count name) n = (name .start .0 + name .length ≡ n) × (1 ≤ name .length) × (name .length ≤ 32)
+NameEnds (CallTemplate t count name) n = (name .start .0 + name .length ≡ n) × (1 ≤ name .length) × (name .length ≤ 32)
+NameEnds (Take kind p q elem) n = Unit {0}
+NameEnds End n = Unit {0}
+NameEnds Bad n = Unit {0}
+
+-- a property that holds of bad framing and of every item with a right name holds of what a kind and a payload give
+module _ (at : ℕ) (p : List ℕ) (P : Placed → Type 0) (bad : P (still Bad at)) (item : (i : Item) → isItem i ≡ true → NameEnds i (at + 2 + length p) → P (follows at p i)) where
+  sized : (n : ℕ) (i : Item) → isItem i ≡ true → NameEnds i (at + 2 + length p) → P (pick (eqb (length p) n) (follows at p i) (still Bad at))
+  sized n i e h = pick-elim P (eqb (length p) n) (λ _. item i e h) (λ _. bad)
+
+  -- a name after k numbers
+  abbrev name : ℕ → Part
+  name k = part (at + 2 + k) (length p - k)
+
+  named : (k : ℕ) (i : Item) → isItem i ≡ true → (((name k .start .0 + name k .length ≡ at + 2 + length p) × (1 ≤ name k .length) × (name k .length ≤ 32)) → NameEnds i (at + 2 + length p))
+      → P (pick (ltb k (length p)) (pick (leb (length p) (k + 32)) (follows at p i) (still Bad at)) (still Bad at))
+  named k i e h =
+      pick-elim P (ltb k (length p)) (λ a. pick-elim P (leb (length p) (k + 32))
+      (λ b. item i e (h (omega (arith, ltb-true), omega (arith, ltb-true), omega (arith, leb-true)))) (λ _. bad)) (λ _. bad)
+
+  payload-elim : (k : ℕ) → P (payloadItem at p k)
+  unfolding payloadItem
+  payload-elim k =
+      pick-elim P (eqb k 1) (λ _. sized 1 (Push (typeNo (getD p 0 0))) refl tt) (λ _.
+      pick-elim P (eqb k 2) (λ _. sized 1 (Unary (getD p 0 0)) refl tt) (λ _.
+      pick-elim P (eqb k 3) (λ _. sized 1 (Binary (getD p 0 0)) refl tt) (λ _.
+      pick-elim P (eqb k 4) (λ _. named 1 (Call (getD p 0 0) (name 1)) refl (λ h. h)) (λ _.
+      pick-elim P (eqb k 5) (λ _. named 2 (CallTemplate (typeNo (getD p 0 0)) (getD p 1 0) (name 2)) refl (λ h. h)) (λ _.
+      pick-elim P (eqb k 6) (λ _. sized 7 (Take (getD p 0 0) _ (getD p 5 0) (getD p 6 0)) refl tt) (λ _. bad))))))
+
+-- an item i that stands at a place of a sheet, with the next place n
+pub record Framed (s : List ℕ) (at : ℕ) (i : Item) (n : ℕ) : Type 0 where
+  pub begins : headerSize ≤ at
+  pub after : at < n
+  pub within : n ≤ length s
+  pub name : NameEnds i n
+
+-- a property of bad framing, of the end and of every well-framed item holds of what stands at a place
+module _ (s : List ℕ) (at : ℕ) (P : Placed → Type 0) (bad : P (still Bad at)) (ending : length s ≤ at → P (still End at))
+    (item : (i : Item) (n : ℕ) → isItem i ≡ true → Framed s at i n → P (record { item = i; at = place at; next = place n })) where
+  pub item-elim : P (itemAt s at)
+  unfolding itemAt
+  item-elim =
+      pick-elim P (ltb at headerSize) (λ _. bad) (λ a.
+      pick-elim P (leb (length s) at) (λ b. ending (leb-true _ _ b)) (λ b.
+      pick-elim P (eqb (getD s at 0) 0) (λ _. bad) (λ d.
+      pick-elim P (ltb (length s) (at + 1 + getD s at 0)) (λ _. bad) (λ f.
+      let some : getD s at 0 ≡ 0 → ⊥ = eqb-false _ _ d in
+      let n : length (payloadAt s at) ≡ getD s at 0 - 1 = simp (length-take, length-drop) (omega (arith, ltb-false, leb-false)) in
+      payload-elim at (payloadAt s at) P bad (λ i e h. item i (at + 2 + length (payloadAt s at)) e (record {
+        begins = ltb-false _ _ a;
+        after = omega arith;
+        within = omega (arith, ltb-false, some);
+        name = h;
+      })) (getD s (at + 1) 0)))))
+
+-- an item stands where the answer is neither the end nor bad framing
+pub framed : (s : List ℕ) (at : ℕ) → isItem (itemAt s at .item) ≡ true → Framed s at (itemAt s at .item) (itemAt s at .next .0)
+framed s at = item-elim s at (λ x. isItem (x .item) ≡ true → Framed s at (x .item) (x .next .0)) (λ e. absurd (cc)) (λ _ e. absurd (cc)) (λ i n _ f _. f)
+
+-- the place is always the asked one
+pub own-place : (s : List ℕ) (at : ℕ) → itemAt s at .at ≡ place at
+own-place s at = item-elim s at (λ x. x .at ≡ place at) refl (λ _. refl) (λ i n _ _. refl)
+
+-- where no item stands, the next place is the place
+pub stays : (s : List ℕ) (at : ℕ) → isItem (itemAt s at .item) ≡ false → itemAt s at .next ≡ place at
+stays s at = item-elim s at (λ x. isItem (x .item) ≡ false → x .next ≡ place at) (λ _. refl) (λ _ _. refl) (λ i n e f g. absurd (cc))
+
+-- the end is no place of the sheet
+pub at-end : (s : List ℕ) (at : ℕ) → itemAt s at .item ≡ End → length s ≤ at
+at-end s at = item-elim s at (λ x. x .item ≡ End → length s ≤ at) (λ e. absurd (cc)) (λ h _. h) (λ i n e f g. absurd (cc (ap (λ (j : Item). isItem j) g)))
+
+-- the part that a call shows lies within the sheet
+pub name-within : (s : List ℕ) (at : ℕ) → Within (length s) (namePart s at)
+unfolding namePart
+name-within s at = item-elim s at (λ x. Within (length s) (nameOf (x .item))) (omega arith) (λ _. omega arith) (λ i n _ f. go i n f)
+  where
+    go : (i : Item) (n : ℕ) → Framed s at i n → Within (length s) (nameOf i)
+    go (Push t) n f = omega arith
+    go (Unary o) n f = omega arith
+    go (Binary o) n f = omega arith
+    go (Call count name) n f = omega (arith, f .name .0, f .within)
+    go (CallTemplate t count name) n f = omega (arith, f .name .0, f .within)
+    go (Take kind p q elem) n f = omega arith
+    go End n f = omega arith
+    go Bad n f = omega arith
+
+-- what a right header says
+pub record Headed (v : ℕ) (s : List ℕ) : Type 0 where
+  pub first : getD s 0 0 ≡ v
+  pub short : lengthOf s ≤ longest
+  pub whole : length s ≡ headerSize + lengthOf s
+
+pub headed : (v : ℕ) (s : List ℕ) → headerOk v s ≡ true → Headed v s
+unfolding headerOk
+headed v s e =
+    let a = both (leb headerSize (length s)) _ e in
+    let b = both (eqb (getD s 0 0) v) _ (a .1) in
+    let d = both (leb (lengthOf s) longest) _ (b .1) in
+    record { first = eqb-true _ _ (b .0); short = leb-true _ _ (d .0); whole = eqb-true _ _ (d .1) }
+  where
+    both : (x y : Bool) → x && y ≡ true → (x ≡ true) × (y ≡ true)
+    both true y h = (refl, h)
+    both false y h = absurd (cc)

@@ -1,0 +1,4 @@
+pub mod Parts
+pub mod FrameLaws
+pub mod ItemsLaws
+pub mod OneReply

@@ -1,0 +1,6 @@
+pub mod Bytes
+pub mod Order
+pub mod Rows
+pub mod Table
+pub mod Document
+pub mod OneReply

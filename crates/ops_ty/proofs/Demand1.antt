@@ -1,0 +1,55 @@
+-- DEMAND 1 for operators: "A refused call changes no lent byte or word." "An accepted call leaves every earlier entry at its number and adds
+-- only the missing entries its result needs." Of any table, count, operator and operands. Assumes nothing.
+use Prim.Native.Nat.{ℕ}
+use mathlib.Core.Path.{_≡_, refl, sym, _∙_, ap}
+use mathlib.Core.Bool.{Bool, true, false, not, cond}
+use mathlib.Core.List.{List, [], _∷_}
+use lib.Dec.{eqb, ltb}
+use borrow.Author.Tests.{ltb-true}
+use Rattle.conv.specs.Types.{Ty, formed, handle}
+use Rattle.conv.specs.Rank.{both, isReference, isPointer, firstOf}
+use Rattle.overload.specs.Overload.{Judged}
+use Rattle.overload.specs.Overload.Judged.{gives}
+use Rattle.overload.specs.Rows.{judgeRow, judgeAddress, judgeIndirection}
+use Rattle.overload.proofs.Results.{gives-formed}
+use Rattle.table.specs.Table.{soundb, Sound}
+use Rattle.table.specs.Denote.{typeAt}
+use Rattle.table.proofs.SoundLaws.{sound-of}
+use Rattle.ruled.specs.Call.{judgedOutcome}
+use Rattle.ruled.proofs.Demands.{Kept, kept-refused, kept-by, kept-judged, kept-ruled}
+use Rattle.ops_ty.specs.Ops.{unaryOps, addressOp, indirectionOp, binaryOps, binaryRow, unaryOutcome, binaryOutcome, typeUnaryOp, typeBinaryOp}
+use Rattle.ops_ty.proofs.Pointers.{address-formed, indirection-formed}
+
+pub unary-kept : (w : List ℕ) (n op a : ℕ) → Kept w n (typeUnaryOp w n op a)
+unfolding typeUnaryOp unaryOutcome
+unary-kept w n op a =
+    kept-by w n (soundb w n) _ _
+    (λ e.
+    let s = sound-of w n e in
+    kept-by w n (ltb a n) _ _
+    (λ l.
+    let u = ltb-true a n l in
+    kept-by w n (ltb op unaryOps) _ _
+    (λ k.
+    kept-by w n (eqb op addressOp) _ _ (λ h. kept-judged w n s 0 (judgeAddress (typeAt w a)) (address-formed w n s a u))
+    (λ h.
+    kept-by w n (isReference (typeAt w a)) _ _ (λ r. kept-refused w n _ 0)
+    (λ r.
+    kept-by w n (eqb op indirectionOp) _ _ (λ i. kept-judged w n s 0 (judgeIndirection (typeAt w a)) (indirection-formed w n s a u))
+    (λ i. kept-judged w n s 0 (judgeRow op (typeAt w a ∷ [])) (λ R q. gives-formed op (typeAt w a ∷ []) R q .0)))))
+    (λ k. kept-refused w n _ 0))
+    (λ l. kept-refused w n _ 0))
+    (λ e. kept-refused w n _ 0)
+
+pub binary-kept : (w : List ℕ) (n op a b : ℕ) → Kept w n (typeBinaryOp w n op a b)
+unfolding typeBinaryOp binaryOutcome
+binary-kept w n op a b =
+    kept-by w n (soundb w n) _ _
+    (λ e.
+    kept-by w n (ltb a n) _ _
+    (λ l.
+    kept-by w n (ltb b n) _ _
+    (λ k. kept-by w n (ltb op binaryOps) _ _ (λ h. kept-ruled w n (sound-of w n e) 0 (binaryRow op) (typeAt w a ∷ typeAt w b ∷ [])) (λ h. kept-refused w n _ 0))
+    (λ k. kept-refused w n _ 0))
+    (λ l. kept-refused w n _ 0))
+    (λ e. kept-refused w n _ 0)

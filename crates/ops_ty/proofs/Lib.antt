@@ -1,0 +1,5 @@
+pub mod Pointers
+pub mod Ways
+pub mod Demand1
+pub mod Demand3
+pub mod OneReply

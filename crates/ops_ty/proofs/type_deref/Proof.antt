@@ -1,0 +1,45 @@
+-- `ops_ty::type_deref` meets its contract: by the words of the operand's entry. Assumes nothing.
+use borrow.Author.Needs.{needs}
+use native.Mathlib.Omega.{arith}
+use mathlib.Core.Path.{_≡_, refl, sym, _∙_, ap}
+use Rattle.ruled.proofs.Outcomes.{gave-as, gave-from, gave-refused}
+use Rattle.ops_ty.proofs.Pointers.{ptr-no, ptr-enter}
+use Rattle.ops_ty.proofs.type_deref.Statement.{statement}
+use Rattle.ops_ty.proofs.type_deref.Tie as tie
+use Rattle.ops_ty.proofs.type_deref.Reads as reads
+use Rattle.ops_ty.proofs.type_deref.Lts as lts
+
+entry-at-requires : tie.Need-entry-at-requires
+entry-at-requires c κs = let s = c .before .before in let r = s .pre .0 .room in let l = s .pre .1 in omega arith
+
+refused-requires : tie.Need-refused-requires
+refused-requires c κs = search needs
+
+same-length : tie.Need-same-length
+same-length c = search needs
+
+returns : tie.Need-returns
+returns c =
+    let s = c .before .before .before .before .before .before in
+    let a = s .args in
+    gave-as (ptr-no (a .place .0) (a .words .now) (a .n) (s .pre .0) (a .a) (s .pre .1) _ (c .before .before .before .entry-at .ensures) (c .before .if1 .taken)) (gave-refused _ _ (a .words .now) (a .n) (c .refused .ensures))
+
+enter-requires : tie.Need-enter-requires
+enter-requires c κs = search needs
+
+answer-of-requires : tie.Need-answer-of-requires
+answer-of-requires c κs = search needs
+
+same-length-2 : tie.Need-same-length-2
+same-length-2 c = search needs
+
+returns-2 : tie.Need-returns-2
+returns-2 c =
+    let s = c .before .before .before .before .before .before .before .before .before .before in
+    let a = s .args in
+    gave-from (c .answer-of .ensures)
+    (ptr-enter (a .place .0) (a .words .now) (a .n) (s .pre .0) (a .a) (s .pre .1) _ (c .before .before .before .before .before .before .before .entry-at .ensures) (c .before .before .before .before .before .if1 .left) _ _ (c .before .before .before .enter .ensures))
+    refl
+
+pub type-deref-spec : {M : Type 1} → statement M
+type-deref-spec = tie.close (tie.spec entry-at-requires refused-requires same-length returns enter-requires answer-of-requires same-length-2 returns-2)

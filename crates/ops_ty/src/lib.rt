@@ -1,0 +1,166 @@
+// The result types of operators, as wgsl-types' `ops_ty.rs` has them, by the standard.
+use ruled::REFERENCE;
+use table::Answer;
+use table::Entry;
+use table::Place;
+use table::Reason;
+use table::TypeNo;
+ghost use mathlib.Core.Path.{_≡_};
+ghost use Prim.Native.Nat.{_<_};
+ghost use Rattle.overload.specs.Rows.{judgeAddress, judgeIndirection};
+ghost use Rattle.table.specs.Table.{Sound};
+ghost use Rattle.table.specs.Denote.{typeAt};
+ghost use Rattle.table.specs.Placing.{Gave};
+ghost use Rattle.ruled.specs.Call.{judgedOutcome};
+ghost use Rattle.ops_ty.specs.Ops.{binaryRow, unaryOutcome, binaryOutcome, typeUnaryOp, typeBinaryOp};
+
+// Unary operators: `!` `-` `~` are rows 0 to 2 of the overloads, then `&` and `*`.
+const UNARY_OPS: usize = 5;
+
+const ADDRESS_OF: usize = 3;
+
+const INDIRECTION: usize = 4;
+// Binary operators: `||` `&&` `+` `-` `*` `/` `%` `==` `!=` `<` `<=` `>` `>=` `|` `&` `^` `<<` `>>`, and the row of each.
+const BINARY_OPS: usize = 18;
+
+const BINARY_ROW: [u8; 18] = [3, 3, 4, 4, 5, 6, 6, 7, 7, 8, 8, 8, 8, 9, 9, 10, 11, 11];
+
+fn row_byte(op: usize) -> u8
+    requires { ⌜ op < 18 ⌝ }
+    ensures { λ r. ⌜ r ≡ binaryRow op ⌝ }
+{
+    BINARY_ROW[op]
+}
+
+fn binary_row(op: usize) -> usize
+    requires { ⌜ op < 18 ⌝ }
+    ensures { λ r. ⌜ r ≡ binaryRow op ⌝ }
+{
+    row_byte(op) as usize
+}
+
+// `op_ref`: from a reference, not in space handle, the pointer.
+fn type_ref(words: &mut [u32], n: usize, place: Place, a: usize) -> Answer
+    requires { ⌜ Sound (now words) n × (a < n) ⌝ }
+    ensures { λ r. ⌜ Gave (judgedOutcome (place .0) (now (words .entry)) n (judgeAddress (typeAt (now (words .entry)) a))) r (now (words .exit)) ⌝ }
+{
+    let e = table::entry_at(words, a);
+    if e.kind != table::KIND_REF {
+        return table::refused(Reason::NoOverload, place, n);
+    }
+    if e.p == table::SPACE_HANDLE {
+        return table::refused(Reason::NoOverload, place, n);
+    }
+    let r = table::enter(
+        words,
+        n,
+        Entry {
+            kind: table::KIND_PTR,
+            p: e.p,
+            q: e.q,
+            elem: e.elem,
+        },
+    );
+    ruled::answer_of(place, n, r)
+}
+
+// `op_deref`: from a pointer the reference.
+fn type_deref(words: &mut [u32], n: usize, place: Place, a: usize) -> Answer
+    requires { ⌜ Sound (now words) n × (a < n) ⌝ }
+    ensures { λ r. ⌜ Gave (judgedOutcome (place .0) (now (words .entry)) n (judgeIndirection (typeAt (now (words .entry)) a))) r (now (words .exit)) ⌝ }
+{
+    let e = table::entry_at(words, a);
+    if e.kind != table::KIND_PTR {
+        return table::refused(Reason::NoOverload, place, n);
+    }
+    let r = table::enter(
+        words,
+        n,
+        Entry {
+            kind: table::KIND_REF,
+            p: e.p,
+            q: e.q,
+            elem: e.elem,
+        },
+    );
+    ruled::answer_of(place, n, r)
+}
+
+// A unary operator on a loaded operand, at a place.
+pub fn unary_at(words: &mut [u32], n: usize, place: Place, op: usize, a: TypeNo) -> Answer
+    requires { ⌜ Sound (now words) n × (a .0 < n) ⌝ }
+    ensures { λ r. ⌜ Gave (unaryOutcome (place .0) (now (words .entry)) n op (typeAt (now (words .entry)) (a .0))) r (now (words .exit)) ⌝ }
+{
+    let t = a.0;
+    if UNARY_OPS <= op {
+        return table::refused(Reason::Unknown, place, n);
+    }
+    if op == ADDRESS_OF {
+        return type_ref(words, n, place, t);
+    }
+    let x = ruled::code_at(words, n, t);
+    if x == REFERENCE {
+        return table::refused(Reason::Reference, place, n);
+    }
+    if op == INDIRECTION {
+        return type_deref(words, n, place, t);
+    }
+    let codes = [x];
+    ruled::judge_codes(words, n, place, op, &codes)
+}
+
+// A binary operator on loaded operands, at a place.
+pub fn binary_at(
+    words: &mut [u32],
+    n: usize,
+    place: Place,
+    op: usize,
+    a: TypeNo,
+    b: TypeNo,
+) -> Answer
+    requires { ⌜ Sound (now words) n × (a .0 < n) × (b .0 < n) ⌝ }
+    ensures { λ r. ⌜ Gave (binaryOutcome (place .0) (now (words .entry)) n op (typeAt (now (words .entry)) (a .0)) (typeAt (now (words .entry)) (b .0))) r (now (words .exit)) ⌝ }
+{
+    if BINARY_OPS <= op {
+        return table::refused(Reason::Unknown, place, n);
+    }
+    let x = ruled::code_at(words, n, a.0);
+    if x == REFERENCE {
+        return table::refused(Reason::Reference, place, n);
+    }
+    let y = ruled::code_at(words, n, b.0);
+    if y == REFERENCE {
+        return table::refused(Reason::Reference, place, n);
+    }
+    let codes = [x, y];
+    ruled::judge_codes(words, n, place, binary_row(op), &codes)
+}
+
+// For a host: the type of a unary operator on the type a.
+pub fn type_unary_op(words: &mut [u32], n: usize, op: usize, a: TypeNo) -> Answer
+    ensures { λ r. ⌜ Gave (typeUnaryOp (now (words .entry)) n op (a .0)) r (now (words .exit)) ⌝ }
+{
+    if !table::sound(words, n) {
+        return table::refused(Reason::Unsound, Place(0), n);
+    }
+    if n <= a.0 {
+        return table::refused(Reason::NoSuchType, Place(0), n);
+    }
+    unary_at(words, n, Place(0), op, a)
+}
+
+// For a host: the type of a binary operator on the types a and b.
+pub fn type_binary_op(words: &mut [u32], n: usize, op: usize, a: TypeNo, b: TypeNo) -> Answer
+    ensures { λ r. ⌜ Gave (typeBinaryOp (now (words .entry)) n op (a .0) (b .0)) r (now (words .exit)) ⌝ }
+{
+    if !table::sound(words, n) {
+        return table::refused(Reason::Unsound, Place(0), n);
+    }
+    if n <= a.0 {
+        return table::refused(Reason::NoSuchType, Place(0), n);
+    }
+    if n <= b.0 {
+        return table::refused(Reason::NoSuchType, Place(0), n);
+    }
+    binary_at(words, n, Place(0), op, a, b)
+}

@@ -1,0 +1,15 @@
+pub mod Preference
+pub mod Slots
+pub mod Families
+pub mod Listing
+pub mod Places
+pub mod Found
+pub mod Demand3
+pub mod Joins
+pub mod Resolving
+pub mod Operands
+pub mod Described
+pub mod Judge
+pub mod Cases
+pub mod Results
+pub mod OneReply

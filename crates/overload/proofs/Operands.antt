@@ -1,0 +1,289 @@
+-- A type stands for an operand by its number: it converts to the parameters of every listed row as the type does that the number stands for.
+-- So demand 3 and all that goes with it holds of the types themselves. Assumes nothing.
+use Prim.Native.Nat.{ℕ, zero, suc, _+_, _-_, _*_, _/_, _%_, _<_, _≤_}
+use native.Mathlib.Omega.{arith}
+use mathlib.Core.Path.{_≡_, refl, sym, _∙_, ap, ap₂, subst}
+use mathlib.Core.Logic.{_≢_, _⊎_, inl, inr, ⊎-elim}
+use mathlib.Core.Bool.{Bool, true, false, _&&_, _||_}
+use mathlib.Core.List.{List, [], _∷_, map, List·Memᴰ}
+use lib.Dec.{T, eqb, leb, ltb, ltb→lt}
+use lib.ListN.{length, getD}
+use borrow.Author.Tests.{eq-eqb, ne-eqb, lt-ltb, le-ltb, le-leb, ltb-true, leb-true, eqb-true}
+use Rattle.conv.specs.Types.{Ty, isWidth, isFloat, formed}
+use Rattle.conv.specs.Types.Ty.{scalar, vec, mat, array, runtime, atomic, ptr, ref, frexp, modf}
+use Rattle.conv.specs.Rank.{pick, both, none, rankOf, Shape, formOf, shapeOf, componentOf, sameShape, isReference, conversionRank, converts, made}
+use Rattle.conv.specs.Rank.Shape.{one, vector, matrix, other}
+use Rattle.conv.proofs.Finite.{both-left, both-right}
+use Rattle.conv.proofs.Made.{made-rank, shape-made, component-made}
+use Rattle.overload.specs.Overload.{Overload, fits, noMore, less, or, Preferred, Judged, Resolved}
+use Rattle.overload.specs.Overload.Judged.{gives, noneFits, nonePreferred}
+use Rattle.overload.specs.Rows.{Size, Pattern, Family, formAt, componentAt, typeAt, overload, rows, overloadsOf, ofRow, judgeRow}
+use Rattle.overload.specs.Code.{shapeOfNo, shapeNo, operand, codeOf, sizeNo, startOf, noFamily}
+use Rattle.overload.proofs.Preference.{Sized, smallC, allSmall, form-small, component-small, one-judgment}
+use Rattle.overload.proofs.Slots.{by-shape, sized-no}
+use Rattle.overload.proofs.Families.{Good, good}
+use Rattle.overload.proofs.Listing.{Of, listed-of, row-family}
+use Rattle.overload.proofs.Places.{way}
+use Rattle.overload.proofs.Found.{row-in, total}
+use Rattle.overload.proofs.Demand3.{some-preferred}
+use Rattle.overload.proofs.Judge.{judge-resolved, judge-is}
+
+-- THE NUMBER OF A TYPE
+
+abbrev pub Alike : Ty → ℕ → Type 0
+Alike t x = (p : Shape) (s : ℕ) → T (ltb (formOf p) 3) → s < 7 → conversionRank t (made p s) ≡ conversionRank (operand x) (made p s)
+
+no-shape : (b : Bool) (r : ℕ) → pick (both false b) r none ≡ none
+unfolding both
+no-shape b r = refl
+
+alike-of : (t : Ty) (x : ℕ) → shapeOf t ≡ shapeOfNo (x / 7) → (T (ltb (formOf (shapeOf t)) 3) → componentOf t ≡ x % 7) → Alike t x
+alike-of t x e k p s hp hs =
+    made-rank t p s hp hs
+    ∙ ap (λ (a : Shape). pick (sameShape a p) (rankOf (componentOf t) s) none) e
+    ∙ inner (ltb (formOf (shapeOfNo (x / 7))) 3) refl
+    ∙ sym
+    (made-rank (operand x) p s hp hs
+    ∙ ap (λ (a : Shape). pick (sameShape a p) (rankOf (componentOf (operand x)) s) none) (shape-made (shapeOfNo (x / 7)) (x % 7))
+    ∙ by-shape (shapeOfNo (x / 7)) (x % 7) p s)
+  where
+    apart : ltb (formOf (shapeOfNo (x / 7))) 3 ≡ false → (r : ℕ) → pick (sameShape (shapeOfNo (x / 7)) p) r none ≡ none
+    apart q r = rw q (no-shape _ r)
+
+    inner : (b : Bool) → ltb (formOf (shapeOfNo (x / 7))) 3 ≡ b
+        → pick (sameShape (shapeOfNo (x / 7)) p) (rankOf (componentOf t) s) none ≡ pick (sameShape (shapeOfNo (x / 7)) p) (rankOf (x % 7) s) none
+    inner true q = ap (λ (c : ℕ). pick (sameShape (shapeOfNo (x / 7)) p) (rankOf c s) none) (k (rw (e, q) tt))
+    inner false q = apart q _ ∙ sym (apart q _)
+
+pub and-left : (a b : Bool) → (a && b) ≡ true → a ≡ true
+and-left true b h = refl
+and-left false b h = h
+
+pub and-right : (a b : Bool) → (a && b) ≡ true → b ≡ true
+and-right true b h = h
+and-right false b h = absurd (let z : _≡_ {A = ℕ} 0 1 = cc in omega arith)
+
+-- a width is from 2 to 4
+pub between : (n : ℕ) → isWidth n ≡ true → (2 ≤ n) × (n ≤ 4)
+between n h = (leb-true 2 n (and-left _ _ h), leb-true n 4 (and-right (leb 2 n) _ h))
+
+or-true : {P : Type 0} (a b : Bool) → (a ≡ true → P) → (b ≡ true → P) → (a || b) ≡ true → P
+or-true true b f g h = f refl
+or-true false b f g h = g h
+
+pub float-small : (s : ℕ) → isFloat s ≡ true → s < 7
+float-small s =
+    or-true (eqb s 2 || eqb s 5) (eqb s 6) (or-true (eqb s 2) (eqb s 5) (λ e. let q = eqb-true s 2 e in omega arith) (λ e. let q = eqb-true s 5 e in omega arith))
+    (λ e. let q = eqb-true s 6 e in omega arith)
+
+vector-no : (n : ℕ) → isWidth n ≡ true → (shapeNo (vector n) ≡ n - 1) × (shapeOfNo (n - 1) ≡ vector n)
+unfolding shapeNo shapeOfNo both
+vector-no n h =
+    let b = between n h in
+    let l = b .0 in
+    let u = b .1 in
+    let e : n - 1 + 1 ≡ n = omega arith in
+    (rw h, rw (ne-eqb (n - 1) 0 (λ q. omega arith), lt-ltb (n - 1) 4 (omega arith), e))
+
+matrix-no : (c r : ℕ) → isWidth c ≡ true → isWidth r ≡ true → (shapeNo (matrix c r) ≡ 3 * c + r - 4) × (shapeOfNo (3 * c + r - 4) ≡ matrix c r) × (3 * c + r - 4 < 13)
+unfolding shapeNo shapeOfNo both
+matrix-no c r hc hr =
+    let b = between c hc in
+    let d = between r hr in
+    let l = b .0 in
+    let u = b .1 in
+    let l′ = d .0 in
+    let u′ = d .1 in
+    let k = 3 * c + r - 4 in
+    let e : (k - 4) / 3 + 2 ≡ c = omega arith in
+    let e′ : (k - 4) % 3 + 2 ≡ r = omega arith in
+    (rw (hc, hr), rw (ne-eqb k 0 (λ q. omega arith), le-ltb k 4 (omega arith), lt-ltb k 13 (omega arith), e, e′), omega arith)
+
+-- a number that is 7 times a shape below 13 plus a component
+pub code-of : (t : Ty) (k s : ℕ) → shapeNo (shapeOf t) ≡ k → k < 13 → componentOf t ≡ s → codeOf t ≡ 7 * k + s
+unfolding codeOf
+code-of t k s e h c = rw (e, lt-ltb k 13 h, c)
+
+parted : (t : Ty) (k s : ℕ) → shapeNo (shapeOf t) ≡ k → k < 13 → componentOf t ≡ s → s < 7 → shapeOf t ≡ shapeOfNo k → Alike t (codeOf t)
+parted t k s e h c hs q =
+    let x = code-of t k s e h c in
+    let d : codeOf t / 7 ≡ k = omega arith in
+    let m : codeOf t % 7 ≡ s = omega arith in
+    alike-of t (codeOf t) (q ∙ ap shapeOfNo (sym d)) (λ f. c ∙ sym m)
+
+-- a type of another shape has the number 91 or 98
+pub code-other : (t : Ty) → shapeOf t ≡ other → codeOf t ≡ pick (isReference t) 98 91
+unfolding codeOf shapeNo both
+code-other t e = rw e
+
+others : (t : Ty) → shapeOf t ≡ other → Alike t (codeOf t)
+unfolding shapeOfNo
+others t e = go (isReference t) refl
+  where
+    by : (x : ℕ) → codeOf t ≡ x → shapeOfNo (x / 7) ≡ other → Alike t (codeOf t)
+    by x q o = alike-of t (codeOf t) (e ∙ sym (ap (λ (k : ℕ). shapeOfNo (k / 7)) q ∙ o)) (λ f. absurd (subst (λ (p : Shape). T (ltb (formOf p) 3)) e f))
+
+    go : (b : Bool) → isReference t ≡ b → Alike t (codeOf t)
+    go true r = by 98 (code-other t e ∙ rw r) refl
+    go false r = by 91 (code-other t e ∙ rw r) refl
+
+-- the numbers of scalars, vectors and matrices
+pub code-scalar : (s : ℕ) → codeOf (scalar s) ≡ s
+unfolding shapeOf componentOf shapeNo
+code-scalar s = code-of (scalar s) 0 s refl (omega arith) refl ∙ omega arith
+
+pub code-vec : (n s : ℕ) → isWidth n ≡ true → codeOf (vec n s) ≡ 7 * (n - 1) + s
+unfolding shapeOf componentOf
+code-vec n s h = let b = between n h in let u = b .1 in code-of (vec n s) (n - 1) s (vector-no n h .0) (omega arith) refl
+
+pub code-mat : (c r s : ℕ) → isWidth c ≡ true → isWidth r ≡ true → codeOf (mat c r s) ≡ 7 * (3 * c + r - 4) + s
+unfolding shapeOf componentOf
+code-mat c r s hc hr = let m = matrix-no c r hc hr in code-of (mat c r s) (3 * c + r - 4) s (m .0) (m .2) refl
+
+pub code-alike : (t : Ty) → formed t ≡ true → Alike t (codeOf t)
+unfolding formed shapeOf componentOf shapeNo shapeOfNo
+code-alike (scalar s) h = parted (scalar s) 0 s refl (omega arith) refl (ltb-true s 7 h) refl
+code-alike (vec n s) h =
+    let w = and-left (isWidth n) _ h in
+    let v = vector-no n w in
+    let b = between n w in
+    let u = b .1 in
+    parted (vec n s) (n - 1) s (v .0) (omega arith) refl (ltb-true s 7 (and-right (isWidth n) _ h)) (sym (v .1))
+code-alike (mat c r s) h =
+    let hc = and-left (isWidth c) _ (and-left (isWidth c && isWidth r) _ h) in
+    let hr = and-right (isWidth c) _ (and-left (isWidth c && isWidth r) _ h) in
+    let m = matrix-no c r hc hr in
+    parted (mat c r s) (3 * c + r - 4) s (m .0) (m .2) refl (float-small s (and-right (isWidth c && isWidth r) _ h)) (sym (m .1))
+code-alike (array k t) h = others (array k t) refl
+code-alike (runtime t) h = others (runtime t) refl
+code-alike (atomic s) h = others (atomic s) refl
+code-alike (ptr a b t) h = others (ptr a b t) refl
+code-alike (ref a b t) h = others (ref a b t) refl
+code-alike (frexp t) h = others (frexp t) refl
+code-alike (modf t) h = others (modf t) refl
+
+-- LISTS OF OPERANDS
+
+unfoldable pub allFormed : List Ty → Bool
+allFormed [] = true
+allFormed (t ∷ ts) = formed t && allFormed ts
+
+abbrev pub codesOf : List Ty → List ℕ
+codesOf ts = map codeOf ts
+
+-- parameters of a listed row
+pub record Params (ps : List Ty) : Type 0 where
+  pub t : ℕ
+  pub z : Size
+  pub patterns : List Pattern
+  pub sized : Sized z
+  pub scalar : t < 7
+  pub small : T (allSmall patterns)
+  pub are : ps ≡ map (typeAt z t) patterns
+
+rank-alike : (x : Ty) (z : Size) (t : ℕ) (p : Pattern) → formed x ≡ true → Sized z → t < 7 → T (smallC (p .of))
+    → conversionRank x (typeAt z t p) ≡ conversionRank (operand (codeOf x)) (typeAt z t p)
+rank-alike x z t p f hz ht hs =
+    code-alike x f (formAt (p .form) z) (componentAt (p .of) t) (form-small (p .form) z hz) (component-small (p .of) t ht hs)
+
+module _ (z : Size) (t : ℕ) (hz : Sized z) (ht : t < 7) where
+  fits-by : (ps : List Pattern) (ts : List Ty) → T (allSmall ps) → allFormed ts ≡ true → fits (map (typeAt z t) ps) ts ≡ fits (map (typeAt z t) ps) (map operand (codesOf ts))
+  unfolding fits allFormed
+  fits-by [] [] s f = refl
+  fits-by [] (x ∷ xs) s f = refl
+  fits-by (p ∷ ps) [] s f = refl
+  fits-by (p ∷ ps) (x ∷ xs) s f =
+      ap₂ (λ (r : ℕ) (b : Bool). both (ltb r none) b) (rank-alike x z t p (and-left _ _ f) hz ht (both-left _ _ s))
+      (fits-by ps xs (both-right (smallC (p .of)) _ s) (and-right (formed x) _ f))
+
+  module _ (y : Size) (u : ℕ) (hy : Sized y) (hu : u < 7) where
+    no-more-by : (ts : List Ty) (ps qs : List Pattern) → T (allSmall ps) → T (allSmall qs) → allFormed ts ≡ true
+        → noMore ts (map (typeAt z t) ps) (map (typeAt y u) qs) ≡ noMore (map operand (codesOf ts)) (map (typeAt z t) ps) (map (typeAt y u) qs)
+    unfolding noMore allFormed
+    no-more-by [] ps qs s v f = refl
+    no-more-by (x ∷ xs) [] qs s v f = refl
+    no-more-by (x ∷ xs) (p ∷ ps) [] s v f = refl
+    no-more-by (x ∷ xs) (p ∷ ps) (q ∷ qs) s v f =
+        (λ i. both (leb (rank-alike x z t p (and-left _ _ f) hz ht (both-left _ _ s) i) (rank-alike x y u q (and-left _ _ f) hy hu (both-left _ _ v) i))
+        (no-more-by xs ps qs (both-right (smallC (p .of)) _ s) (both-right (smallC (q .of)) _ v) (and-right (formed x) _ f) i))
+
+    less-by : (ts : List Ty) (ps qs : List Pattern) → T (allSmall ps) → T (allSmall qs) → allFormed ts ≡ true
+        → less ts (map (typeAt z t) ps) (map (typeAt y u) qs) ≡ less (map operand (codesOf ts)) (map (typeAt z t) ps) (map (typeAt y u) qs)
+    unfolding less allFormed
+    less-by [] ps qs s v f = refl
+    less-by (x ∷ xs) [] qs s v f = refl
+    less-by (x ∷ xs) (p ∷ ps) [] s v f = refl
+    less-by (x ∷ xs) (p ∷ ps) (q ∷ qs) s v f =
+        (λ i. or (ltb (rank-alike x z t p (and-left _ _ f) hz ht (both-left _ _ s) i) (rank-alike x y u q (and-left _ _ f) hy hu (both-left _ _ v) i))
+        (less-by xs ps qs (both-right (smallC (p .of)) _ s) (both-right (smallC (q .of)) _ v) (and-right (formed x) _ f) i))
+
+-- the parameters of an overload of a row
+pub params-of : (row : ℕ) (o : Overload) → List·Memᴰ o (overloadsOf row) → Params (o .params)
+params-of row o m =
+    let r = listed-of (getD rows row []) o m in
+    let hr = row-in row o m in
+    let q = r .2 in
+    let w = way row (r .0) (q .z) hr (r .1) (q .inSizes) in
+    let e = row-family row (r .0) (r .1) in
+    let g : Good (getD (getD rows row []) (r .0) noFamily) = subst Good e (good (startOf row + r .0) (total row (r .0) hr (r .1))) in
+    record {
+      t = q .t;
+      z = q .z;
+      patterns = getD (getD rows row []) (r .0) noFamily .params;
+      sized = subst Sized (w .back) (sized-no (sizeNo (q .z)) (w .small) (w .proper));
+      scalar = g .set (q .t) (q .inSet);
+      small = g .small;
+      are = ap (λ (k : Overload). k .params) (q .is);
+    }
+
+module _ (ts : List Ty) (f : allFormed ts ≡ true) where
+  fits-same : (ps : List Ty) → Params ps → fits ps ts ≡ fits ps (map operand (codesOf ts))
+  fits-same ps a = subst (λ (qs : List Ty). fits qs ts ≡ fits qs (map operand (codesOf ts))) (sym (a .are)) (fits-by (a .z) (a .t) (a .sized) (a .scalar) (a .patterns) ts (a .small) f)
+
+  no-more-same : (ps qs : List Ty) → Params ps → Params qs → noMore ts ps qs ≡ noMore (map operand (codesOf ts)) ps qs
+  no-more-same ps qs a b =
+      subst (λ (rs : List Ty). noMore ts rs qs ≡ noMore (map operand (codesOf ts)) rs qs) (sym (a .are))
+      (subst (λ (rs : List Ty). noMore ts (map (typeAt (a .z) (a .t)) (a .patterns)) rs ≡ noMore (map operand (codesOf ts)) (map (typeAt (a .z) (a .t)) (a .patterns)) rs) (sym (b .are))
+      (no-more-by (a .z) (a .t) (a .sized) (a .scalar) (b .z) (b .t) (b .sized) (b .scalar) ts (a .patterns) (b .patterns) (a .small) (b .small) f))
+
+  less-same : (ps qs : List Ty) → Params ps → Params qs → less ts ps qs ≡ less (map operand (codesOf ts)) ps qs
+  less-same ps qs a b =
+      subst (λ (rs : List Ty). less ts rs qs ≡ less (map operand (codesOf ts)) rs qs) (sym (a .are))
+      (subst (λ (rs : List Ty). less ts (map (typeAt (a .z) (a .t)) (a .patterns)) rs ≡ less (map operand (codesOf ts)) (map (typeAt (a .z) (a .t)) (a .patterns)) rs) (sym (b .are))
+      (less-by (a .z) (a .t) (a .sized) (a .scalar) (b .z) (b .t) (b .sized) (b .scalar) ts (a .patterns) (b .patterns) (a .small) (b .small) f))
+
+  module _ (row : ℕ) where
+    -- what is preferred by the numbers is preferred by the types
+    pub preferred-types : (o : Overload) → Preferred (ofRow row) (map operand (codesOf ts)) o → Preferred (ofRow row) ts o
+    preferred-types o q =
+        let a = params-of row o (q .among) in
+        record {
+          among = q .among;
+          fitting = subst T (sym (fits-same (o .params) a)) (q .fitting);
+          over = λ p m h.
+              let b = params-of row p m in
+              ⊎-elim inl (λ l. inr (subst T (sym (no-more-same (o .params) (p .params) a b)) (l .0), subst T (sym (less-same (o .params) (p .params) a b)) (l .1)))
+              (q .over p m (subst T (fits-same (p .params) b) h));
+        }
+
+    -- and every judgment by the numbers is one by the types
+    pub resolved-types : (r : Judged) → Resolved (ofRow row) (map operand (codesOf ts)) r → Resolved (ofRow row) ts r
+    unfolding Resolved
+    resolved-types (gives t) q = (q .0, preferred-types (q .0) (q .1), q .2)
+    resolved-types noneFits q = λ p m h. q p m (subst T (fits-same (p .params) (params-of row p m)) h)
+    resolved-types nonePreferred q =
+        let o = some-preferred row (codesOf ts) (q .0 .0) (q .0 .1) (q .0 .2) in absurd (q .1 (o .0) (o .1))
+
+    -- REFUSAL 13 IS NEVER GIVEN: where overloads of a row fit one is preferred
+    pub never-thirteen : Resolved (ofRow row) ts nonePreferred → ⊥
+    unfolding Resolved
+    never-thirteen q =
+        let p = q .0 .0 in
+        let m = q .0 .1 in
+        let o = some-preferred row (codesOf ts) p m (subst T (fits-same (p .params) (params-of row p m)) (q .0 .2)) in
+        q .1 (o .0) (preferred-types (o .0) (o .1))
+
+    -- so the definition judges the types as it judges the numbers
+    pub judge-types : judgeRow row (map operand (codesOf ts)) ≡ judgeRow row ts
+    judge-types =
+        judge-is (overloadsOf row) ts (judgeRow row (map operand (codesOf ts))) (resolved-types (judgeRow row (map operand (codesOf ts))) (judge-resolved (overloadsOf row) (map operand (codesOf ts))))

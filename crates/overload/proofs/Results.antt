@@ -1,0 +1,51 @@
+-- The result of every overload of a row is a type that there is; a bare one is a scalar, a vector or a matrix. Computed over all rows.
+-- Assumes nothing.
+use Prim.Native.Nat.{ℕ, _<_}
+use mathlib.Core.Path.{_≡_, refl, sym, _∙_, ap, subst}
+use mathlib.Core.Bool.{Bool, true, false, _&&_, _||_, not}
+use mathlib.Core.List.{List, [], _∷_, List·Memᴰ, List·Memᴰ·cases-cons, List·Memᴰ·not-nil}
+use mathlib.Core.Logic.{⊎-elim}
+use lib.Dec.{T, eqb, ltb}
+use Rattle.conv.specs.Types.{Ty, formed, isValue, isRuntime, isFract, abstractTy}
+use Rattle.conv.specs.Types.Ty.{scalar, vec, mat, array, runtime, atomic, ptr, ref, frexp, modf}
+use Rattle.conv.specs.Rank.{both, made}
+use Rattle.conv.proofs.Finite.{both-left, both-right, below}
+use Rattle.overload.specs.Overload.{Overload, or, Preferred, Judged, Resolved}
+use Rattle.overload.specs.Overload.Judged.{gives, noneFits, nonePreferred}
+use Rattle.overload.specs.Rows.{formAt, componentAt, wrapped, atSizes, overSet, ofFamilies, operators, builtins, overloadsOf, ofRow, judgeRow}
+use Rattle.overload.proofs.Found.{row-in}
+use Rattle.overload.proofs.Judge.{judge-resolved}
+
+-- a result type is no array without count, which stands for types of another shape
+resultTest : Overload → Bool
+resultTest o = both (formed (o .result)) (not (isRuntime (o .result)))
+
+allResults : List Overload → Bool
+allResults [] = true
+allResults (o ∷ os) = both (resultTest o) (allResults os)
+
+all-results : (row : ℕ) → row < 47 → T (allResults (overloadsOf row))
+unfolding allResults resultTest both or formed isRuntime isFract made formAt componentAt wrapped atSizes overSet ofFamilies operators builtins
+all-results row h = below 47 (λ row. allResults (overloadsOf row)) tt row h
+
+result-at : (os : List Overload) → T (allResults os) → (o : Overload) → List·Memᴰ o os → T (resultTest o)
+unfolding allResults
+result-at [] h o m = absurd (List·Memᴰ·not-nil m)
+result-at (p ∷ ps) h o m =
+    ⊎-elim (λ e. subst (λ (q : Overload). T (resultTest q)) (sym e) (both-left _ _ h)) (λ n. result-at ps (both-right (resultTest p) _ h) o n) (List·Memᴰ·cases-cons m)
+
+T-true : (b : Bool) → T b → b ≡ true
+T-true true t = refl
+T-true false t = absurd t
+
+resolved-result : (row : ℕ) (ts : List Ty) (R : Ty) → Resolved (ofRow row) ts (gives R) → (o : Overload) × List·Memᴰ o (overloadsOf row) × (R ≡ o .result)
+unfolding Resolved
+resolved-result row ts R q = (q .0, q .1 .among, q .2)
+
+-- what a row gives
+pub gives-formed : (row : ℕ) (ts : List Ty) (R : Ty) → judgeRow row ts ≡ gives R → (formed R ≡ true) × T (not (isRuntime R))
+unfolding resultTest
+gives-formed row ts R e =
+    let q = resolved-result row ts R (subst (Resolved (ofRow row) ts) e (judge-resolved (overloadsOf row) ts)) in
+    let t = result-at (overloadsOf row) (all-results row (row-in row (q .0) (q .1))) (q .0) (q .1) in
+    (ap formed (q .2) ∙ T-true (formed (q .0 .result)) (both-left _ _ t), subst (λ (r : Ty). T (not (isRuntime r))) (sym (q .2)) (both-right (formed (q .0 .result)) _ t))

@@ -1,0 +1,3 @@
+pub mod Overload
+pub mod Rows
+pub mod Code

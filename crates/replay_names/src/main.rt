@@ -1,0 +1,139 @@
+// Replays names from standard input, a line each: three digits of the rule, a blank and the name, as `012 acos`, or `---` for bytes that are no name.
+// A line that begins with `#` ends a group: it is written with the group's counts.
+use names::Rule;
+ghost use Prim.Native.Nat.{_≤_, _<_};
+ghost use lib.ListN.{length};
+
+const LINE_END: u8 = 10;
+
+const GROUP: u8 = b'#';
+
+const NO_RULE: u8 = b'-';
+
+const ZERO: u8 = b'0';
+// Where the name begins in its line.
+const NAME_AT: usize = 4;
+
+enum Verdict {
+    Group,
+    Known,
+    Unknown,
+    Wrong,
+}
+
+// How many lines of a group agreed, with a rule and without, and how many did not.
+struct Tally {
+    known: u64,
+    unknown: u64,
+    wrong: u64,
+}
+
+// Whether a reply is the one of a line's three digits.
+fn is_reply(reply: Rule, hundreds: u8, tens: u8, ones: u8) -> bool {
+    match reply {
+        Rule::Is(n) => (ZERO + n / 100 == hundreds)
+            & (ZERO + n / 10 % 10 == tens)
+            & (ZERO + n % 10 == ones),
+        Rule::Unknown => (hundreds == NO_RULE) & (tens == NO_RULE) & (ones == NO_RULE),
+    }
+}
+
+fn judged(line: &[u8]) -> Verdict {
+    if line.len() < NAME_AT {
+        return Verdict::Wrong;
+    }
+    let first = line[0];
+    if first == GROUP {
+        return Verdict::Group;
+    }
+    let reply = names::rule_of(&line[NAME_AT..]);
+    if !is_reply(reply, first, line[1], line[2]) {
+        return Verdict::Wrong;
+    }
+    if first == NO_RULE {
+        return Verdict::Unknown;
+    }
+    Verdict::Known
+}
+
+// Where the line that begins at a place ends.
+fn line_end(s: &[u8], at: usize) -> usize
+    requires { ⌜ at ≤ length (now s) ⌝ }
+    ensures { λ r. ⌜ (at ≤ r) × (r ≤ length (now (s .entry))) ⌝ }
+{
+    let mut end = at;
+    while end < s.len() {
+        if s[end] == LINE_END {
+            return end;
+        }
+        end += 1;
+    }
+    end
+}
+
+fn write_count(n: u64, what: &[u8]) {
+    io::print_decimal(1, n);
+    io::write_all(1, what);
+}
+
+// A group's line, with its counts.
+fn write_group(line: &[u8], tally: Tally) {
+    io::write_all(1, line);
+    write_count(tally.known, b" known, ");
+    write_count(tally.unknown, b" unknown, ");
+    write_count(tally.wrong, b" wrong\n");
+}
+
+fn more(n: u64) -> u64 {
+    std::num::wrapping_add_u64(n, 1)
+}
+
+fn counted(tally: Tally, verdict: Verdict) -> Tally {
+    match verdict {
+        Verdict::Group => Tally {
+            known: 0,
+            unknown: 0,
+            wrong: 0,
+        },
+        Verdict::Known => Tally {
+            known: more(tally.known),
+            unknown: tally.unknown,
+            wrong: tally.wrong,
+        },
+        Verdict::Unknown => Tally {
+            known: tally.known,
+            unknown: more(tally.unknown),
+            wrong: tally.wrong,
+        },
+        Verdict::Wrong => Tally {
+            known: tally.known,
+            unknown: tally.unknown,
+            wrong: more(tally.wrong),
+        },
+    }
+}
+
+fn replay(s: &[u8]) {
+    let mut tally = Tally {
+        known: 0,
+        unknown: 0,
+        wrong: 0,
+    };
+    let mut at = 0;
+    while at < s.len() {
+        let end = line_end(s, at);
+        let line = &s[at..end];
+        let verdict = judged(line);
+        if let Verdict::Group = verdict {
+            write_group(line, tally);
+        }
+        tally = counted(tally, verdict);
+        at = end + 1;
+    }
+}
+
+fn main() {
+    let mut buffer = io::large_buffer();
+    let n = io::read_full(0, &mut buffer);
+    replay(&buffer[..n]);
+}

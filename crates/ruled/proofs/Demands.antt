@@ -1,0 +1,149 @@
+-- What every call that ends in a judgment keeps of demands 1, 2 and 3. Assumes nothing.
+use Prim.Native.Nat.{ℕ, _-_, _≤_, _<_}
+use mathlib.Core.Path.{_≡_, refl, sym, _∙_, ap, subst}
+use mathlib.Core.Bool.{Bool, true, false, cond}
+use mathlib.Core.List.{List}
+use native.Mathlib.Omega.{arith}
+use lib.Dec.{T, leb}
+use borrow.Author.Tests.{le-leb}
+use Rattle.conv.specs.Types.{Ty, formed}
+use Rattle.overload.specs.Overload.{Overload, fits, Preferred, Judged, Resolved}
+use Rattle.overload.specs.Overload.Judged.{gives, noneFits, nonePreferred}
+use Rattle.overload.specs.Rows.{overloadsOf, ofRow, judgeRow}
+use Rattle.overload.proofs.Operands.{allFormed, never-thirteen}
+use Rattle.overload.proofs.Judge.{judge-resolved, judge-is}
+use Rattle.overload.proofs.Results.{gives-formed}
+use Rattle.table.specs.Answer.{accept}
+use Rattle.table.specs.Table.{Sound}
+use Rattle.table.specs.Denote.{typeAt}
+use Rattle.table.specs.Enter.{free}
+use Rattle.table.specs.Stands.{Stands}
+use Rattle.table.specs.Placing.{Outcome, turnedDown, placed, entering}
+use Rattle.table.specs.declared.answer.TypeNo.{TypeNo}
+use Rattle.table.specs.declared.answer.Reason.{Reason}
+use Rattle.table.specs.declared.answer.Reason.the-variants.{NoOverload}
+use Rattle.table.specs.declared.answer.Refusal.{Refusal}
+use Rattle.table.specs.declared.answer.Answer.{Answer}
+use Rattle.table.specs.declared.answer.Answer.the-variants.{Value, NoValue, Refused}
+use Rattle.table.proofs.Demand1.{entering-stands, entering-refused, entering-valued}
+use Rattle.ruled.specs.Call.{anyReference, judgedOutcome, ruledOutcome}
+
+-- DEMAND 1: "A refused call changes no lent byte or word." "An accepted call leaves every earlier entry at its number and adds only the
+-- missing entries its result needs": where a value is given, its type stands at its number in a sound table that grew by it and its parts alone
+pub record Kept (w : List ℕ) (n : ℕ) (o : Outcome) : Type 0 where
+  pub refused : (r : Refusal) → o .answer ≡ Refused r → o .words ≡ w
+  pub accepted : (t : TypeNo) (m : ℕ) → o .answer ≡ Value t m → (R : Ty) × Stands w n R (t .0) m (o .words)
+  pub without : (m : ℕ) → o .answer ≡ NoValue m → (o .words ≡ w) × (m ≡ n)
+
+impossible : {P : Type 0} → _≡_ {A = ℕ} 0 1 → P
+impossible e = absurd (omega arith)
+
+module _ (w : List ℕ) (n : ℕ) where
+  pub kept-refused : (reason : Reason) (place : ℕ) → Kept w n (turnedDown reason place w n)
+  kept-refused reason place =
+      record { refused = λ r e. refl; accepted = λ t m e. impossible (cc); without = λ m e. impossible (cc) }
+
+  pub kept-by : (b : Bool) (x y : Outcome) → (b ≡ true → Kept w n x) → (b ≡ false → Kept w n y) → Kept w n (cond b x y)
+  kept-by true x y f g = f refl
+  kept-by false x y f g = g refl
+
+  module _ (s : Sound w n) where
+    pub kept-entering : (place : ℕ) (R : Ty) → formed R ≡ true → Kept w n (entering place w n R)
+    kept-entering place R f =
+        record {
+          refused = λ r e. entering-refused place w n s R f r (entering place w n R .words) (λ i. record { answer = e i; words = entering place w n R .words }) .0;
+          accepted = λ t m e. (R, entering-stands place w n s R f t m (entering place w n R .words) (λ i. record { answer = e i; words = entering place w n R .words }));
+          without = λ m e. absurd (entering-valued place w n s R f m (entering place w n R .words) (λ i. record { answer = e i; words = entering place w n R .words }));
+        }
+
+    pub kept-judged : (place : ℕ) (j : Judged) → ((R : Ty) → j ≡ gives R → formed R ≡ true) → Kept w n (judgedOutcome place w n j)
+    unfolding judgedOutcome
+    kept-judged place (gives R) f = kept-entering place R (f R refl)
+    kept-judged place noneFits f = kept-refused _ place
+    kept-judged place nonePreferred f = kept-refused _ place
+
+    pub kept-ruled : (place row : ℕ) (ts : List Ty) → Kept w n (ruledOutcome place w n row ts)
+    unfolding ruledOutcome
+    kept-ruled place row ts =
+        kept-by (anyReference ts) _ _ (λ e. kept-refused _ place) (λ e. kept-judged place (judgeRow row ts) (λ R q. gives-formed row ts R q .0))
+
+-- the judgment of a row, by demand 3
+
+unfold-gives : (row : ℕ) (ts : List Ty) (R : Ty) → Resolved (ofRow row) ts (gives R) → (o : Overload) × Preferred (ofRow row) ts o × (R ≡ o .result)
+unfolding Resolved
+unfold-gives row ts R q = q
+
+preferred-of : (row : ℕ) (ts : List Ty) (R : Ty) → judgeRow row ts ≡ gives R → (o : Overload) × Preferred (ofRow row) ts o × (R ≡ o .result)
+preferred-of row ts R e = unfold-gives row ts R (subst (Resolved (ofRow row) ts) e (judge-resolved (overloadsOf row) ts))
+
+none-fitting : (row : ℕ) (ts : List Ty) → Resolved (ofRow row) ts noneFits → (p : Overload) → ofRow row p → T (fits (p .params) ts) → ⊥
+unfolding Resolved
+none-fitting row ts q = q
+
+fitting-gives : (row : ℕ) (ts : List Ty) → allFormed ts ≡ true → (p : Overload) → ofRow row p → T (fits (p .params) ts) → (R : Ty) × (judgeRow row ts ≡ gives R)
+fitting-gives row ts f p k h = go (judgeRow row ts) refl
+  where
+    go : (j : Judged) → judgeRow row ts ≡ j → (R : Ty) × (judgeRow row ts ≡ gives R)
+    go (gives R) e = (R, e)
+    go noneFits e = absurd (none-fitting row ts (subst (Resolved (ofRow row) ts) e (judge-resolved (overloadsOf row) ts)) p k h)
+    go nonePreferred e = absurd (never-thirteen ts f row (subst (Resolved (ofRow row) ts) e (judge-resolved (overloadsOf row) ts)))
+
+is-none-fits : (row : ℕ) (ts : List Ty) → ((p : Overload) → ofRow row p → T (fits (p .params) ts) → ⊥) → Resolved (ofRow row) ts noneFits
+unfolding Resolved
+is-none-fits row ts h = h
+
+nothing-gives : (row : ℕ) (ts : List Ty) → ((p : Overload) → ofRow row p → T (fits (p .params) ts) → ⊥) → judgeRow row ts ≡ noneFits
+nothing-gives row ts h = sym (judge-is (overloadsOf row) ts noneFits (is-none-fits row ts h))
+
+-- DEMANDS 2 AND 3 for a judged call: the type that is answered is the one that the judgment gives; and what the judgment gives is answered where there is room
+
+module _ (place : ℕ) (w : List ℕ) (n : ℕ) (s : Sound w n) where
+  pub judged-type : (j : Judged) → ((R : Ty) → j ≡ gives R → formed R ≡ true) → (t : TypeNo) (m : ℕ) → judgedOutcome place w n j .answer ≡ Value t m
+      → (R : Ty) × (j ≡ gives R) × (typeAt (judgedOutcome place w n j .words) (t .0) ≡ R)
+  unfolding judgedOutcome
+  judged-type (gives R) f t m e =
+      (R, refl, entering-stands place w n s R (f R refl) t m (entering place w n R .words) (λ i. record { answer = e i; words = entering place w n R .words }) .stands)
+  judged-type noneFits f t m e = impossible (cc)
+  judged-type nonePreferred f t m e = impossible (cc)
+
+  -- room for R: as many entries are free as it lacks
+  abbrev pub Room : Ty → Type 0
+  Room R = placed w n R .used - n ≤ free w n
+
+  pub room-answers : (R : Ty) → Room R → entering place w n R .answer ≡ accept (placed w n R .number) (placed w n R .used)
+  unfolding entering
+  room-answers R h = rw (le-leb (placed w n R .used - n) (free w n) h)
+
+  judged-gives : (R : Ty) → judgedOutcome place w n (gives R) ≡ entering place w n R
+  unfolding judgedOutcome
+  judged-gives R = refl
+
+  judged-none : judgedOutcome place w n noneFits ≡ turnedDown NoOverload place w n
+  unfolding judgedOutcome
+  judged-none = refl
+
+  -- a ruled call on loaded operands, none of them a reference
+
+  module _ (row : ℕ) (ts : List Ty) (f : allFormed ts ≡ true) (loaded : anyReference ts ≡ false) where
+    ruled-is : ruledOutcome place w n row ts ≡ judgedOutcome place w n (judgeRow row ts)
+    unfolding ruledOutcome
+    ruled-is = rw loaded
+
+    -- accepted: by the preferred overload, with its result
+    pub ruled-accepted : (t : TypeNo) (m : ℕ) → ruledOutcome place w n row ts .answer ≡ Value t m
+        → (o : Overload) × Preferred (ofRow row) ts o × (typeAt (ruledOutcome place w n row ts .words) (t .0) ≡ o .result)
+    ruled-accepted t m e =
+        let q = judged-type (judgeRow row ts) (λ R q. gives-formed row ts R q .0) t m (sym (ap (λ (o : Outcome). o .answer) ruled-is) ∙ e) in
+        let r = preferred-of row ts (q .0) (q .1) in
+        (r .0, r .1, ap (λ (o : Outcome). typeAt (o .words) (t .0)) ruled-is ∙ q .2 ∙ r .2)
+
+    -- an overload fits, and there is room for the results of the row: accepted
+    pub ruled-fits : (p : Overload) → ofRow row p → T (fits (p .params) ts) → ((R : Ty) → judgeRow row ts ≡ gives R → Room R)
+        → (t : ℕ) × (m : ℕ) × (ruledOutcome place w n row ts .answer ≡ accept t m)
+    ruled-fits p k h room =
+        let g = fitting-gives row ts f p k h in
+        (placed w n (g .0) .number, placed w n (g .0) .used, ap (λ (o : Outcome). o .answer) (ruled-is ∙ ap (judgedOutcome place w n) (g .1) ∙ judged-gives (g .0)) ∙ room-answers (g .0) (room (g .0) (g .1)))
+
+    -- no overload fits: refused with 8, and 13 is never given
+    pub ruled-none : ((p : Overload) → ofRow row p → T (fits (p .params) ts) → ⊥) → ruledOutcome place w n row ts ≡ turnedDown NoOverload place w n
+    ruled-none h = ruled-is ∙ ap (judgedOutcome place w n) (nothing-gives row ts h) ∙ judged-none

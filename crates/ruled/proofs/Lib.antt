@@ -1,0 +1,5 @@
+pub mod Codes
+pub mod Outcomes
+pub mod Loaded
+pub mod Demands
+pub mod OneReply

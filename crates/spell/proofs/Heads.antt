@@ -1,0 +1,94 @@
+-- What each part of an entry's spelling is, by the tests that the code makes, and how long it can be. Assumes nothing.
+use Prim.Native.Nat.{ℕ, _+_, _≤_}
+use mathlib.Core.Path.{_≡_}
+use mathlib.Core.Bool.{Bool, true, false, _||_, cond}
+use mathlib.Core.List.{List, [], _∷_, _++_}
+use native.Mathlib.Omega.{arith}
+use lib.ListN.{length, length-append}
+use lib.Dec.{eqb}
+use borrow.Author.Tests.{eq-eqb, ne-eqb}
+use Rattle.table.specs.declared.Entry.{Entry}
+use Rattle.spell.specs.Spell.{ascii, decimal}
+use Rattle.spell.specs.Parts.{textOf, headOf, opening, closing, fractText, fractOf}
+use Rattle.spell.proofs.Texts.{text-long, dec-long}
+
+module _ (e : Entry) where
+  pub head-vec : e .kind ≡ 7 → headOf e ≡ textOf (e .kind) ++ decimal (e .p)
+  unfolding headOf
+  head-vec h = rw (eq-eqb _ 7 h)
+
+  pub head-mat : e .kind ≡ 8 → headOf e ≡ textOf (e .kind) ++ decimal (e .p) ++ (120 ∷ []) ++ decimal (e .q)
+  unfolding headOf ascii
+  head-mat h = rw h
+
+  pub head-plain : (e .kind ≡ 7 → ⊥) → (e .kind ≡ 8 → ⊥) → headOf e ≡ textOf (e .kind)
+  unfolding headOf
+  head-plain h k = rw (ne-eqb _ 7 h, ne-eqb _ 8 k)
+
+  pub opening-space : (eqb (e .kind) 12 || eqb (e .kind) 13) ≡ true → opening e ≡ (60 ∷ []) ++ textOf (16 + e .p) ++ (44 ∷ [])
+  unfolding opening ascii
+  opening-space h = rw h
+
+  pub opening-plain : (eqb (e .kind) 12 || eqb (e .kind) 13) ≡ false → opening e ≡ 60 ∷ []
+  unfolding opening ascii
+  opening-plain h = rw h
+
+  pub closing-array : e .kind ≡ 9 → closing e ≡ (44 ∷ []) ++ decimal (e .p) ++ (62 ∷ [])
+  unfolding closing ascii
+  closing-array h = rw (eq-eqb _ 9 h)
+
+  pub closing-space : (e .kind ≡ 9 → ⊥) → (eqb (e .kind) 12 || eqb (e .kind) 13) ≡ true → closing e ≡ (44 ∷ []) ++ textOf (22 + e .q) ++ (62 ∷ [])
+  unfolding closing ascii
+  closing-space h k = rw (ne-eqb _ 9 h, k)
+
+  pub closing-plain : (e .kind ≡ 9 → ⊥) → (eqb (e .kind) 12 || eqb (e .kind) 13) ≡ false → closing e ≡ 62 ∷ []
+  unfolding closing ascii
+  closing-plain h k = rw (ne-eqb _ 9 h, k)
+
+  pub fract-vec : e .kind ≡ 7 → fractOf e ≡ headOf e ++ (95 ∷ []) ++ fractText (e .elem)
+  unfolding fractOf ascii
+  fract-vec h = rw (eq-eqb _ 7 h)
+
+  pub fract-scalar : (e .kind ≡ 7 → ⊥) → fractOf e ≡ fractText (e .kind)
+  unfolding fractOf
+  fract-scalar h = rw (ne-eqb _ 7 h)
+
+pub fract-abstract : (s : ℕ) → s ≡ 2 → fractText s ≡ textOf 25
+unfolding fractText
+fract-abstract s h = rw (eq-eqb s 2 h)
+
+pub fract-other : (s : ℕ) → (s ≡ 2 → ⊥) → fractText s ≡ textOf s
+unfolding fractText
+fract-other s h = rw (ne-eqb s 2 h)
+
+-- how long they can be
+
+either : (b : Bool) (x y : List ℕ) (m : ℕ) → length x ≤ m → length y ≤ m → length (cond b x y) ≤ m
+either true x y m h k = h
+either false x y m h k = k
+
+module _ (e : Entry) where
+  pub head-long : length (headOf e) ≤ 20 + e .p + e .q
+  unfolding headOf ascii
+  head-long =
+      either (eqb (e .kind) 7) _ _ _ (simp length-append (omega (arith, text-long (e .kind), dec-long (e .p))))
+      (either (eqb (e .kind) 8) _ _ _ (simp length-append (omega (arith, text-long (e .kind), dec-long (e .p), dec-long (e .q)))) (omega (arith, text-long (e .kind))))
+
+  pub opening-long : length (opening e) ≤ 20
+  unfolding opening ascii
+  opening-long = either (eqb (e .kind) 12 || eqb (e .kind) 13) _ _ _ (simp length-append (omega (arith, text-long (16 + e .p)))) (omega arith)
+
+  pub closing-long : length (closing e) ≤ 20 + e .p
+  unfolding closing ascii
+  closing-long =
+      either (eqb (e .kind) 9) _ _ _ (simp length-append (omega (arith, dec-long (e .p))))
+      (either (eqb (e .kind) 12 || eqb (e .kind) 13) _ _ _ (simp length-append (omega (arith, text-long (22 + e .q)))) (omega arith))
+
+fract-text-long : (s : ℕ) → length (fractText s) ≤ 15
+unfolding fractText
+fract-text-long s = either (eqb s 2) _ _ _ (text-long 25) (text-long s)
+
+pub fract-long : (e : Entry) → length (fractOf e) ≤ 40 + e .p + e .q
+unfolding fractOf ascii
+fract-long e =
+    either (eqb (e .kind) 7) _ _ _ (simp length-append (omega (arith, head-long e, fract-text-long (e .elem)))) (omega (arith, fract-text-long (e .kind)))

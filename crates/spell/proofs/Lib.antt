@@ -1,0 +1,11 @@
+pub mod Examples
+pub mod Rows
+pub mod Words
+pub mod Reading
+pub mod Apart
+pub mod Texts
+pub mod Puts
+pub mod Heads
+pub mod Entries
+pub mod Outcomes
+pub mod OneReply

@@ -1,0 +1,170 @@
+-- The table of texts, of which the padded rows are computed, and numbers in decimal. Assumes nothing.
+use Prim.Native.Nat.{ℕ, zero, suc, _+_, _/_, _%_, _≤_, _<_}
+use Prim.Native.String.{String}
+use mathlib.Core.Path.{_≡_, refl, _∙_, ap}
+use mathlib.Core.Bool.{Bool, true, false, _&&_, not, cond}
+use mathlib.Core.List.{List, [], _∷_, _++_, map}
+use native.Mathlib.Nat.{le-of-suc-le-suc, not-suc-le-zero}
+use native.Mathlib.Omega.{arith}
+use lib.ListN.{length, getD, length-append, List·getD-eq-default}
+use lib.Dec.{leb, ltb, eqb}
+use borrow.Author.Tests.{le-ltb, lt-ltb, ltb-true, ltb-false, leb-true, eqb-false, not-true}
+use Rattle.spell.specs.Spell.{ascii, named, digit, decimalBy, decimal}
+use Rattle.spell.specs.Parts.{texts, textOf}
+use Rattle.table.proofs.SoundLaws.{and-left, and-right}
+use Rattle.spell.proofs.Words.{all}
+
+-- a text in a row of f bytes, padded with spaces
+unfoldable pub pad : ℕ → List ℕ → List ℕ
+pad zero l = []
+pad (suc f) [] = 32 ∷ pad f []
+pad (suc f) (b ∷ l) = b ∷ pad f l
+
+pad-none : (f j : ℕ) → j < f → getD (pad f []) j 0 ≡ 32
+unfolding pad
+pad-none zero j h = absurd (not-suc-le-zero h)
+pad-none (suc f) zero h = refl
+pad-none (suc f) (suc j) h = pad-none f j (le-of-suc-le-suc h)
+
+pad-at : (f : ℕ) (l : List ℕ) (j : ℕ) → j < f → getD (pad f l) j 0 ≡ getD l j 32
+unfolding pad
+pad-at zero l j h = absurd (not-suc-le-zero h)
+pad-at (suc f) [] j h = pad-none (suc f) j h
+pad-at (suc f) (b ∷ l) zero h = refl
+pad-at (suc f) (b ∷ l) (suc j) h = pad-at f l j (le-of-suc-le-suc h)
+
+unfoldable pub row : String → List ℕ
+row s = pad 16 (ascii s)
+
+row-at : (names : List String) (k j : ℕ) → k < length names → j < 16 → getD (getD (map row names) k []) j 0 ≡ getD (named names k) j 32
+unfolding row named
+row-at [] k j h l = absurd (not-suc-le-zero h)
+row-at (s ∷ names) zero j h l = pad-at 16 (ascii s) j l
+row-at (s ∷ names) (suc k) j h l = row-at names k j (le-of-suc-le-suc h) l
+
+-- byte j of text k stands in the source's table
+pub text-byte : (k j : ℕ) → k < 26 → j < 16 → getD (getD (map row texts) k []) j 0 ≡ getD (textOf k) j 32
+unfolding textOf
+text-byte k j h l = row-at texts k j h l
+
+pub text-none : (k : ℕ) → 26 ≤ k → textOf k ≡ []
+unfolding textOf named ascii
+text-none k h = ap ascii (List·getD-eq-default texts "" h)
+
+-- each text has at most 15 bytes, and none of them is a space
+plain : String → Bool
+plain s = leb (length (ascii s)) 15 && all (λ b. not (eqb b 32)) (ascii s)
+
+every : List String → Bool
+every [] = true
+every (s ∷ names) = plain s && every names
+
+every-at : (names : List String) (k : ℕ) → every names ≡ true → k < length names → plain (getD names k "") ≡ true
+unfolding every
+every-at [] k t h = absurd (not-suc-le-zero h)
+every-at (s ∷ names) zero t h = and-left (plain s) (every names) t
+every-at (s ∷ names) (suc k) t h = every-at names k (and-right (plain s) (every names) t) (le-of-suc-le-suc h)
+
+texts-plain : every texts ≡ true
+unfolding every plain all ascii
+texts-plain = refl
+
+all-at : (p : ℕ → Bool) (l : List ℕ) (j d : ℕ) → all p l ≡ true → j < length l → p (getD l j d) ≡ true
+unfolding all
+all-at p [] j d t h = absurd (not-suc-le-zero h)
+all-at p (b ∷ l) zero d t h = and-left (p b) (all p l) t
+all-at p (b ∷ l) (suc j) d t h = all-at p l j d (and-right (p b) (all p l) t) (le-of-suc-le-suc h)
+
+module _ (k : ℕ) (h : k < 26) where
+  pub text-short : length (textOf k) ≤ 15
+  unfolding plain textOf named
+  text-short = leb-true _ _ (and-left _ _ (every-at texts k texts-plain h))
+
+  no-space : (j : ℕ) → j < length (textOf k) → getD (textOf k) j 32 ≡ 32 → ⊥
+  unfolding plain textOf named
+  no-space j l q =
+      eqb-false _ _ (not-true _ (all-at (λ b. not (eqb b 32)) (textOf k) j 32 (and-right (leb (length (textOf k)) 15) _ (every-at texts k texts-plain h)) l)) q
+
+  -- a space is read at the end of a text, and only there
+  pub text-end : (j : ℕ) → j ≤ length (textOf k) → getD (textOf k) j 32 ≡ 32 → j ≡ length (textOf k)
+  text-end j l q = go (ltb j (length (textOf k))) refl
+    where
+      go : (b : Bool) → ltb j (length (textOf k)) ≡ b → j ≡ length (textOf k)
+      go true e = absurd (no-space j (ltb-true _ _ e) q)
+      go false e = omega (arith, ltb-false j (length (textOf k)) e)
+
+  pub text-more : (j : ℕ) → j ≤ length (textOf k) → (getD (textOf k) j 32 ≡ 32 → ⊥) → j < length (textOf k)
+  text-more j l q = go (ltb j (length (textOf k))) refl
+    where
+      go : (b : Bool) → ltb j (length (textOf k)) ≡ b → j < length (textOf k)
+      go true e = ltb-true _ _ e
+      go false e = absurd (q (List·getD-eq-default (textOf k) 32 (ltb-false j (length (textOf k)) e)))
+
+pub text-long : (k : ℕ) → length (textOf k) ≤ 15
+text-long k = go (ltb k 26) refl
+  where
+    go : (b : Bool) → ltb k 26 ≡ b → length (textOf k) ≤ 15
+    go true e = text-short k (ltb-true _ _ e)
+    go false e = omega (arith, ap length (text-none k (ltb-false k 26 e)))
+
+-- decimals
+
+fuel : (f g n : ℕ) → n ≤ f → n ≤ g → decimalBy f n ≡ decimalBy g n
+unfolding decimalBy
+fuel zero zero n p q = refl
+fuel zero (suc g) n p q = rw (lt-ltb n 10 (omega arith))
+fuel (suc f) zero n p q = rw (lt-ltb n 10 (omega arith))
+fuel (suc f) (suc g) n p q = go (ltb n 10) refl (fuel f g (n / 10))
+  where
+    go : (b : Bool) → ltb n 10 ≡ b → (n / 10 ≤ f → n / 10 ≤ g → decimalBy f (n / 10) ≡ decimalBy g (n / 10)) →
+        cond b (digit n) (decimalBy f (n / 10) ++ digit (n % 10)) ≡ cond b (digit n) (decimalBy g (n / 10) ++ digit (n % 10))
+    go true e ih = refl
+    go false e ih = let h : 10 ≤ n = ltb-false n 10 e in rw (ih (omega arith) (omega arith))
+
+more : (n : ℕ) → decimal n ≡ decimalBy (suc n) n
+unfolding decimal
+more n = fuel n (suc n) n (omega arith) (omega arith)
+
+pub dec-one : (n : ℕ) → n < 10 → decimal n ≡ digit n
+unfolding decimalBy
+dec-one n h = more n ∙ rw (lt-ltb n 10 h)
+
+step : (n : ℕ) → 10 ≤ n → decimalBy (suc n) n ≡ decimalBy n (n / 10) ++ digit (n % 10)
+unfolding decimalBy
+step n h = rw (le-ltb n 10 h)
+
+pub dec-more : (n : ℕ) → 10 ≤ n → decimal n ≡ decimal (n / 10) ++ digit (n % 10)
+unfolding decimal
+dec-more n h = more n ∙ step n h ∙ rw (fuel n (n / 10) (n / 10) (omega arith) (omega arith))
+
+long : (f n : ℕ) → length (decimalBy f n) ≤ f + 1
+unfolding decimalBy
+long zero n = omega arith
+long (suc f) n = go (ltb n 10) (long f (n / 10))
+  where
+    go : (b : Bool) → length (decimalBy f (n / 10)) ≤ f + 1 → length (cond b (digit n) (decimalBy f (n / 10) ++ digit (n % 10))) ≤ suc f + 1
+    go true ih = omega arith
+    go false ih = omega (arith, length-append (decimalBy f (n / 10)) (digit (n % 10)))
+
+pub dec-long : (n : ℕ) → length (decimal n) ≤ n + 1
+unfolding decimal
+dec-long n = long n n
+
+-- no leading zero: the first digit of a number that is not 0 is not `0`
+first : (l x : List ℕ) (z : ℕ) → (getD l 0 z ≡ z → ⊥) → getD (l ++ x) 0 z ≡ z → ⊥
+first [] x z h q = h refl
+first (b ∷ l) x z h q = h q
+
+leading : (f n : ℕ) → n ≤ f → 1 ≤ n → getD (decimalBy f n) 0 48 ≡ 48 → ⊥
+unfolding decimalBy
+leading zero n h k = omega arith
+leading (suc f) n h k = go (ltb n 10) refl (leading f (n / 10))
+  where
+    go : (b : Bool) → ltb n 10 ≡ b → (n / 10 ≤ f → 1 ≤ n / 10 → getD (decimalBy f (n / 10)) 0 48 ≡ 48 → ⊥) →
+        getD (cond b (digit n) (decimalBy f (n / 10) ++ digit (n % 10))) 0 48 ≡ 48 → ⊥
+    go true e ih = λ q. omega arith
+    go false e ih = let m : 10 ≤ n = ltb-false n 10 e in first (decimalBy f (n / 10)) (digit (n % 10)) 48 (ih (omega arith) (omega arith))
+
+pub no-leading-zero : (n : ℕ) → 1 ≤ n → getD (decimal n) 0 48 ≡ 48 → ⊥
+unfolding decimal
+no-leading-zero n h = leading n n (omega arith) h

@@ -1,0 +1,70 @@
+-- Document 01, "Spelling": "A type is spelled as a head, then its arguments, each spelled by the rule for types"; "no spaces". Assumes nothing.
+use Prim.Native.Nat.{ℕ, zero, suc, _+_, _/_, _%_}
+use Prim.Native.Char.{code}
+use Prim.Native.String.{String}
+use mathlib.Core.Bool.{cond}
+use mathlib.Core.List.{List, [], _∷_, _++_}
+use lib.Dec.{ltb, eqb}
+use lib.ListN.{getD}
+use Rattle.conv.specs.Types.{Ty, abstractFloat}
+use Rattle.conv.specs.Types.Ty.{scalar, vec, mat, array, runtime, atomic, ptr, ref, frexp, modf}
+
+-- a text as its bytes
+unfoldable pub ascii : String → List ℕ
+ascii String.[] = []
+ascii (String._∷_ c s) = code c ∷ ascii s
+
+-- "Scalars, spaces and accesses are spelled as named above", each by its number
+abbrev pub scalarNames : List String
+scalarNames = "bool" ∷ "AbstractInt" ∷ "AbstractFloat" ∷ "i32" ∷ "u32" ∷ "f32" ∷ "f16" ∷ []
+
+abbrev pub spaceNames : List String
+spaceNames = "function" ∷ "private" ∷ "workgroup" ∷ "uniform" ∷ "storage" ∷ "handle" ∷ []
+
+abbrev pub accessNames : List String
+accessNames = "read" ∷ "write" ∷ "read_write" ∷ []
+
+-- the name at a number of such a list
+unfoldable pub named : List String → ℕ → List ℕ
+named names k = ascii (getD names k "")
+
+-- "in decimal without leading zeros": the one digit that a number below ten has, or the digits of a tenth of it and then its last. A number n
+-- has at most n + 1 digits
+abbrev pub digit : ℕ → List ℕ
+digit d = (48 + d) ∷ []
+
+unfoldable pub decimalBy : ℕ → ℕ → List ℕ
+decimalBy zero n = digit n
+decimalBy (suc f) n = let longer = decimalBy f (n / 10) ++ digit (n % 10) in cond (ltb n 10) (digit n) longer
+
+unfoldable pub decimal : ℕ → List ℕ
+decimal n = decimalBy n n
+
+-- "result types by their names alone", "as `__modf_result_vec3_f16`": the name tells the type of `fract`, and calls AbstractFloat `abstract`
+unfoldable pub fractScalar : ℕ → List ℕ
+fractScalar s = cond (eqb s abstractFloat) (ascii "abstract") (named scalarNames s)
+
+unfoldable pub fractName : Ty → List ℕ
+fractName (scalar s) = fractScalar s
+fractName (vec n s) = ascii "vec" ++ decimal n ++ ascii "_" ++ fractScalar s
+fractName (mat c r s) = []
+fractName (array k t) = []
+fractName (runtime t) = []
+fractName (atomic s) = []
+fractName (ptr space access t) = []
+fractName (ref space access t) = []
+fractName (frexp t) = []
+fractName (modf t) = []
+
+-- the spelling of a type
+unfoldable pub spelling : Ty → List ℕ
+spelling (scalar s) = named scalarNames s
+spelling (vec n s) = ascii "vec" ++ decimal n ++ ascii "<" ++ named scalarNames s ++ ascii ">"
+spelling (mat c r s) = ascii "mat" ++ decimal c ++ ascii "x" ++ decimal r ++ ascii "<" ++ named scalarNames s ++ ascii ">"
+spelling (array k t) = ascii "array<" ++ spelling t ++ ascii "," ++ decimal k ++ ascii ">"
+spelling (runtime t) = ascii "array<" ++ spelling t ++ ascii ">"
+spelling (atomic s) = ascii "atomic<" ++ named scalarNames s ++ ascii ">"
+spelling (ptr space access t) = ascii "ptr<" ++ named spaceNames space ++ ascii "," ++ spelling t ++ ascii "," ++ named accessNames access ++ ascii ">"
+spelling (ref space access t) = ascii "ref<" ++ named spaceNames space ++ ascii "," ++ spelling t ++ ascii "," ++ named accessNames access ++ ascii ">"
+spelling (frexp t) = ascii "__frexp_result_" ++ fractName t
+spelling (modf t) = ascii "__modf_result_" ++ fractName t

@@ -1,0 +1,261 @@
+// The spelling of a type of the table.
+ghost use mathlib.Core.Path.{_≡_};
+ghost use mathlib.Core.List.{[], _∷_};
+ghost use Prim.Native.Nat.{ℕ, _+_, _*_, _≤_, _<_};
+ghost use lib.ListN.{length, getD};
+ghost use Rattle.table.specs.Table.{scalars, Sound};
+ghost use Rattle.table.specs.Denote.{typeAt};
+ghost use Rattle.spell.specs.Spell.{decimal, spelling};
+ghost use Rattle.spell.specs.Reply.{refuse, SpellDone};
+ghost use Rattle.spell.specs.Parts.{textCount, textWidth, blank, textOf, headOf, opening, closing, argsOf, fractText, fractOf, half, span, far, Put};
+use table::Entry;
+use table::Place;
+use table::Reason;
+use table::Refusal;
+use table::TypeNo;
+
+// The texts that spellings are made of, each padded with spaces: by kind, the scalars and the heads; then the spaces, the accesses,
+// and what a result type's name calls AbstractFloat.
+const TEXT_COUNT: usize = 26;
+
+const TEXT_WIDTH: usize = 16;
+
+const TEXTS: [[u8; 16]; 26] = [
+    *b"bool            ",
+    *b"AbstractInt     ",
+    *b"AbstractFloat   ",
+    *b"i32             ",
+    *b"u32             ",
+    *b"f32             ",
+    *b"f16             ",
+    *b"vec             ",
+    *b"mat             ",
+    *b"array           ",
+    *b"array           ",
+    *b"atomic          ",
+    *b"ptr             ",
+    *b"ref             ",
+    *b"__frexp_result_ ",
+    *b"__modf_result_  ",
+    *b"function        ",
+    *b"private         ",
+    *b"workgroup       ",
+    *b"uniform         ",
+    *b"storage         ",
+    *b"handle          ",
+    *b"read            ",
+    *b"write           ",
+    *b"read_write      ",
+    *b"abstract        ",
+];
+
+const TEXT_SPACES: usize = 16;
+
+const TEXT_ACCESSES: usize = 22;
+
+const TEXT_ABSTRACT: usize = 25;
+
+// The byte of the digit 0.
+const DIGIT_ZERO: u32 = 48;
+
+// What asking for a spelling gives: its length, or a refusal.
+pub enum Spelled {
+    Length(usize),
+    Refused(Refusal),
+}
+
+// Byte j of text k, or a space past its end. The table is read here and nowhere else.
+fn text_byte(k: usize, j: usize) -> u8
+    requires { ⌜ (k < textCount) × (j < textWidth) ⌝ }
+    ensures { λ r. ⌜ r ≡ getD (textOf k) j blank ⌝ }
+{
+    TEXTS[k][j]
+}
+
+// A byte at a place, or nothing past the end of the output; the place after it.
+fn put_byte(out: &mut [u8], at: usize, b: u8) -> usize
+    requires { ⌜ at < far * 4 ⌝ }
+    ensures { λ r. ⌜ Put (now (out .entry)) at (b ∷ []) r (now (out .exit)) ⌝ }
+{
+    if out.len() <= at {
+        return at + 1;
+    }
+    out[at] = b;
+    at + 1
+}
+
+// Text k from a place on.
+fn put_text(out: &mut [u8], at: usize, k: usize) -> usize
+    requires { ⌜ at < far * 2 ⌝ }
+    ensures { λ r. ⌜ Put (now (out .entry)) at (textOf k) r (now (out .exit)) ⌝ }
+{
+    if TEXT_COUNT <= k {
+        return at;
+    }
+    let mut j = 0;
+    while j < TEXT_WIDTH {
+        let b = text_byte(k, j);
+        if b == b' ' {
+            return at + j;
+        }
+        put_byte(out, at + j, b);
+        j += 1;
+    }
+    at + j
+}
+
+// n in decimal.
+fn put_dec(out: &mut [u8], at: usize, n: u32) -> usize
+    requires { ⌜ at + n < far * 2 ⌝ }
+    ensures { λ r. ⌜ Put (now (out .entry)) at (decimal n) r (now (out .exit)) ⌝ }
+{
+    let last = (DIGIT_ZERO + n % 10) as u8;
+    if n < 10 {
+        return put_byte(out, at, last);
+    }
+    let next = put_dec(out, at, n / 10);
+    put_byte(out, next, last)
+}
+
+// A head: its name, then a vector's width or a matrix's columns and rows.
+fn put_head(out: &mut [u8], at: usize, e: Entry) -> usize
+    requires { ⌜ at < far + half ⌝ }
+    ensures { λ r. ⌜ Put (now (out .entry)) at (headOf e) r (now (out .exit)) ⌝ }
+{
+    let a = put_text(out, at, table::wide(e.kind));
+    if e.kind == table::KIND_VEC {
+        return put_dec(out, a, e.p);
+    }
+    if e.kind == table::KIND_MAT {
+        let b = put_dec(out, a, e.p);
+        let rows = put_byte(out, b, b'x');
+        return put_dec(out, rows, e.q);
+    }
+    a
+}
+
+// What opens the arguments: `<`, and the space of a pointer or a reference.
+fn put_opening(out: &mut [u8], at: usize, e: Entry) -> usize
+    requires { ⌜ at < far + half ⌝ }
+    ensures { λ r. ⌜ Put (now (out .entry)) at (opening e) r (now (out .exit)) ⌝ }
+{
+    let a = put_byte(out, at, b'<');
+    if (e.kind == table::KIND_PTR) | (e.kind == table::KIND_REF) {
+        let b = put_text(out, a, TEXT_SPACES + table::wide(e.p));
+        return put_byte(out, b, b',');
+    }
+    a
+}
+
+// What closes the arguments: the count of an array, or the access of a pointer or a reference, and `>`.
+fn put_closing(out: &mut [u8], at: usize, e: Entry) -> usize
+    requires { ⌜ at < far + half ⌝ }
+    ensures { λ r. ⌜ Put (now (out .entry)) at (closing e) r (now (out .exit)) ⌝ }
+{
+    if e.kind == table::KIND_ARRAY {
+        let count = put_byte(out, at, b',');
+        let end = put_dec(out, count, e.p);
+        return put_byte(out, end, b'>');
+    }
+    if (e.kind == table::KIND_PTR) | (e.kind == table::KIND_REF) {
+        let access = put_byte(out, at, b',');
+        let end = put_text(out, access, TEXT_ACCESSES + table::wide(e.q));
+        return put_byte(out, end, b'>');
+    }
+    put_byte(out, at, b'>')
+}
+
+// A scalar in the name of a result type.
+fn put_fract_scalar(out: &mut [u8], at: usize, s: usize) -> usize
+    requires { ⌜ at < far * 2 ⌝ }
+    ensures { λ r. ⌜ Put (now (out .entry)) at (fractText s) r (now (out .exit)) ⌝ }
+{
+    if s == table::ABSTRACT_FLOAT {
+        return put_text(out, at, TEXT_ABSTRACT);
+    }
+    put_text(out, at, s)
+}
+
+// The end of a result type's name: the type of `fract`, which is entry e.
+fn put_fract(out: &mut [u8], at: usize, e: Entry) -> usize
+    requires { ⌜ at < far + half ⌝ }
+    ensures { λ r. ⌜ Put (now (out .entry)) at (fractOf e) r (now (out .exit)) ⌝ }
+{
+    if e.kind == table::KIND_VEC {
+        let a = put_head(out, at, e);
+        let b = put_byte(out, a, b'_');
+        return put_fract_scalar(out, b, table::wide(e.elem));
+    }
+    put_fract_scalar(out, at, table::wide(e.kind))
+}
+
+// A type: its head, then its arguments. A scalar and a result type have none: their names are whole.
+fn spell_type(words: &[u32], n: usize, i: usize, out: &mut [u8], at: usize) -> usize
+    requires { ⌜ Sound (now words) n ⌝ }
+    requires { ⌜ i < n ⌝ }
+    requires { ⌜ at + (i + 1) * span ≤ far ⌝ }
+    ensures { λ r. ⌜ Put (now (out .entry)) at (spelling (typeAt (now (words .entry)) i)) r (now (out .exit)) ⌝ }
+    ensures { λ r. ⌜ r ≤ at + (i + 1) * span ⌝ }
+{
+    let e = table::entry_at(words, i);
+    let mid = put_head(out, at, e);
+    if e.kind < table::KIND_VEC {
+        return mid;
+    }
+    if table::KIND_FREXP <= e.kind {
+        return put_fract(out, mid, table::entry_at(words, table::wide(e.elem)));
+    }
+    spell_args(words, n, i, out, mid)
+}
+
+// The arguments of a head: its elem, by the rule for types, between what opens and what closes them.
+fn spell_args(words: &[u32], n: usize, i: usize, out: &mut [u8], at: usize) -> usize
+    requires { ⌜ Sound (now words) n ⌝ }
+    requires { ⌜ (scalars ≤ i) × (i < n) ⌝ }
+    requires { ⌜ at + i * span + half ≤ far ⌝ }
+    ensures { λ r. ⌜ Put (now (out .entry)) at (argsOf (now (words .entry)) i) r (now (out .exit)) ⌝ }
+    ensures { λ r. ⌜ r ≤ at + i * span + half ⌝ }
+{
+    let e = table::entry_at(words, i);
+    let a = put_opening(out, at, e);
+    let b = spell_type(words, n, table::wide(e.elem), out, a);
+    put_closing(out, b, e)
+}
+
+// A refusal of a single call.
+fn refused(reason: Reason, n: usize) -> Spelled
+    ensures { λ r. ⌜ r ≡ refuse reason n ⌝ }
+{
+    Spelled::Refused(Refusal {
+        reason,
+        place: Place(0),
+        used: n,
+    })
+}
+
+// Spells type t of a sound table into `out`: its length, or a refusal, and then nothing is written.
+pub fn spell_in(words: &[u32], n: usize, t: TypeNo, out: &mut [u8]) -> Spelled
+    requires { ⌜ Sound (now words) n ⌝ }
+    ensures { λ r. ⌜ SpellDone (now (words .entry)) n t (now (out .entry)) r (now (out .exit)) ⌝ }
+{
+    let i = t.0;
+    if n <= i {
+        return refused(Reason::NoSuchType, n);
+    }
+    let none = 0;
+    let len = spell_type(words, n, i, &mut out[..none], 0);
+    if out.len() < len {
+        return refused(Reason::TooLong, n);
+    }
+    Spelled::Length(spell_type(words, n, i, out, 0))
+}
+
+// For a host: spells type t of any table into `out`.
+pub fn spell(words: &[u32], n: usize, t: TypeNo, out: &mut [u8]) -> Spelled
+    ensures { λ r. ⌜ SpellDone (now (words .entry)) n t (now (out .entry)) r (now (out .exit)) ⌝ }
+{
+    if !table::sound(words, n) {
+        return refused(Reason::Unsound, n);
+    }
+    spell_in(words, n, t, out)
+}

@@ -1,0 +1,14 @@
+pub mod TableLaws
+pub mod SoundLaws
+pub mod EnterCases
+pub mod KindLaws
+pub mod TypeLaws
+pub mod FormedLaws
+pub mod ReadLaws
+pub mod EnterLaws
+pub mod EnterTwoLaws
+pub mod AnswerLaws
+pub mod OneReply
+pub mod Examples
+pub mod PlacingLaws
+pub mod Demand1

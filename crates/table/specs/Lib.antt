@@ -1,0 +1,7 @@
+pub mod Tools
+pub mod Answer
+pub mod Table
+pub mod Denote
+pub mod Enter
+pub mod Stands
+pub mod Placing

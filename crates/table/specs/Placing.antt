@@ -1,0 +1,87 @@
+-- What an accepted type does to the table: "A result not present is entered, an absent element before its container"; "An accepted call leaves
+-- every earlier entry at its number and adds only the missing entries its result needs". Assumes nothing.
+use Prim.Native.Nat.{ℕ, zero, suc, _+_, _-_}
+use mathlib.Core.Bool.{Bool, true, false, cond}
+use mathlib.Core.List.{List}
+use mathlib.Core.Path.{_≡_}
+use lib.Dec.{leb}
+use Rattle.conv.specs.Types.{Ty}
+use Rattle.conv.specs.Types.Ty.{scalar, vec, mat, array, runtime, atomic, ptr, ref, frexp, modf}
+use Rattle.conv.specs.Rank.{sameTy}
+use Rattle.table.specs.Answer.{accept, refuse}
+use Rattle.table.specs.Table.{putEntry, orElse}
+use Rattle.table.specs.Denote.{typeAt, kindOf, pOf, qOf}
+use Rattle.table.specs.Enter.{free}
+use Rattle.table.specs.declared.Entry.{Entry}
+use Rattle.table.specs.declared.Found.{Found}
+use Rattle.table.specs.declared.Found.the-variants.{At, Nothing}
+use Rattle.table.specs.declared.answer.Reason.{Reason}
+use Rattle.table.specs.declared.answer.Reason.the-variants.{NoRoom}
+use Rattle.table.specs.declared.answer.Answer.{Answer}
+use Rattle.table.specs.declared.answer.Answer.the-variants.{Value}
+use Rattle.table.specs.declared.Entered.{Entered}
+use Rattle.table.specs.declared.Entered.the-variants.{There, Full}
+
+-- the number of the type R in a table of n entries
+unfoldable pub standsIn : List ℕ → ℕ → Ty → Found
+standsIn w zero R = Nothing
+standsIn w (suc n) R = orElse (standsIn w n R) (cond (sameTy (typeAt w n) R) (At (record { 0 = n })) Nothing)
+
+-- where a type comes to stand: its number, the used count and the words, however many entries that takes
+pub record Placed : Type 0 where
+  pub number : ℕ
+  pub used : ℕ
+  pub words : List ℕ
+
+abbrev pub here : ℕ → ℕ → List ℕ → Placed
+here k n w = record { number = k; used = n; words = w }
+
+-- the entry of R over the number of its element
+abbrev pub entryOf : Ty → ℕ → Entry
+entryOf R k = record { kind = kindOf R; p = pOf R; q = qOf R; elem = k }
+
+-- R, whose element has its place already: at its number, or as the next entry
+abbrev pub orNext : Found → ℕ → List ℕ → Ty → Placed → Placed
+orNext (At t) n w R inner = here (t .0) n w
+orNext Nothing n w R inner = here (inner .used) (inner .used + 1) (putEntry (inner .words) (inner .used) (entryOf R (inner .number)))
+
+unfoldable pub over : List ℕ → ℕ → Ty → Placed → Placed
+over w n R inner = orNext (standsIn w n R) n w R inner
+
+unfoldable pub placed : List ℕ → ℕ → Ty → Placed
+placed w n (scalar s) = here s n w
+placed w n (vec k s) = over w n (vec k s) (here s n w)
+placed w n (mat c r s) = over w n (mat c r s) (here s n w)
+placed w n (array k t) = over w n (array k t) (placed w n t)
+placed w n (runtime t) = over w n (runtime t) (placed w n t)
+placed w n (atomic s) = over w n (atomic s) (here s n w)
+placed w n (ptr space access t) = over w n (ptr space access t) (placed w n t)
+placed w n (ref space access t) = over w n (ref space access t) (placed w n t)
+placed w n (frexp t) = over w n (frexp t) (placed w n t)
+placed w n (modf t) = over w n (modf t) (placed w n t)
+
+-- a call's answer, and every word of the table afterwards
+pub record Outcome : Type 0 where
+  pub answer : Answer
+  pub words : List ℕ
+
+-- a refusal at a place, which changes no word
+abbrev pub turnedDown : Reason → ℕ → List ℕ → ℕ → Outcome
+turnedDown reason place w n = record { answer = refuse reason place n; words = w }
+
+-- the type R is accepted: it is entered where it is absent, or refused with 9 where the slice or 256 leaves too little room
+unfoldable pub entering : ℕ → List ℕ → ℕ → Ty → Outcome
+entering place w n R =
+    cond (leb (placed w n R .used - n) (free w n))
+    (record { answer = accept (placed w n R .number) (placed w n R .used); words = placed w n R .words })
+    (turnedDown NoRoom place w n)
+
+-- what a call answers by the reply of entering
+abbrev pub entryAnswer : ℕ → Entered → ℕ → Answer
+entryAnswer place (There t m) n = Value t m
+entryAnswer place Full n = refuse NoRoom place n
+
+-- what a call promises: its answer, and every word afterwards
+pub record Gave (o : Outcome) (r : Answer) (after : List ℕ) : Type 0 where
+  pub reply : r ≡ o .answer
+  pub words : after ≡ o .words

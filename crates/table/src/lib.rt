@@ -1,0 +1,385 @@
+// The type table: entries of four words in a lent slice.
+ghost use mathlib.Core.Path.{_≡_};
+ghost use Prim.Native.Nat.{ℕ, _+_, _*_, _≤_, _<_};
+ghost use lib.ListN.{length};
+ghost use Rattle.conv.specs.Types.{isWidth, isFloat, isAbstract};
+ghost use Rattle.table.specs.Table.{stride, ceiling, entryAt, putEntry, sameb, rowOk, baseOf, scalarOk, madeOk, entryOk, findIn, isNothing, goodAt, soundb, allowedb, Sound};
+ghost use Rattle.table.specs.Enter.{free, container, EnterDone, EnterTwoDone, EnterTypeDone};
+
+pub mod answer;
+
+pub use answer::Answer;
+pub use answer::Place;
+pub use answer::Reason;
+pub use answer::Refusal;
+pub use answer::TypeNo;
+pub use answer::accepted;
+pub use answer::no_value;
+pub use answer::reason_no;
+pub use answer::refused;
+
+// How many words an entry has, and the most entries of a table.
+pub const STRIDE: usize = 4;
+
+pub const CEILING: usize = 256;
+
+// The scalars are the entries below this number, each by its own.
+pub const SCALARS: usize = 7;
+
+pub const BOOL: usize = 0;
+
+pub const ABSTRACT_INT: usize = 1;
+
+pub const ABSTRACT_FLOAT: usize = 2;
+
+pub const I32: usize = 3;
+
+pub const U32: usize = 4;
+
+pub const F32: usize = 5;
+
+pub const F16: usize = 6;
+
+// The kinds above the scalars.
+pub const KIND_VEC: u32 = 7;
+
+pub const KIND_MAT: u32 = 8;
+
+pub const KIND_ARRAY: u32 = 9;
+
+pub const KIND_RUNTIME: u32 = 10;
+
+pub const KIND_ATOMIC: u32 = 11;
+
+pub const KIND_PTR: u32 = 12;
+
+pub const KIND_REF: u32 = 13;
+
+pub const KIND_FREXP: u32 = 14;
+
+pub const KIND_MODF: u32 = 15;
+
+// Address spaces.
+pub const SPACE_FUNCTION: u32 = 0;
+
+pub const SPACE_PRIVATE: u32 = 1;
+
+pub const SPACE_WORKGROUP: u32 = 2;
+
+pub const SPACE_UNIFORM: u32 = 3;
+
+pub const SPACE_STORAGE: u32 = 4;
+
+pub const SPACE_HANDLE: u32 = 5;
+
+// Access modes.
+pub const ACCESS_READ: u32 = 0;
+
+pub const ACCESS_WRITE: u32 = 1;
+
+pub const ACCESS_READ_WRITE: u32 = 2;
+
+// An entry of the table, by value.
+pub struct Entry {
+    pub kind: u32,
+    pub p: u32,
+    pub q: u32,
+    pub elem: u32,
+}
+
+// Whether an entry stands in the table, and where.
+pub enum Found {
+    At(TypeNo),
+    Nothing,
+}
+
+// What entering gives: the number of the entry and the used count afterwards.
+pub enum Entered {
+    There(TypeNo, usize),
+    Full,
+}
+
+pub fn wide(x: u32) -> usize
+    ensures { λ r. ⌜ r ≡ x ⌝ }
+{
+    x as usize
+}
+
+// Entry i. This and `put_entry` are the only two that know how an entry lies in the words.
+pub fn entry_at(words: &[u32], i: usize) -> Entry
+    requires { ⌜ (i + 1) * stride ≤ length (now words) ⌝ }
+    ensures { λ r. ⌜ r ≡ entryAt (now (words .entry)) i ⌝ }
+{
+    let at = i * STRIDE;
+    Entry {
+        kind: words[at],
+        p: words[at + 1],
+        q: words[at + 2],
+        elem: words[at + 3],
+    }
+}
+
+fn put_entry(words: &mut [u32], i: usize, e: Entry)
+    requires { ⌜ (i + 1) * stride ≤ length (now words) ⌝ }
+    ensures { λ _. ⌜ now (words .exit) ≡ putEntry (now (words .entry)) i e ⌝ }
+{
+    let at = i * STRIDE;
+    words[at] = e.kind;
+    words[at + 1] = e.p;
+    words[at + 2] = e.q;
+    words[at + 3] = e.elem;
+}
+
+// Two entries have one key.
+fn same(a: Entry, b: Entry) -> bool
+    ensures { λ r. ⌜ r ≡ sameb a b ⌝ }
+{
+    (a.kind == b.kind) & (a.p == b.p) & (a.q == b.q) & (a.elem == b.elem)
+}
+
+fn is_width(x: u32) -> bool
+    ensures { λ r. ⌜ r ≡ isWidth x ⌝ }
+{
+    (2 <= x) & (x <= 4)
+}
+
+fn is_float(s: usize) -> bool
+    ensures { λ r. ⌜ r ≡ isFloat s ⌝ }
+{
+    (s == ABSTRACT_FLOAT) | (s == F32) | (s == F16)
+}
+
+fn is_abstract(s: usize) -> bool
+    ensures { λ r. ⌜ r ≡ isAbstract s ⌝ }
+{
+    (s == ABSTRACT_INT) | (s == ABSTRACT_FLOAT)
+}
+
+// The rule of the entry's row: `ek` is the kind of its elem, `eb` the innermost scalar of its elem.
+fn row_ok(e: Entry, ek: u32, eb: usize) -> bool
+    ensures { λ r. ⌜ r ≡ rowOk e ek eb ⌝ }
+{
+    let k = e.kind;
+    let el = wide(e.elem);
+    let plain = (e.p == 0) & (e.q == 0);
+    let stored = (ek != KIND_PTR) & (ek != KIND_REF);
+    let sized = stored & (ek != KIND_RUNTIME);
+    if k == KIND_VEC {
+        return is_width(e.p) & (e.q == 0) & (el < SCALARS);
+    }
+    if k == KIND_MAT {
+        return is_width(e.p) & is_width(e.q) & is_float(el);
+    }
+    if k == KIND_ARRAY {
+        return (1 <= e.p) & (e.q == 0) & sized;
+    }
+    if k == KIND_RUNTIME {
+        return plain & sized;
+    }
+    if k == KIND_ATOMIC {
+        return plain & ((el == I32) | (el == U32));
+    }
+    if k == KIND_PTR {
+        return (e.p <= SPACE_STORAGE) & (e.q <= ACCESS_READ_WRITE) & stored & !is_abstract(eb);
+    }
+    if k == KIND_REF {
+        return (e.p <= SPACE_HANDLE) & (e.q <= ACCESS_READ_WRITE) & stored & !is_abstract(eb);
+    }
+    if (k == KIND_FREXP) | (k == KIND_MODF) {
+        return plain & is_float(eb) & ((el < SCALARS) | (ek == KIND_VEC));
+    }
+    false
+}
+
+// The innermost scalar of entry j.
+fn base_of(words: &[u32], j: usize) -> usize
+    requires { ⌜ (j + 1) * stride ≤ length (now words) ⌝ }
+    ensures { λ r. ⌜ r ≡ baseOf (now (words .entry)) j ⌝ }
+{
+    let mut at = j;
+    while SCALARS <= at {
+        let e = entry_at(words, at);
+        let next = wide(e.elem);
+        if at <= next {
+            return at;
+        }
+        at = next;
+    }
+    at
+}
+
+// An entry that is scalar k.
+fn scalar_ok(k: usize, e: Entry) -> bool
+    ensures { λ r. ⌜ r ≡ scalarOk k e ⌝ }
+{
+    (wide(e.kind) == k) & (e.p == 0) & (e.q == 0) & (e.elem == 0)
+}
+
+// An entry above the scalars, standing at number i.
+fn made_ok(words: &[u32], i: usize, e: Entry) -> bool
+    requires { ⌜ i * stride ≤ length (now words) ⌝ }
+    ensures { λ r. ⌜ r ≡ madeOk (now (words .entry)) i e ⌝ }
+{
+    let el = wide(e.elem);
+    if i <= el {
+        return false;
+    }
+    let f = entry_at(words, el);
+    row_ok(e, f.kind, base_of(words, el))
+}
+
+fn entry_ok(words: &[u32], i: usize, e: Entry) -> bool
+    requires { ⌜ i * stride ≤ length (now words) ⌝ }
+    ensures { λ r. ⌜ r ≡ entryOk (now (words .entry)) i e ⌝ }
+{
+    if i < SCALARS {
+        return scalar_ok(i, e);
+    }
+    made_ok(words, i, e)
+}
+
+// The number of the first of the first n entries that has e's key.
+pub fn find(words: &[u32], n: usize, e: Entry) -> Found
+    requires { ⌜ n * stride ≤ length (now words) ⌝ }
+    ensures { λ r. ⌜ r ≡ findIn (now (words .entry)) n e ⌝ }
+{
+    let mut i = 0;
+    while i < n {
+        if same(entry_at(words, i), e) {
+            return Found::At(TypeNo(i));
+        }
+        i += 1;
+    }
+    Found::Nothing
+}
+
+fn is_nothing(f: Found) -> bool
+    ensures { λ r. ⌜ r ≡ isNothing f ⌝ }
+{
+    match f {
+        Found::At(_) => false,
+        Found::Nothing => true,
+    }
+}
+
+fn good_at(words: &[u32], i: usize) -> bool
+    requires { ⌜ (i + 1) * stride ≤ length (now words) ⌝ }
+    ensures { λ r. ⌜ r ≡ goodAt (now (words .entry)) i ⌝ }
+{
+    let e = entry_at(words, i);
+    entry_ok(words, i, e) & is_nothing(find(words, i, e))
+}
+
+// Whether the words hold a sound table of n entries.
+pub fn sound(words: &[u32], n: usize) -> bool
+    ensures { λ r. ⌜ r ≡ soundb (now (words .entry)) n ⌝ }
+{
+    if n < SCALARS {
+        return false;
+    }
+    if CEILING < n {
+        return false;
+    }
+    if words.len() < n * STRIDE {
+        return false;
+    }
+    let mut i = 0;
+    while i < n {
+        if !good_at(words, i) {
+            return false;
+        }
+        i += 1;
+    }
+    true
+}
+
+// Whether e may be taken into a table of n entries.
+pub fn allowed(words: &[u32], n: usize, e: Entry) -> bool
+    requires { ⌜ Sound (now words) n ⌝ }
+    ensures { λ r. ⌜ r ≡ allowedb (now (words .entry)) n e ⌝ }
+{
+    let k = wide(e.kind);
+    if k < SCALARS {
+        return scalar_ok(k, e);
+    }
+    made_ok(words, n, e)
+}
+
+// How many entries more the slice and the ceiling leave room for.
+fn free_of(words: &[u32], n: usize) -> usize
+    requires { ⌜ Sound (now words) n ⌝ }
+    ensures { λ r. ⌜ r ≡ free (now (words .entry)) n ⌝ }
+{
+    let whole = words.len() / STRIDE;
+    if CEILING <= whole {
+        return CEILING - n;
+    }
+    whole - n
+}
+
+// The number of e, which is entered where it is absent.
+pub fn enter(words: &mut [u32], n: usize, e: Entry) -> Entered
+    requires { ⌜ Sound (now words) n ⌝ }
+    ensures { λ r. ⌜ EnterDone (now (words .entry)) n e r (now (words .exit)) ⌝ }
+{
+    let f = find(words, n, e);
+    match f {
+        Found::At(t) => Entered::There(t, n),
+        Found::Nothing => {
+            if free_of(words, n) < 1 {
+                return Entered::Full;
+            }
+            put_entry(words, n, e);
+            Entered::There(TypeNo(n), n + 1)
+        }
+    }
+}
+
+// `outer` with the element t.
+fn over(outer: Entry, t: usize) -> Entry
+    requires { ⌜ t ≤ ceiling ⌝ }
+    ensures { λ r. ⌜ r ≡ container outer t ⌝ }
+{
+    Entry {
+        kind: outer.kind,
+        p: outer.p,
+        q: outer.q,
+        elem: t as u32,
+    }
+}
+
+// The number of the container `outer` over `inner`: each is entered where it is absent, or neither where room lacks for one.
+pub fn enter_two(words: &mut [u32], n: usize, inner: Entry, outer: Entry) -> Entered
+    requires { ⌜ Sound (now words) n ⌝ }
+    ensures { λ r. ⌜ EnterTwoDone (now (words .entry)) n inner outer r (now (words .exit)) ⌝ }
+{
+    let f = find(words, n, inner);
+    match f {
+        Found::At(t) => enter(words, n, over(outer, t.0)),
+        Found::Nothing => {
+            if free_of(words, n) < 2 {
+                return Entered::Full;
+            }
+            put_entry(words, n, inner);
+            put_entry(words, n + 1, over(outer, n));
+            Entered::There(TypeNo(n + 1), n + 2)
+        }
+    }
+}
+
+// For a host: the type that e stands for, entered where it is absent.
+pub fn enter_type(words: &mut [u32], n: usize, e: Entry) -> Answer
+    ensures { λ r. ⌜ EnterTypeDone (now (words .entry)) n e r (now (words .exit)) ⌝ }
+{
+    if !sound(words, n) {
+        return refused(Reason::Unsound, Place(0), n);
+    }
+    if !allowed(words, n, e) {
+        return refused(Reason::Template, Place(0), n);
+    }
+    let r = enter(words, n, e);
+    match r {
+        Entered::There(t, m) => accepted(t, m),
+        Entered::Full => refused(Reason::NoRoom, Place(0), n),
+    }
+}
