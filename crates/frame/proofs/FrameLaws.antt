@@ -2,11 +2,11 @@
 -- What the header and the end say of the sheet's length. One law goes by the tests of the definitions, and the others follow from it.
 -- Assumes nothing.
 use Prim.Native.Nat.{ℕ, _+_, _-_, _<_, _≤_}
-use mathlib.Core.Path.{_≡_, refl, ap, _∙_}
+use mathlib.Core.Path.{_≡_, refl, ap}
 use mathlib.Core.List.{List}
 use mathlib.Core.Bool.{Bool, true, false, _&&_}
 use native.Mathlib.Omega.{arith}
-use lib.ListN.{length, getD, take, drop, length-take, length-drop}
+use lib.ListN.{length, getD, length-take, length-drop}
 use lib.Dec.{ltb, leb, eqb}
 use borrow.Author.Tests.{leb-true, ltb-true, eqb-true, eqb-false, ltb-false, leb-false}
 use Rattle.frame.specs.declared.Part.{Part}
@@ -134,3 +134,12 @@ headed v s e =
     both : (x y : Bool) → x && y ≡ true → (x ≡ true) × (y ≡ true)
     both true y h = (refl, h)
     both false y h = absurd (cc)
+
+-- in a sheet with a right header, an item ends after it begins and within 3 + L
+pub headed-next : (v : ℕ) (s : List ℕ) (at : ℕ) → headerOk v s ≡ true → isItem (itemAt s at .item) ≡ true
+    → (at < itemAt s at .next .0) × (itemAt s at .next .0 ≤ headerSize + lengthOf s)
+headed-next v s at h e = (framed s at e .after, omega (arith, framed s at e .within, headed v s h .whole))
+
+-- and the end that no item runs past stands at 3 + L
+pub headed-end : (v : ℕ) (s : List ℕ) (at : ℕ) → headerOk v s ≡ true → itemAt s at .item ≡ End → at ≤ headerSize + lengthOf s → at ≡ headerSize + lengthOf s
+headed-end v s at h e k = omega (arith, at-end s at e, headed v s h .whole)

@@ -1,11 +1,10 @@
 -- The list of the items from a place: what stands there, and, after an item, the list from the next place. Each item ends later than it
 -- begins, so as many steps as the sheet has bytes are enough. Assumes nothing.
-use Prim.Native.Nat.{ℕ, zero, suc, _+_, _<_, _≤_}
+use Prim.Native.Nat.{ℕ, zero, suc, _+_, _≤_}
 use mathlib.Core.Path.{_≡_, refl, sym, ap}
 use mathlib.Core.List.{List, [], _∷_}
 use mathlib.Core.Bool.{Bool, true, false}
 use native.Mathlib.Omega.{arith}
-use native.Mathlib.Numerals.{add-one}
 use lib.ListN.{length}
 use Rattle.frame.specs.declared.Placed.{Placed}
 use Rattle.frame.specs.Frame.{pick, itemAt, isItem, itemsWithin, itemsFrom}

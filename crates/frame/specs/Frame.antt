@@ -104,7 +104,7 @@ module _ (at : ℕ) (p : List ℕ) where
 abbrev pub payloadAt : List ℕ → ℕ → List ℕ
 payloadAt s at = take (getD s at 0 - 1) (drop (at + 2) s)
 
--- what stands at a place of the sheet. Below byte 3 no item begins; at the last byte's end is the end; the length byte is at least 1, for
+-- what stands at a place of the sheet. Below byte 3 no item begins; past the last byte is the end; the length byte is at least 1, for
 -- the kind, and does not run past the end
 unfoldable pub itemAt : List ℕ → ℕ → Placed
 itemAt s at =
