@@ -1,0 +1,109 @@
+-- A ruled name is accepted exactly when an overload of its row fits, with the result of the overload that is preferred to every other; refusal 8
+-- exactly when none fits; and no call of a builtin gives 13. From overload's demand 3. Assumes nothing.
+use Prim.Native.Nat.{ℕ, _<_}
+use mathlib.Core.Path.{_≡_, refl, sym, _∙_, ap, subst}
+use mathlib.Core.Logic.{_≢_}
+use mathlib.Core.Bool.{true, false}
+use mathlib.Core.List.{List}
+use native.Mathlib.Omega.{arith}
+use lib.Dec.{T}
+use lib.ListN.{length}
+use borrow.Author.Tests.{lt-ltb, eq-eqb}
+use Rattle.conv.specs.Types.{Ty}
+use Rattle.overload.specs.Overload.{Overload, fits, Preferred, Judged, Resolved}
+use Rattle.overload.specs.Overload.Judged.{gives, noneFits, nonePreferred}
+use Rattle.overload.specs.Rows.{overloadsOf, ofRow, judgeRow}
+use Rattle.overload.proofs.Operands.{allFormed, never-thirteen}
+use Rattle.overload.proofs.Judge.{judge-resolved}
+use Rattle.overload.proofs.Results.{gives-formed}
+use Rattle.names.specs.Names.{Known, ruleOf, overloadRows}
+use Rattle.names.specs.Names.Known.{known}
+use Rattle.table.specs.Answer.{refuse, reasonNo}
+use Rattle.table.specs.Table.{Sound}
+use Rattle.table.specs.Placing.{Outcome, Gave, turnedDown, entering}
+use Rattle.table.specs.declared.answer.Reason.{Reason}
+use Rattle.table.specs.declared.answer.Reason.the-variants.{NoOverload, NoRoom}
+use Rattle.table.specs.declared.answer.Refusal.{Refusal}
+use Rattle.table.specs.declared.answer.Answer.the-variants.{NoValue, Refused}
+use Rattle.table.proofs.Demand1.{entering-refused}
+use Rattle.ruled.specs.Call.{anyReference, judgedOutcome}
+use Rattle.call_ty.specs.Calls.{templateRight, operandsOf, givenBy, givenOutcome, byRule, callOutcome, typeBuiltinFn}
+use Rattle.call_ty.proofs.Lists.{types}
+use Rattle.call_ty.proofs.Ways.{by-call}
+use Rattle.call_ty.proofs.Ends.{Ends, Single, thirteen, single-ends}
+use Rattle.call_ty.proofs.Ends.Ends.{refused, silent, valued}
+use Rattle.call_ty.proofs.Ends.Single.{early, late}
+use Rattle.call_ty.proofs.Demand1.{whole}
+
+module _ (place : ℕ) (w : List ℕ) (n : ℕ) (s : Sound w n) (name : List ℕ) (row : ℕ) (ts us : List Ty)
+    (ruled : ruleOf name ≡ known row) (listed : row < overloadRows) (fu : allFormed us ≡ true)
+    (right : templateRight row ts ≡ true) (count : length us ≡ operandsOf row) (loaded : anyReference us ≡ false) where
+  given : givenOutcome place w n (givenBy row ts us) ≡ judgedOutcome place w n (judgeRow row us)
+  unfolding givenOutcome givenBy
+  given = rw (lt-ltb row overloadRows listed)
+
+  -- such a call is judged by the overloads of its row
+  pub judged : callOutcome place w n name ts us ≡ judgedOutcome place w n (judgeRow row us)
+  judged = ap (λ (k : Known). byRule place w n k ts us) ruled ∙ sym (by-call place w n row ts us right count loaded) ∙ given
+
+  by : (j : Judged) → judgeRow row us ≡ j → Resolved (ofRow row) us j
+  by j e = subst (Resolved (ofRow row) us) e (judge-resolved (overloadsOf row) us)
+
+  -- an overload fits: one is preferred, and its result is accepted
+  pub fitting : (p : Overload) → ofRow row p → T (fits (p .params) us)
+      → (o : Overload) × Preferred (ofRow row) us o × (callOutcome place w n name ts us ≡ entering place w n (o .result))
+  unfolding Resolved judgedOutcome
+  fitting p m h = go (judgeRow row us) refl
+    where
+      go : (j : Judged) → judgeRow row us ≡ j → (o : Overload) × Preferred (ofRow row) us o × (callOutcome place w n name ts us ≡ entering place w n (o .result))
+      go (gives R) e = let q = by (gives R) e in (q .0, q .1, judged ∙ ap (judgedOutcome place w n) e ∙ ap (entering place w n) (q .2))
+      go noneFits e = absurd (by noneFits e p m h)
+      go nonePreferred e = absurd (never-thirteen us fu row (by nonePreferred e))
+
+  -- none fits: refusal 8
+  pub none-fitting : ((p : Overload) → ofRow row p → T (fits (p .params) us) → ⊥) → callOutcome place w n name ts us ≡ turnedDown NoOverload place w n
+  unfolding Resolved judgedOutcome
+  none-fitting h = go (judgeRow row us) refl
+    where
+      go : (j : Judged) → judgeRow row us ≡ j → callOutcome place w n name ts us ≡ turnedDown NoOverload place w n
+      go (gives R) e = let q = by (gives R) e in absurd (h (q .0) (q .1 .among) (q .1 .fitting))
+      go noneFits e = judged ∙ ap (judgedOutcome place w n) e
+      go nonePreferred e = absurd (never-thirteen us fu row (by nonePreferred e))
+
+  -- and refusal 8 only then
+  pub eight-only : callOutcome place w n name ts us ≡ turnedDown NoOverload place w n → (p : Overload) → ofRow row p → T (fits (p .params) us) → ⊥
+  unfolding Resolved judgedOutcome
+  eight-only h p m f = go (judgeRow row us) refl
+    where
+      go : (j : Judged) → judgeRow row us ≡ j → ⊥
+      go (gives R) e =
+          let r = entering-refused place w n s R (gives-formed row us R e .0) _ w (sym (judged ∙ ap (judgedOutcome place w n) e) ∙ h) .1 in
+          let a : reasonNo NoOverload ≡ reasonNo NoRoom = ap (λ (x : Refusal). reasonNo (x .reason)) r in omega arith
+      go noneFits e = by noneFits e p m f
+      go nonePreferred e = never-thirteen us fu row (by nonePreferred e)
+
+-- REFUSAL 13 IS NEVER GIVEN
+
+no-thirteen : (reason : Reason) → thirteen reason ≡ false → reasonNo reason ≢ 13
+no-thirteen reason f e = let a = sym f ∙ eq-eqb (reasonNo reason) 13 e in let z : _≡_ {A = ℕ} 0 1 = cc in omega arith
+
+module _ (w : List ℕ) (n : ℕ) (name tplt args : List ℕ) where
+  pub never-13 : (r : Refusal) (v : List ℕ) → Gave (typeBuiltinFn w n name tplt args) (Refused r) v → reasonNo (r .reason) ≢ 13
+  never-13 r v g = go (single-ends w n name tplt args)
+    where
+      same : (reason : Reason) (place : ℕ) → typeBuiltinFn w n name tplt args ≡ turnedDown reason place w n → r ≡ record { reason = reason; place = record { 0 = place }; used = n }
+      same reason place e = let a : Refused r ≡ refuse reason place n = g .reply ∙ ap (λ (x : Outcome). x .answer) e in cc
+
+      by-reason : (reason : Reason) → thirteen reason ≡ false → typeBuiltinFn w n name tplt args ≡ turnedDown reason 0 w n → reasonNo (r .reason) ≢ 13
+      by-reason reason f e h = no-thirteen reason f (sym (ap (λ (x : Refusal). reasonNo (x .reason)) (same reason 0 e)) ∙ h)
+
+      late-go : Sound w n → Ends 0 w n (ruleOf name) (types w tplt) (types w args) (typeBuiltinFn w n name tplt args) → reasonNo (r .reason) ≢ 13
+      late-go s (refused reason f e) h = by-reason reason f e h
+      late-go s (silent e) h = let a : Refused r ≡ NoValue n = g .reply ∙ ap (λ (x : Outcome). x .answer) e in let z : _≡_ {A = ℕ} 0 1 = cc in omega arith
+      late-go s (valued R k f q x e) h =
+          let y = entering-refused 0 w n s R f r v (sym e ∙ whole _ _ v g) .1 in
+          let a : reasonNo (r .reason) ≡ reasonNo NoRoom = ap (λ (z : Refusal). reasonNo (z .reason)) y in omega arith
+
+      go : Single w n name tplt args (typeBuiltinFn w n name tplt args) → reasonNo (r .reason) ≢ 13
+      go (early reason f e) = by-reason reason f e
+      go (late s x) = late-go s x

@@ -1,0 +1,10 @@
+pub mod Parts
+pub mod Lists
+pub mod Counts
+pub mod Rules
+pub mod Ways
+pub mod Ends
+pub mod Demand1
+pub mod Demand2
+pub mod Demand3
+pub mod OneReply

@@ -1,0 +1,100 @@
+-- Lists of numbers of types, and the types that they stand for. Assumes nothing.
+use Prim.Native.Nat.{ℕ, zero, suc, _-_, _≤_, _<_}
+use mathlib.Core.Path.{_≡_, refl, sym, _∙_, ap}
+use mathlib.Core.Logic.{_≢_}
+use mathlib.Core.Bool.{Bool, true, false, _&&_}
+use mathlib.Core.List.{List, [], _∷_, map}
+use native.Mathlib.Nat.{not-suc-le-zero}
+use native.Mathlib.Omega.{arith}
+use lib.Dec.{eqb, ltb}
+use lib.ListN.{length, getD, take, drop, length-map}
+use borrow.Author.Tests.{ltb-true, lt-ltb, le-ltb, eq-eqb, ne-eqb}
+use Rattle.conv.specs.Types.{Ty, bool}
+use Rattle.conv.specs.Types.Ty.{scalar}
+use Rattle.conv.specs.Rank.{isReference}
+use Rattle.overload.specs.Overload.{or}
+use Rattle.overload.specs.Code.{codeOf}
+use Rattle.overload.proofs.Operands.{and-left, and-right, allFormed, codesOf}
+use Rattle.table.specs.Table.{Sound}
+use Rattle.table.specs.Denote.{typeAt}
+use Rattle.table.proofs.KindLaws.{and-false}
+use Rattle.table.proofs.FormedLaws.{formed-at}
+use Rattle.ruled.specs.Call.{anyReference}
+use Rattle.ruled.proofs.Loaded.{code-ref}
+use Rattle.call_ty.specs.Calls.{allUnder}
+use Rattle.call_ty.specs.Codes.{Under}
+
+under-rest : (n t : ℕ) (ts : List ℕ) → Under n (t ∷ ts) → Under n ts
+under-rest n t ts u i l = u (suc i) (omega arith)
+
+-- the test of every number, and the fact
+
+pub all-under : (n : ℕ) (ts : List ℕ) → allUnder n ts ≡ true → Under n ts
+unfolding allUnder
+all-under n [] h i l = absurd (not-suc-le-zero l)
+all-under n (t ∷ ts) h zero l = ltb-true t n (and-left (ltb t n) _ h)
+all-under n (t ∷ ts) h (suc i) l = all-under n ts (and-right (ltb t n) _ h) i (omega arith)
+
+pub under-all : (n : ℕ) (ts : List ℕ) → Under n ts → allUnder n ts ≡ true
+unfolding allUnder
+under-all n [] u = refl
+under-all n (t ∷ ts) u = rw (lt-ltb t n (u 0 (omega arith)), under-all n ts (under-rest n t ts u))
+
+pub not-under : (n : ℕ) (ts : List ℕ) (i : ℕ) → i < length ts → n ≤ getD ts i 0 → allUnder n ts ≡ false
+unfolding allUnder
+not-under n [] i l h = absurd (not-suc-le-zero l)
+not-under n (t ∷ ts) zero l h = rw (le-ltb t n h)
+not-under n (t ∷ ts) (suc i) l h = ap (λ (b : Bool). ltb t n && b) (not-under n ts i (omega arith) h) ∙ and-false (ltb t n)
+
+-- the types of a list
+
+or-true : (b : Bool) → or b true ≡ true
+unfolding or
+or-true true = refl
+or-true false = refl
+
+module _ (w : List ℕ) where
+  abbrev pub types : List ℕ → List Ty
+  types ts = map (typeAt w) ts
+
+  pub type-in : (ts : List ℕ) (i : ℕ) → i < length ts → getD (types ts) i (scalar bool) ≡ typeAt w (getD ts i 0)
+  type-in [] i l = absurd (not-suc-le-zero l)
+  type-in (t ∷ ts) zero l = refl
+  type-in (t ∷ ts) (suc i) l = type-in ts i (omega arith)
+
+  pub types-formed : (n : ℕ) → Sound w n → (ts : List ℕ) → Under n ts → allFormed (types ts) ≡ true
+  unfolding allFormed
+  types-formed n s [] u = refl
+  types-formed n s (t ∷ ts) u = rw (formed-at w n s t (u 0 (omega arith)), types-formed n s ts (under-rest n t ts u))
+
+  pub some-reference : (ts : List ℕ) (i : ℕ) → i < length ts → isReference (typeAt w (getD ts i 0)) ≡ true → anyReference (types ts) ≡ true
+  unfolding anyReference or
+  some-reference [] i l h = absurd (not-suc-le-zero l)
+  some-reference (t ∷ ts) zero l h = ap (λ (b : Bool). or b (anyReference (types ts))) h
+  some-reference (t ∷ ts) (suc i) l h = ap (or (isReference (typeAt w t))) (some-reference ts i (omega arith) h) ∙ or-true (isReference (typeAt w t))
+
+  pub no-reference : (ts : List ℕ) → ((i : ℕ) → i < length ts → isReference (typeAt w (getD ts i 0)) ≡ false) → anyReference (types ts) ≡ false
+  unfolding anyReference or
+  no-reference [] h = refl
+  no-reference (t ∷ ts) h =
+      ap (λ (b : Bool). or b (anyReference (types ts))) (h 0 (omega arith)) ∙ no-reference ts (λ i l. h (suc i) (omega arith))
+
+  pub codes-in : (ts cs : List ℕ) → length ts ≤ length cs → ((i : ℕ) → i < length ts → getD cs i 0 ≡ codeOf (typeAt w (getD ts i 0))) → take (length (types ts)) cs ≡ codesOf (types ts)
+  codes-in [] cs l h = refl
+  codes-in (t ∷ ts) [] l h = absurd (not-suc-le-zero l)
+  codes-in (t ∷ ts) (c ∷ cs) l h = λ i. h 0 (omega arith) i ∷ codes-in ts cs (omega arith) (λ k m. h (suc k) (omega arith)) i
+
+-- the part of the codes that is handed on
+pub codes-front : (w : List ℕ) (ts cs : List ℕ) → take (length (types w ts)) cs ≡ codesOf (types w ts) → take (length ts - 0) (drop 0 cs) ≡ codesOf (types w ts)
+codes-front w ts cs h = let z : length ts - 0 ≡ length ts = omega arith in ap (λ (k : ℕ). take k cs) (z ∙ sym (length-map ts (typeAt w))) ∙ h
+
+-- whether an operand is a reference, by its number
+module _ (w : List ℕ) (n : ℕ) (s : Sound w n) (t : ℕ) (l : t < n) (x : ℕ) (e : x ≡ codeOf (typeAt w t)) where
+  by-number : isReference (typeAt w t) ≡ eqb x 98
+  by-number = code-ref (typeAt w t) (formed-at w n s t l) .1 ∙ ap (λ (k : ℕ). eqb k 98) (sym e)
+
+  pub offered : x ≡ 98 → isReference (typeAt w t) ≡ true
+  offered h = by-number ∙ eq-eqb x 98 h
+
+  pub not-offered : x ≢ 98 → isReference (typeAt w t) ≡ false
+  not-offered h = by-number ∙ ne-eqb x 98 h

@@ -1,0 +1,111 @@
+-- `call_ty::load` meets its contract. The loop's invariant: the codes passed are the operands' numbers, and no operand passed is a reference. Assumes nothing.
+use Prim.Native.Nat.{ℕ, _≤_, _<_, _-_}
+use mathlib.Core.Bool.{false, not}
+use mathlib.Core.Path.{_≡_, refl, sym, _∙_, ap}
+use native.Mathlib.Omega.{arith}
+use lib.Seq.{getD-set-same, getD-set-other}
+use lib.ListN.{length, getD, set, length-set}
+use borrow.Author.Count.{below-more}
+use borrow.Author.Needs.{needs}
+use Rattle.conv.specs.Rank.{isReference}
+use Rattle.overload.specs.Code.{codeOf}
+use Rattle.table.proofs.KindLaws.{clash}
+use Rattle.table.specs.Denote.{typeAt}
+use Rattle.call_ty.proofs.Lists.{some-reference, no-reference, codes-in, offered, not-offered}
+use Rattle.call_ty.proofs.load.Statement.{statement}
+use Rattle.call_ty.proofs.load.Tie as tie
+
+abbrev Inv-loop : tie.InvT-loop
+Inv-loop words n args codes₀ i₀ codes i = (i ≤ length args) × (length codes ≡ length codes₀) × ((k : ℕ) → k < i → getD codes k 0 ≡ codeOf (typeAt words (getD args k 0))) × ((k : ℕ) → k < i → isReference (typeAt words (getD args k 0)) ≡ false)
+
+abbrev μ-loop : tie.MeasureT-loop
+μ-loop words n args codes₀ i₀ codes i = length args - i
+
+loop-holds : tie.Need-loop-holds Inv-loop μ-loop
+loop-holds c = (search needs, refl, (λ k h. absurd (omega arith)), (λ k h. absurd (omega arith)))
+
+mul-wide : tie.Need-mul-wide Inv-loop μ-loop
+mul-wide c = search needs
+
+shared-slice-read-wide : tie.Need-shared-slice-read-wide Inv-loop μ-loop
+shared-slice-read-wide c = search needs
+
+wide-requires : tie.Need-wide-requires Inv-loop μ-loop
+wide-requires c κs = search needs
+
+code-at-requires : tie.Need-code-at-requires Inv-loop μ-loop
+code-at-requires c κs = let s = c .before .before .before .before .before .before .before in let e = c .wide .ensures in let l = s .pre .1 (c .before .before .before .loop .i) (c .before .before .loop-test .taken) in (s .pre .0, omega arith)
+
+same-length : tie.Need-same-length Inv-loop μ-loop
+same-length c = c .before .before .before .before .before .loop .inv .1
+
+returns : tie.Need-returns Inv-loop μ-loop
+returns c = let s = c .before .before .before .before .before .before .before .before .before in
+    let a = s .args in
+    let i = c .before .before .before .before .before .loop .i in
+    let l = c .before .before .before .before .loop-test .taken in
+    let e = c .before .code-at .ensures ∙ ap (λ (k : ℕ). codeOf (typeAt (a .words .now) k)) (c .before .before .wide .ensures) in
+    record {
+      reply = sym (ap not (some-reference (a .words .now) (a .args .now) i l (offered (a .words .now) (a .n) (s .pre .0) (getD (a .args .now) i 0) (s .pre .1 i l) _ e (c .if1 .taken))));
+      numbers = λ h. clash h refl;
+    }
+
+slice-write-codes : tie.Need-slice-write-codes Inv-loop μ-loop
+slice-write-codes c = let s = c .before .before .before .before .before .before .before .before .before in let p = s .pre .2 in let q = c .before .before .before .before .before .loop .inv .1 in let l = c .before .before .before .before .loop-test .taken in omega arith
+
+add-i : tie.Need-add-i Inv-loop μ-loop
+add-i c = search needs
+
+loop-less : tie.Need-loop-less Inv-loop μ-loop
+loop-less c = search needs
+
+loop-again : tie.Need-loop-again Inv-loop μ-loop
+loop-again c = let s = c .before .before .before .before .before .before .before .before .before in
+    let a = s .args in
+    let i = c .before .before .before .before .before .loop .i in
+    let l = c .before .before .before .before .loop-test .taken in
+    let cs = c .before .before .before .before .before .loop .codes in
+    let v = c .before .before .before .before .before .loop .inv in
+    let x = c .before .code-at .result in
+    let e = c .before .code-at .ensures ∙ ap (λ (k : ℕ). codeOf (typeAt (a .words .now) k)) (c .before .before .wide .ensures) in
+    let q = v .1 in
+    let p = s .pre .2 in (
+      search needs,
+      length-set cs i x ∙ q,
+      below-more (λ (k : ℕ). getD (set cs i x) k 0 ≡ codeOf (typeAt (a .words .now) (getD (a .args .now) k 0))) i (λ k h. getD-set-other cs i k x 0 (λ z. omega arith) ∙ v .2 k h) (getD-set-same cs i x 0 (omega arith) ∙ e),
+      below-more (λ (k : ℕ). isReference (typeAt (a .words .now) (getD (a .args .now) k 0)) ≡ false) i (v .3) (not-offered (a .words .now) (a .n) (s .pre .0) (getD (a .args .now) i 0) (s .pre .1 i l) _ e (c .if1 .left)),
+    )
+
+same-length-2 : tie.Need-same-length-2 Inv-loop μ-loop
+same-length-2 c = c .before .loop .inv .1
+
+returns-2 : tie.Need-returns-2 Inv-loop μ-loop
+returns-2 c = let s = c .before .before .before .before .before in
+    let a = s .args in
+    let v = c .before .loop .inv in
+    let q = v .1 in
+    let p = s .pre .2 in
+    record {
+      reply = sym (ap not (no-reference (a .words .now) (a .args .now) (λ k l. v .3 k (omega arith))));
+      numbers = λ h. codes-in (a .words .now) (a .args .now) (c .before .loop .codes) (omega arith) (λ k l. v .2 k (omega arith));
+    }
+
+pub load-spec : {M : Type 1} → statement M
+load-spec =
+    tie.close
+    (tie.spec
+    Inv-loop
+    μ-loop
+    loop-holds
+    mul-wide
+    shared-slice-read-wide
+    wide-requires
+    code-at-requires
+    same-length
+    returns
+    slice-write-codes
+    add-i
+    loop-less
+    loop-again
+    same-length-2
+    returns-2)

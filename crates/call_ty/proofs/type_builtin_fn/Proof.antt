@@ -1,0 +1,89 @@
+-- `call_ty::type_builtin_fn` meets its contract: 1, then 2 over both lists, then the call. Assumes nothing.
+use mathlib.Core.Path.{sym, _∙_}
+use borrow.Author.Tests.{not-true, not-false}
+use borrow.Author.Needs.{needs}
+use Rattle.table.proofs.SoundLaws.{sound-of}
+use Rattle.ruled.proofs.Outcomes.{gave-as, gave-refused}
+use Rattle.call_ty.proofs.Ways.{single-unsound, single-template, single-operand, single-call}
+use Rattle.call_ty.proofs.Lists.{all-under}
+use Rattle.call_ty.proofs.type_builtin_fn.Statement.{statement}
+use Rattle.call_ty.proofs.type_builtin_fn.Tie as tie
+
+sound-requires : tie.Need-sound-requires
+sound-requires c κs = search needs
+
+refused-requires : tie.Need-refused-requires
+refused-requires c κs = search needs
+
+same-length : tie.Need-same-length
+same-length c = search needs
+
+returns : tie.Need-returns
+returns c = let a = c .before .before .before .before .before .before .before .before .args in
+    gave-as (single-unsound (a .words .now) (a .n) (a .name .now) (a .tplt .now) (a .args .now) (sym (c .before .before .sound .ensures) ∙ not-true _ (c .before .if1 .taken))) (gave-refused _ _ (a .words .now) (a .n) (c .refused .ensures))
+
+all-under-requires : tie.Need-all-under-requires
+all-under-requires c κs = search needs
+
+refused-requires-2 : tie.Need-refused-requires-2
+refused-requires-2 c κs = search needs
+
+same-length-2 : tie.Need-same-length-2
+same-length-2 c = search needs
+
+returns-2 : tie.Need-returns-2
+returns-2 c = let a = c .before .before .before .before .before .before .before .before .before .before .args in
+    gave-as
+    (single-template (a .words .now) (a .n) (a .name .now) (a .tplt .now) (a .args .now) (sym (c .before .before .before .before .sound .ensures) ∙ not-false _ (c .before .before .before .if1 .left)) (sym (c .before .before .all-under .ensures) ∙ not-true _ (c .before .if2 .taken)))
+    (gave-refused _ _ (a .words .now) (a .n) (c .refused2 .ensures))
+
+all-under-requires-2 : tie.Need-all-under-requires-2
+all-under-requires-2 c κs = search needs
+
+refused-requires-3 : tie.Need-refused-requires-3
+refused-requires-3 c κs = search needs
+
+same-length-3 : tie.Need-same-length-3
+same-length-3 c = search needs
+
+returns-3 : tie.Need-returns-3
+returns-3 c = let a = c .before .before .before .before .before .before .before .before .before .before .before .before .args in
+    gave-as
+    (single-operand (a .words .now) (a .n) (a .name .now) (a .tplt .now) (a .args .now) (sym (c .before .before .before .before .before .before .sound .ensures) ∙ not-false _ (c .before .before .before .before .before .if1 .left)) (sym (c .before .before .before .before .all-under .ensures) ∙ not-false _ (c .before .before .before .if2 .left)) (sym (c .before .before .all-under2 .ensures) ∙ not-true _ (c .before .if3 .taken)))
+    (gave-refused _ _ (a .words .now) (a .n) (c .refused3 .ensures))
+
+call-at-requires : tie.Need-call-at-requires
+call-at-requires c κs = let a = c .before .before .before .before .before .before .before .before .before .before .before .before .args in (
+  sound-of (a .words .now) (a .n) (sym (c .before .before .before .before .before .before .sound .ensures) ∙ not-false _ (c .before .before .before .before .before .if1 .left)),
+  all-under (a .n) (a .tplt .now) (sym (c .before .before .before .before .all-under .ensures) ∙ not-false _ (c .before .before .before .if2 .left)),
+  all-under (a .n) (a .args .now) (sym (c .before .before .all-under2 .ensures) ∙ not-false _ (c .before .if3 .left)),
+)
+
+same-length-4 : tie.Need-same-length-4
+same-length-4 c = search needs
+
+returns-4 : tie.Need-returns-4
+returns-4 c = let a = c .before .before .before .before .before .before .before .before .before .before .before .before .before .before .before .args in
+    gave-as
+    (single-call (a .words .now) (a .n) (a .name .now) (a .tplt .now) (a .args .now) (sym (c .before .before .before .before .before .before .before .before .before .sound .ensures) ∙ not-false _ (c .before .before .before .before .before .before .before .before .if1 .left)) (sym (c .before .before .before .before .before .before .before .all-under .ensures) ∙ not-false _ (c .before .before .before .before .before .before .if2 .left)) (sym (c .before .before .before .before .before .all-under2 .ensures) ∙ not-false _ (c .before .before .before .before .if3 .left)))
+    (c .before .before .call-at .ensures)
+
+pub type-builtin-fn-spec : {M : Type 1} → statement M
+type-builtin-fn-spec =
+    tie.close
+    (tie.spec
+    sound-requires
+    refused-requires
+    same-length
+    returns
+    all-under-requires
+    refused-requires-2
+    same-length-2
+    returns-2
+    all-under-requires-2
+    refused-requires-3
+    same-length-3
+    returns-3
+    call-at-requires
+    same-length-4
+    returns-4)

@@ -1,0 +1,127 @@
+-- The builtins of document 01, by their names, and what a call of one does. Assumes nothing.
+use Prim.Native.Nat.{ℕ}
+use mathlib.Core.Bool.{Bool, true, _&&_, _||_, not, cond}
+use mathlib.Core.List.{List, [], _∷_, map}
+use lib.Dec.{eqb, ltb}
+use lib.ListN.{length, getD}
+use Rattle.conv.specs.Types.{Ty, bool, abstractInt, i32, u32, isFloat, isAbstract}
+use Rattle.conv.specs.Types.Ty.{scalar}
+use Rattle.conv.specs.Rank.{tagOf, componentOf}
+use Rattle.overload.specs.Overload.{Judged}
+use Rattle.overload.specs.Overload.Judged.{gives, noneFits}
+use Rattle.overload.specs.Rows.{Family, rows, judgeRow}
+use Rattle.names.specs.Names.{Known, ruleOf, overloadRows, ruleBitcast, ruleArrayLength, ruleLdexp}
+use Rattle.names.specs.Names.Known.{known, unknown}
+use Rattle.table.specs.Table.{soundb}
+use Rattle.table.specs.Denote.{typeAt}
+use Rattle.table.specs.Placing.{Outcome, turnedDown}
+use Rattle.table.specs.declared.answer.Reason.the-variants.{Unsound, NoSuchType, Reference, Unknown, Template, Operands}
+use Rattle.table.specs.declared.answer.Answer.the-variants.{NoValue}
+use Rattle.ruled.specs.Call.{anyReference, judgedOutcome}
+
+-- WORDS OF THE CRATE RULES
+
+abbrev pub isScalar : Ty → Bool
+isScalar t = eqb (tagOf t) 0
+
+abbrev pub isVector : Ty → Bool
+isVector t = eqb (tagOf t) 1
+
+-- "Float means AbstractFloat, f32, f16; numeric adds AbstractInt, i32, u32"
+abbrev pub isNumeric : ℕ → Bool
+isNumeric s = isFloat s || eqb s abstractInt || eqb s i32 || eqb s u32
+
+unfoldable pub wideNumeric : Ty → Bool
+wideNumeric t = (isScalar t || isVector t) && isNumeric (componentOf t)
+
+-- the first and the second of a list
+abbrev pub firstIn : List Ty → Ty
+firstIn ts = getD ts 0 (scalar bool)
+
+abbrev pub secondIn : List Ty → Ty
+secondIn ts = getD ts 1 (scalar bool)
+
+-- THE TEMPLATE LIST: "`bitcast` with one template type, numeric scalar or vector (else 5)"; no other builtin wants one
+
+unfoldable pub templateRight : ℕ → List Ty → Bool
+templateRight rule ts = cond (eqb rule ruleBitcast) (eqb (length ts) 1 && wideNumeric (firstIn ts)) (eqb (length ts) 0)
+
+-- HOW MANY OPERANDS a rule wants: of a row as many as its overloads have parameters; `bitcast` and `arrayLength` one, `ldexp` two, a barrier none
+
+unfoldable pub operandsIn : List Family → ℕ
+operandsIn [] = 0
+operandsIn (f ∷ fs) = length (f .params)
+
+unfoldable pub operandsOf : ℕ → ℕ
+operandsOf rule =
+    cond (ltb rule overloadRows) (operandsIn (getD rows rule []))
+    (cond (eqb rule ruleBitcast) 1
+    (cond (eqb rule ruleArrayLength) 1
+    (cond (eqb rule ruleLdexp) 2 0)))
+
+-- THE RULES, on operands of which none is a reference
+
+-- "`ldexp`: a float with AbstractInt or i32, or a float vector with such a vector of any width, both concrete or both abstract"
+unfoldable pub ldexpTakes : Ty → Ty → Bool
+ldexpTakes t u =
+    ((isScalar t && isScalar u) || (isVector t && isVector u))
+    && isFloat (componentOf t)
+    && (eqb (componentOf u) abstractInt || eqb (componentOf u) i32)
+    && ((not (isAbstract (componentOf t)) && not (isAbstract (componentOf u))) || (isAbstract (componentOf t) && isAbstract (componentOf u)))
+
+-- ".. gives the first type"; else 8
+unfoldable pub judgeLdexp : Ty → Ty → Judged
+judgeLdexp t u = cond (ldexpTakes t u) (gives t) noneFits
+
+-- what a rule gives: a judgment, or no value at all
+pub data Given : Type 0 where
+  judgment : Judged → Given
+  nothing : Given
+
+-- a ruled name by its row; `bitcast` gives its template type; "`arrayLength`, one operand, gives u32"; `ldexp`;
+-- "storageBarrier, textureBarrier, workgroupBarrier: no operand, no value"
+unfoldable pub givenBy : ℕ → List Ty → List Ty → Given
+givenBy rule ts us =
+    cond (ltb rule overloadRows) (judgment (judgeRow rule us))
+    (cond (eqb rule ruleBitcast) (judgment (gives (firstIn ts)))
+    (cond (eqb rule ruleArrayLength) (judgment (gives (scalar u32)))
+    (cond (eqb rule ruleLdexp) (judgment (judgeLdexp (firstIn us) (secondIn us)))
+    nothing)))
+
+-- 8, 13, 9 or the type's number; where there is no value the table stays as it is
+abbrev pub withoutValue : List ℕ → ℕ → Outcome
+withoutValue w n = record { answer = NoValue n; words = w }
+
+unfoldable pub givenOutcome : ℕ → List ℕ → ℕ → Given → Outcome
+givenOutcome place w n (judgment j) = judgedOutcome place w n j
+givenOutcome place w n nothing = withoutValue w n
+
+-- A CALL ON LOADED OPERANDS, at a place: 4 an unknown name, 5 the template list, 7 the operand count, 3 a reference offered, then its rule
+
+unfoldable pub byRule : ℕ → List ℕ → ℕ → Known → List Ty → List Ty → Outcome
+byRule place w n unknown ts us = turnedDown Unknown place w n
+byRule place w n (known rule) ts us =
+    cond (templateRight rule ts)
+    (cond (eqb (length us) (operandsOf rule))
+    (cond (anyReference us) (turnedDown Reference place w n) (givenOutcome place w n (givenBy rule ts us)))
+    (turnedDown Operands place w n))
+    (turnedDown Template place w n)
+
+abbrev pub callOutcome : ℕ → List ℕ → ℕ → List ℕ → List Ty → List Ty → Outcome
+callOutcome place w n name ts us = byRule place w n (ruleOf name) ts us
+
+-- A SINGLE CALL, at place 0: 1, then 2 over the template list and over the operands, before these
+
+unfoldable pub allUnder : ℕ → List ℕ → Bool
+allUnder n [] = true
+allUnder n (t ∷ ts) = ltb t n && allUnder n ts
+
+unfoldable pub typeBuiltinFn : List ℕ → ℕ → List ℕ → List ℕ → List ℕ → Outcome
+typeBuiltinFn w n name tplt args =
+    cond (soundb w n)
+    (cond (allUnder n tplt)
+    (cond (allUnder n args)
+    (callOutcome 0 w n name (map (typeAt w) tplt) (map (typeAt w) args))
+    (turnedDown NoSuchType 0 w n))
+    (turnedDown NoSuchType 0 w n))
+    (turnedDown Unsound 0 w n)

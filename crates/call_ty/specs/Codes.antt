@@ -1,0 +1,32 @@
+-- What the code goes by: operands by their numbers, and the lists that a caller of `call_at` has checked. Assumes nothing.
+use Prim.Native.Nat.{ℕ, _%_, _<_}
+use mathlib.Core.Path.{_≡_}
+use mathlib.Core.Bool.{Bool, true, _&&_, _||_, not}
+use mathlib.Core.List.{List, map}
+use lib.Dec.{eqb, ltb, leb}
+use lib.ListN.{length, getD, take}
+use Rattle.conv.specs.Types.{Ty, abstractInt, i32, isFloat, isAbstract}
+use Rattle.overload.specs.Code.{codeOf}
+use Rattle.ruled.specs.Call.{anyReference}
+use Rattle.call_ty.specs.Calls.{isNumeric}
+
+-- every number of the list is below n
+abbrev pub Under : ℕ → List ℕ → Type 0
+Under n ts = (i : ℕ) → i < length ts → getD ts i 0 < n
+
+-- the operands' numbers stand in front, where none is a reference
+pub record Loaded (us : List Ty) (r : Bool) (codes : List ℕ) : Type 0 where
+  pub reply : r ≡ not (anyReference us)
+  pub numbers : r ≡ true → take (length us) codes ≡ map codeOf us
+
+-- a numeric scalar or vector, by its number
+abbrev pub numericCode : ℕ → Bool
+numericCode x = ltb x 28 && isNumeric (x % 7)
+
+-- operands that `ldexp` takes, by their numbers
+abbrev pub ldexpCodes : ℕ → ℕ → Bool
+ldexpCodes x y =
+    ((ltb x 7 && ltb y 7) || ((leb 7 x && ltb x 28) && (leb 7 y && ltb y 28)))
+    && isFloat (x % 7)
+    && (eqb (y % 7) abstractInt || eqb (y % 7) i32)
+    && ((not (isAbstract (x % 7)) && not (isAbstract (y % 7))) || (isAbstract (x % 7) && isAbstract (y % 7)))

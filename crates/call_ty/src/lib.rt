@@ -1,0 +1,263 @@
+// The result types of builtins, as wgsl-types' `call_ty.rs` has them, by the standard and by the crate's rules.
+use names::Rule;
+use ruled::REFERENCE;
+use table::Answer;
+use table::Place;
+use table::Reason;
+use table::TypeNo;
+ghost use mathlib.Core.Path.{_≡_};
+ghost use mathlib.Core.Bool.{true};
+ghost use mathlib.Core.List.{map};
+ghost use Prim.Native.Nat.{_<_, _≤_};
+ghost use lib.ListN.{length};
+ghost use Rattle.names.specs.Names.Known.{known};
+ghost use Rattle.conv.specs.Types.{isFloat, isAbstract};
+ghost use Rattle.table.specs.Table.{Sound};
+ghost use Rattle.table.specs.Denote.{typeAt};
+ghost use Rattle.table.specs.Placing.{Gave};
+ghost use Rattle.ruled.specs.Call.{judgedOutcome};
+ghost use Rattle.call_ty.specs.Calls.{templateRight, operandsOf, judgeLdexp, givenBy, givenOutcome, byRule, callOutcome, allUnder, typeBuiltinFn};
+ghost use Rattle.call_ty.specs.Codes.{Under, Loaded, numericCode, ldexpCodes};
+
+// The rows of overloads: a rule below is a row.
+const ROWS: u8 = 47;
+// The most operands of a rule.
+const MOST: usize = 4;
+// An operand's number is below this where it is a scalar, and below the second where it is a scalar or a vector.
+const SCALARS: u8 = 7;
+
+const PLAINS: u8 = 28;
+// The scalars, as an operand's number has them.
+const ABSTRACT_INT: u8 = 1;
+
+const ABSTRACT_FLOAT: u8 = 2;
+
+const I32: u8 = 3;
+
+const U32: u8 = 4;
+
+const F32: u8 = 5;
+
+const F16: u8 = 6;
+
+fn wide(x: u8) -> usize
+    ensures { λ r. ⌜ r ≡ x ⌝ }
+{
+    x as usize
+}
+
+fn is_float(s: u8) -> bool
+    ensures { λ r. ⌜ r ≡ isFloat s ⌝ }
+{
+    (s == ABSTRACT_FLOAT) | (s == F32) | (s == F16)
+}
+
+fn is_abstract(s: u8) -> bool
+    ensures { λ r. ⌜ r ≡ isAbstract s ⌝ }
+{
+    (s == ABSTRACT_INT) | (s == ABSTRACT_FLOAT)
+}
+
+// The number of a numeric scalar or vector.
+fn numeric_code(x: u8) -> bool
+    ensures { λ r. ⌜ r ≡ numericCode x ⌝ }
+{
+    let s = x % SCALARS;
+    (x < PLAINS) & (is_float(s) | (s == ABSTRACT_INT) | (s == I32) | (s == U32))
+}
+
+// The numbers of two operands that `ldexp` takes.
+fn ldexp_codes(x: u8, y: u8) -> bool
+    ensures { λ r. ⌜ r ≡ ldexpCodes x y ⌝ }
+{
+    let s = x % SCALARS;
+    let t = y % SCALARS;
+    let scalars = (x < SCALARS) & (y < SCALARS);
+    let vectors = ((SCALARS <= x) & (x < PLAINS)) & ((SCALARS <= y) & (y < PLAINS));
+    let abstracts = is_abstract(s) & is_abstract(t);
+    let concretes = !is_abstract(s) & !is_abstract(t);
+    (scalars | vectors) & is_float(s) & ((t == ABSTRACT_INT) | (t == I32)) & (concretes | abstracts)
+}
+
+// How many operands a rule wants: the rows of overloads by their numbers, then the crate rules.
+fn operands_of(rule: u8) -> usize
+    ensures { λ r. ⌜ r ≡ operandsOf rule ⌝ }
+{
+    let two = ((3 <= rule) & (rule <= 11))
+        | (rule == 13)
+        | (rule == 17)
+        | (rule == 23)
+        | (rule == 24)
+        | (rule == 26)
+        | (rule == 29)
+        | (rule == 43)
+        | (rule == 44);
+    if two {
+        return 2;
+    }
+    let three = (rule == 14)
+        | (rule == 15)
+        | (rule == 18)
+        | (rule == 20)
+        | (rule == 27)
+        | (rule == 28)
+        | (rule == 46);
+    if three {
+        return 3;
+    }
+    let four = rule == 21;
+    if four {
+        return 4;
+    }
+    if rule == names::RULE_LDEXP {
+        return 2;
+    }
+    if (rule < ROWS) | (rule == names::RULE_BITCAST) | (rule == names::RULE_ARRAY_LENGTH) {
+        return 1;
+    }
+    0
+}
+
+// Whether every number of the list is below n.
+fn all_under(list: &[u32], n: usize) -> bool
+    ensures { λ r. ⌜ r ≡ allUnder n (now (list .entry)) ⌝ }
+{
+    let mut i = 0;
+    while i < list.len() {
+        if n <= table::wide(list[i]) {
+            return false;
+        }
+        i += 1;
+    }
+    true
+}
+
+// The template list is as the rule wants it: one numeric scalar or vector for `bitcast`, none for every other.
+fn template_right(words: &[u32], n: usize, rule: u8, tplt: &[u32]) -> bool
+    requires { ⌜ Sound (now words) n × Under n (now tplt) ⌝ }
+    ensures { λ r. ⌜ r ≡ templateRight rule (map (typeAt (now (words .entry))) (now (tplt .entry))) ⌝ }
+{
+    if rule != names::RULE_BITCAST {
+        return tplt.len() == 0;
+    }
+    if tplt.len() != 1 {
+        return false;
+    }
+    numeric_code(ruled::code_at(words, n, table::wide(tplt[0])))
+}
+
+// The numbers of the operands, in their order; and whether none of them is a reference.
+fn load(words: &[u32], n: usize, args: &[u32], codes: &mut [u8]) -> bool
+    requires { ⌜ Sound (now words) n × Under n (now args) × (length (now args) ≤ length (now codes)) ⌝ }
+    ensures { λ r. ⌜ Loaded (map (typeAt (now (words .entry))) (now (args .entry))) r (now (codes .exit)) ⌝ }
+{
+    let mut i = 0;
+    while i < args.len() {
+        let x = ruled::code_at(words, n, table::wide(args[i]));
+        if x == REFERENCE {
+            return false;
+        }
+        codes[i] = x;
+        i += 1;
+    }
+    true
+}
+
+// `ldexp` on two loaded operands.
+fn ldexp_at(words: &[u32], n: usize, place: Place, a: usize, b: usize) -> Answer
+    requires { ⌜ Sound (now words) n × (a < n) × (b < n) ⌝ }
+    ensures { λ r. ⌜ Gave (judgedOutcome (place .0) (now (words .entry)) n (judgeLdexp (typeAt (now (words .entry)) a) (typeAt (now (words .entry)) b))) r (now (words .entry)) ⌝ }
+{
+    let x = ruled::code_at(words, n, a);
+    let y = ruled::code_at(words, n, b);
+    if ldexp_codes(x, y) {
+        return table::accepted(TypeNo(a), n);
+    }
+    table::refused(Reason::NoOverload, place, n)
+}
+
+// A crate rule on loaded operands: each of its types stands in the table already.
+fn crate_rule(words: &[u32], n: usize, place: Place, rule: u8, tplt: &[u32], args: &[u32]) -> Answer
+    requires { ⌜ Sound (now words) n × Under n (now tplt) × Under n (now args) × (47 ≤ rule) × (templateRight rule (map (typeAt (now words)) (now tplt)) ≡ true) × (length (now args) ≡ operandsOf rule) ⌝ }
+    ensures { λ r. ⌜ Gave (givenOutcome (place .0) (now (words .entry)) n (givenBy rule (map (typeAt (now (words .entry))) (now (tplt .entry))) (map (typeAt (now (words .entry))) (now (args .entry))))) r (now (words .entry)) ⌝ }
+{
+    if rule == names::RULE_BITCAST {
+        return table::accepted(TypeNo(table::wide(tplt[0])), n);
+    }
+    if rule == names::RULE_ARRAY_LENGTH {
+        return table::accepted(TypeNo(table::U32), n);
+    }
+    if rule == names::RULE_LDEXP {
+        return ldexp_at(words, n, place, table::wide(args[0]), table::wide(args[1]));
+    }
+    table::no_value(n)
+}
+
+// A call of a builtin by its rule: 5, 7, 3, then the rule itself.
+fn by_rule(
+    words: &mut [u32],
+    n: usize,
+    place: Place,
+    rule: u8,
+    tplt: &[u32],
+    args: &[u32],
+) -> Answer
+    requires { ⌜ Sound (now words) n × Under n (now tplt) × Under n (now args) ⌝ }
+    ensures { λ r. ⌜ Gave (byRule (place .0) (now (words .entry)) n (known rule) (map (typeAt (now (words .entry))) (now (tplt .entry))) (map (typeAt (now (words .entry))) (now (args .entry)))) r (now (words .exit)) ⌝ }
+{
+    if !template_right(words, n, rule, tplt) {
+        return table::refused(Reason::Template, place, n);
+    }
+    let k = args.len();
+    if k != operands_of(rule) {
+        return table::refused(Reason::Operands, place, n);
+    }
+    let mut codes = [0u8; MOST];
+    if !load(words, n, args, &mut codes) {
+        return table::refused(Reason::Reference, place, n);
+    }
+    if rule < ROWS {
+        return ruled::judge_codes(words, n, place, wide(rule), &codes[0..k]);
+    }
+    crate_rule(words, n, place, rule, tplt, args)
+}
+
+// A call of a builtin on loaded operands, at a place.
+pub fn call_at(
+    words: &mut [u32],
+    n: usize,
+    place: Place,
+    name: &[u8],
+    tplt: &[u32],
+    args: &[u32],
+) -> Answer
+    requires { ⌜ Sound (now words) n × Under n (now tplt) × Under n (now args) ⌝ }
+    ensures { λ r. ⌜ Gave (callOutcome (place .0) (now (words .entry)) n (now (name .entry)) (map (typeAt (now (words .entry))) (now (tplt .entry))) (map (typeAt (now (words .entry))) (now (args .entry)))) r (now (words .exit)) ⌝ }
+{
+    match names::rule_of(name) {
+        Rule::Is(rule) => by_rule(words, n, place, rule, tplt, args),
+        Rule::Unknown => table::refused(Reason::Unknown, place, n),
+    }
+}
+
+// For a host: the type of a call of the builtin with that name, that template list, empty for none, and those operands.
+pub fn type_builtin_fn(
+    words: &mut [u32],
+    n: usize,
+    name: &[u8],
+    tplt: &[u32],
+    args: &[u32],
+) -> Answer
+    ensures { λ r. ⌜ Gave (typeBuiltinFn (now (words .entry)) n (now (name .entry)) (now (tplt .entry)) (now (args .entry))) r (now (words .exit)) ⌝ }
+{
+    if !table::sound(words, n) {
+        return table::refused(Reason::Unsound, Place(0), n);
+    }
+    if !all_under(tplt, n) {
+        return table::refused(Reason::NoSuchType, Place(0), n);
+    }
+    if !all_under(args, n) {
+        return table::refused(Reason::NoSuchType, Place(0), n);
+    }
+    call_at(words, n, Place(0), name, tplt, args)
+}

@@ -1,0 +1,80 @@
+-- What the inner functions promise: a head by its digits, the entry of a template, and what is known of a template before it is entered.
+-- The promise of a call is read without it. Assumes nothing.
+use Prim.Native.Nat.{ℕ, _<_}
+use mathlib.Core.Path.{_≡_}
+use mathlib.Core.Bool.{Bool, true, false, cond}
+use mathlib.Core.List.{List}
+use lib.Dec.{eqb}
+use Rattle.conv.specs.Types.{Ty, formed}
+use Rattle.table.specs.Table.{kindVec, kindMat, kindArray, kindRuntime, kindAtomic}
+use Rattle.table.specs.Placing.{Outcome, entering}
+use Rattle.table.specs.declared.Entry.{Entry}
+use Rattle.table.specs.declared.answer.Answer.{Answer}
+use Rattle.tplt.specs.declared.head.Head.{Head}
+use Rattle.tplt.specs.declared.head.Head.the-variants.{Vector, Matrix, NoHead}
+use Rattle.tplt.specs.declared.param.Arguments.{Arguments}
+use Rattle.tplt.specs.declared.param.Arguments.the-variants.{One, Two, Amiss}
+use Rattle.tplt.specs.declared.param.ArrayCount.{ArrayCount}
+use Rattle.tplt.specs.declared.param.ArrayCount.the-variants.{Of, Without, Unfit}
+use Rattle.tplt.specs.declared.VecTemplate.{VecTemplate}
+use Rattle.tplt.specs.declared.MatTemplate.{MatTemplate}
+use Rattle.tplt.specs.declared.AtomicTemplate.{AtomicTemplate}
+use Rattle.tplt.specs.declared.ArrayTemplate.{ArrayTemplate}
+use Rattle.tplt.specs.declared.Parsed.{Parsed}
+use Rattle.tplt.specs.declared.Parsed.the-variants.{OfVec, OfMat, OfAtomic, OfArray, Wrong}
+use Rattle.tplt.specs.Templates.{typeOf, outcomeOf}
+
+-- the width that a digit says, 0 for none, and the head of a width, or of two
+abbrev pub widthOf : ℕ → ℕ
+widthOf b = cond (eqb b 50) 2 (cond (eqb b 51) 3 (cond (eqb b 52) 4 0))
+
+abbrev pub vectorHead : ℕ → Head
+vectorHead n = cond (eqb n 0) NoHead (Vector n)
+
+abbrev pub matrixHead : ℕ → ℕ → Head
+matrixHead c r = cond (eqb c 0) NoHead (cond (eqb r 0) NoHead (Matrix c r))
+
+-- the entry of a template
+abbrev pub vecEntry : VecTemplate → Entry
+vecEntry t = record { kind = kindVec; p = t .n; q = 0; elem = t .ty .0 }
+
+abbrev pub matEntry : MatTemplate → Entry
+matEntry t = record { kind = kindMat; p = t .c; q = t .r; elem = t .ty .0 }
+
+abbrev pub atomicEntry : AtomicTemplate → Entry
+atomicEntry t = record { kind = kindAtomic; p = 0; q = 0; elem = t .ty .0 }
+
+abbrev pub countEntry : ArrayCount → ℕ → Entry
+countEntry (Of k) t = record { kind = kindArray; p = k; q = 0; elem = t }
+countEntry Without t = record { kind = kindRuntime; p = 0; q = 0; elem = t }
+countEntry Unfit t = record { kind = kindRuntime; p = 0; q = 0; elem = t }
+
+abbrev pub arrayEntry : ArrayTemplate → Entry
+arrayEntry t = countEntry (t .n) (t .ty .0)
+
+-- an argument's number is below n, and so is a template's, whose type is formed
+abbrev pub numberOf : Arguments → ℕ
+numberOf (One t) = t .0
+numberOf (Two t p) = t .0
+numberOf Amiss = 0
+
+abbrev pub Below : ℕ → Arguments → Type 0
+Below n a = numberOf a < n
+
+abbrev pub numberIn : Parsed → ℕ
+numberIn (OfVec t) = t .ty .0
+numberIn (OfMat t) = t .ty .0
+numberIn (OfAtomic t) = t .ty .0
+numberIn (OfArray t) = t .ty .0
+numberIn (Wrong r) = 0
+
+pub record Fit (w : List ℕ) (n : ℕ) (p : Parsed) : Type 0 where
+  pub below : numberIn p < n
+  pub good : formed (typeOf w p) ≡ true
+
+-- the outcome of a type, and of a template
+pub record Entering (w : List ℕ) (n : ℕ) (R : Ty) (r : Answer) (after : List ℕ) : Type 0 where
+  pub outcome : record { answer = r; words = after } ≡ entering 0 w n R
+
+pub record Outcomes (w : List ℕ) (n : ℕ) (p : Parsed) (r : Answer) (after : List ℕ) : Type 0 where
+  pub outcome : record { answer = r; words = after } ≡ outcomeOf w n p

@@ -1,0 +1,109 @@
+-- Document 01, "Template types": a head with a list answers that type, entered if absent. Assumes nothing.
+use Prim.Native.Nat.{ℕ}
+use mathlib.Core.Path.{_≡_}
+use mathlib.Core.Bool.{Bool, true, false, _&&_, _||_, not, cond}
+use mathlib.Core.List.{List}
+use lib.Dec.{eqb}
+use lib.IntN.{ℤ}
+use Rattle.conv.specs.Types.{Ty, bool, i32, u32, f32, f16, isValue, isRuntime}
+use Rattle.conv.specs.Types.Ty.{scalar, vec, mat, array, runtime, atomic}
+use Rattle.table.specs.Table.{soundb}
+use Rattle.table.specs.Denote.{typeAt}
+use Rattle.table.specs.Placing.{Outcome, turnedDown, entering}
+use Rattle.table.specs.declared.answer.TypeNo.{TypeNo}
+use Rattle.table.specs.declared.answer.Reason.the-variants.{Unsound, NoSuchType, Unknown, Template, Count}
+use Rattle.table.specs.declared.answer.Answer.{Answer}
+use Rattle.tplt.specs.declared.head.Head.{Head}
+use Rattle.tplt.specs.declared.head.Head.the-variants.{Vector, Matrix, Atomic, Array, NoHead}
+use Rattle.tplt.specs.declared.param.Arguments.{Arguments}
+use Rattle.tplt.specs.declared.param.Arguments.the-variants.{One, Two, Amiss}
+use Rattle.tplt.specs.declared.param.ArrayCount.{ArrayCount}
+use Rattle.tplt.specs.declared.param.ArrayCount.the-variants.{Of, Without, Unfit}
+use Rattle.tplt.specs.declared.Parsed.{Parsed}
+use Rattle.tplt.specs.declared.Parsed.the-variants.{OfVec, OfMat, OfAtomic, OfArray, Wrong}
+use Rattle.tplt.specs.Heads.{headOf}
+use Rattle.tplt.specs.Params.{paramsOf, typesKnown, argumentsOf, countOf}
+
+-- "vec: bool, i32, u32, f32, f16": a scalar's number is its own
+abbrev pub isConcrete : ℕ → Bool
+isConcrete t = eqb t bool || eqb t i32 || eqb t u32 || eqb t f32 || eqb t f16
+
+unfoldable pub vecParsed : ℕ → Arguments → Parsed
+vecParsed n (One t) = cond (isConcrete (t .0)) (OfVec (record { n = n; ty = t })) (Wrong Template)
+vecParsed n (Two t p) = Wrong Template
+vecParsed n Amiss = Wrong Template
+
+-- "mat: f32, f16"
+abbrev pub isMatrixComponent : ℕ → Bool
+isMatrixComponent t = eqb t f32 || eqb t f16
+
+unfoldable pub matParsed : ℕ → ℕ → Arguments → Parsed
+matParsed c r (One t) = cond (isMatrixComponent (t .0)) (OfMat (record { c = c; r = r; ty = t })) (Wrong Template)
+matParsed c r (Two t p) = Wrong Template
+matParsed c r Amiss = Wrong Template
+
+-- "atomic: i32, u32"
+abbrev pub isAtomicComponent : ℕ → Bool
+isAtomicComponent t = eqb t i32 || eqb t u32
+
+unfoldable pub atomicParsed : Arguments → Parsed
+atomicParsed (One t) = cond (isAtomicComponent (t .0)) (OfAtomic (record { ty = t })) (Wrong Template)
+atomicParsed (Two t p) = Wrong Template
+atomicParsed Amiss = Wrong Template
+
+-- "array: a type (abstract too, crate rule), alone or with a literal"; of a pointer, a reference or an array without count it is 5
+-- before the count is looked at
+abbrev pub isElement : Ty → Bool
+isElement R = isValue R && not (isRuntime R)
+
+abbrev pub counted : TypeNo → ArrayCount → Parsed
+counted t (Of k) = OfArray (record { n = Of k; ty = t })
+counted t Without = Wrong Count
+counted t Unfit = Wrong Count
+
+unfoldable pub arrayParsed : List ℕ → Arguments → Parsed
+arrayParsed w (One t) = cond (isElement (typeAt w (t .0))) (OfArray (record { n = Without; ty = t })) (Wrong Template)
+arrayParsed w (Two t p) = cond (isElement (typeAt w (t .0))) (counted t (countOf p)) (Wrong Template)
+arrayParsed w Amiss = Wrong Template
+
+-- a head and a list, over a table
+unfoldable pub parsedOf : List ℕ → Head → Arguments → Parsed
+parsedOf w (Vector n) a = vecParsed n a
+parsedOf w (Matrix c r) a = matParsed c r a
+parsedOf w Atomic a = atomicParsed a
+parsedOf w Array a = arrayParsed w a
+parsedOf w NoHead a = Wrong Unknown
+
+-- the type of a template; a refusal has none, and bool stands in
+abbrev pub arrayOf : ArrayCount → Ty → Ty
+arrayOf (Of k) R = array k R
+arrayOf Without R = runtime R
+arrayOf Unfit R = runtime R
+
+unfoldable pub typeOf : List ℕ → Parsed → Ty
+typeOf w (OfVec t) = vec (t .n) (t .ty .0)
+typeOf w (OfMat t) = mat (t .c) (t .r) (t .ty .0)
+typeOf w (OfAtomic t) = atomic (t .ty .0)
+typeOf w (OfArray t) = arrayOf (t .n) (typeAt w (t .ty .0))
+typeOf w (Wrong r) = scalar bool
+
+-- the outcome: the type is entered if absent, or 9; else the reason, at place 0
+unfoldable pub outcomeOf : List ℕ → ℕ → Parsed → Outcome
+outcomeOf w n (OfVec t) = entering 0 w n (typeOf w (OfVec t))
+outcomeOf w n (OfMat t) = entering 0 w n (typeOf w (OfMat t))
+outcomeOf w n (OfAtomic t) = entering 0 w n (typeOf w (OfAtomic t))
+outcomeOf w n (OfArray t) = entering 0 w n (typeOf w (OfArray t))
+outcomeOf w n (Wrong r) = turnedDown r 0 w n
+
+-- the whole, in the order 1, 2, 4, 5, 6, 9
+unfoldable pub templateOutcome : List ℕ → ℕ → List ℕ → List ℤ → Outcome
+templateOutcome w n head args =
+    cond (soundb w n)
+    (cond (typesKnown (paramsOf n args))
+    (outcomeOf w n (parsedOf w (headOf head) (argumentsOf n args)))
+    (turnedDown NoSuchType 0 w n))
+    (turnedDown Unsound 0 w n)
+
+-- what the call promises: the answer, and every word afterwards
+pub record TemplateDone (w : List ℕ) (n : ℕ) (head : List ℕ) (args : List ℤ) (r : Answer) (after : List ℕ) : Type 0 where
+  pub outcome : record { answer = r; words = after } ≡ templateOutcome w n head args

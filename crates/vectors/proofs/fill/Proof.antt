@@ -1,0 +1,56 @@
+-- `vectors::fill` is safe and ends: the loop counts up. Assumes nothing.
+use Prim.Native.Nat.{_-_}
+use mathlib.Core.Path.{_≡_}
+use lib.ListN.{length}
+use borrow.Author.Needs.{needs}
+use Rattle.vectors.proofs.fill.Statement.{statement}
+use Rattle.vectors.proofs.fill.Tie as tie
+
+abbrev Inv-loop : tie.InvT-loop
+Inv-loop words₀ used₀ i₀ words used i = length words ≡ length words₀
+
+abbrev μ-loop : tie.MeasureT-loop
+μ-loop words₀ used₀ i₀ words used i = 55 - i
+
+loop-holds : tie.Need-loop-holds Inv-loop μ-loop
+loop-holds c = search needs
+
+entry-of-requires : tie.Need-entry-of-requires Inv-loop μ-loop
+entry-of-requires c κs = search needs
+
+enter-type-requires : tie.Need-enter-type-requires Inv-loop μ-loop
+enter-type-requires c κs = search needs
+
+used-of-requires : tie.Need-used-of-requires Inv-loop μ-loop
+used-of-requires c κs = search needs
+
+add-i : tie.Need-add-i Inv-loop μ-loop
+add-i c = search needs
+
+loop-less : tie.Need-loop-less Inv-loop μ-loop
+loop-less c = search needs
+
+loop-again : tie.Need-loop-again Inv-loop μ-loop
+loop-again c = search needs
+
+same-length : tie.Need-same-length Inv-loop μ-loop
+same-length c = search needs
+
+returns : tie.Need-returns Inv-loop μ-loop
+returns c = search needs
+
+pub fill-spec : {M : Type 1} → statement M
+fill-spec =
+    tie.close
+    (tie.spec
+    Inv-loop
+    μ-loop
+    loop-holds
+    entry-of-requires
+    enter-type-requires
+    used-of-requires
+    add-i
+    loop-less
+    loop-again
+    same-length
+    returns)

@@ -1,0 +1,212 @@
+// What the programs that replay vectors share: a table of the 55 plain and matrix types, the character of an answer, and the line that tells how many rows agreed.
+// Type i has the character '0' + i. Plain numbers come first, 0 to 27; then mat2x2 to mat4x4, each of AbstractFloat, f32 and f16.
+// The result types of frexp follow, then those of modf: over the scalar, vec2, vec3 and vec4, each of AbstractFloat, f32 and f16.
+use table::Answer;
+use table::Entry;
+use table::Refusal;
+ghost use mathlib.Core.Path.{_≡_};
+ghost use Prim.Native.Nat.{_≤_};
+ghost use lib.ListN.{length};
+
+// How many types the table holds.
+pub const TYPES: usize = 55;
+// Below these numbers stand the scalars and vectors, and all the types.
+const FIRST_MAT: u32 = 28;
+
+const END: u32 = 55;
+
+const SCALARS: u32 = 7;
+// The three floats.
+const ABSTRACT_FLOAT: u32 = 2;
+
+const F32: u32 = 5;
+
+const F16: u32 = 6;
+// The character of type 0, that of a refusal with number 8, and that of an answer which no row expects.
+pub const FIRST: u8 = b'0';
+
+pub const REFUSED: u8 = b'.';
+
+const OTHER: u8 = b'!';
+
+const LINE_END: u8 = 10;
+
+const NO_OVERLOAD: u8 = 8;
+// The words of a table of one type more.
+const WORDS: usize = 224;
+// The number of the first result type of frexp, and of modf.
+const FREXPS: u8 = 55;
+
+const MODFS: u8 = 67;
+
+// A float by its place among the three.
+fn float_no(k: u32) -> u32 {
+    if k == 0 {
+        return ABSTRACT_FLOAT;
+    }
+    if k == 1 {
+        return F32;
+    }
+    F16
+}
+
+// The entry of a vector or matrix by its number.
+fn entry_of(i: u32) -> Entry {
+    if i < FIRST_MAT {
+        return Entry {
+            kind: table::KIND_VEC,
+            p: i / SCALARS + 1,
+            q: 0,
+            elem: i % SCALARS,
+        };
+    }
+    let m = i - FIRST_MAT;
+    Entry {
+        kind: table::KIND_MAT,
+        p: m / 9 + 2,
+        q: m / 3 % 3 + 2,
+        elem: float_no(m % 3),
+    }
+}
+
+// The words of a table of the seven scalars, with room for 64 entries.
+pub fn scalars() -> [u32; 256]
+    ensures { λ r. ⌜ 256 ≡ length r ⌝ }
+{
+    let mut words = [0; 256];
+    words[table::STRIDE] = 1;
+    words[2 * table::STRIDE] = 2;
+    words[3 * table::STRIDE] = 3;
+    words[4 * table::STRIDE] = 4;
+    words[5 * table::STRIDE] = 5;
+    words[6 * table::STRIDE] = 6;
+    words
+}
+
+// The used count that an answer tells.
+fn used_of(answer: Answer) -> usize {
+    match answer {
+        Answer::Value(_, used) => used,
+        Answer::NoValue(used) => used,
+        Answer::Refused(refusal) => refusal.used,
+    }
+}
+
+// Enters the vectors and matrices in their order, and gives the used count.
+pub fn fill(words: &mut [u32]) -> usize {
+    let mut used = table::SCALARS;
+    for i in SCALARS..END {
+        used = used_of(table::enter_type(words, used, entry_of(i)));
+    }
+    used
+}
+
+// The place of a type that is a float scalar or vector, by its width and then its float, or OTHER.
+fn float_place(t: u32) -> u8 {
+    let width = t / SCALARS;
+    if 4 <= width {
+        return OTHER;
+    }
+    let of = t % SCALARS;
+    let w = (width as u8) * 3;
+    if of == ABSTRACT_FLOAT {
+        return w;
+    }
+    if of == F32 {
+        return w + 1;
+    }
+    if of == F16 {
+        return w + 2;
+    }
+    OTHER
+}
+
+// The character of the result type over a float's place, whose first has that number.
+fn result_char(first: u8, place: u8) -> u8 {
+    if 12 <= place {
+        return OTHER;
+    }
+    std::num::wrapping_add_u8(FIRST, std::num::wrapping_add_u8(first, place))
+}
+
+// The character of the entry after the 55.
+fn new_char(words: &[u32]) -> u8 {
+    if words.len() < WORDS {
+        return OTHER;
+    }
+    let e = table::entry_at(words, TYPES);
+    if (e.p != 0) | (e.q != 0) {
+        return OTHER;
+    }
+    if e.kind == table::KIND_FREXP {
+        return result_char(FREXPS, float_place(e.elem));
+    }
+    if e.kind == table::KIND_MODF {
+        return result_char(MODFS, float_place(e.elem));
+    }
+    OTHER
+}
+
+fn value_char(words: &[u32], t: usize, used: usize) -> u8 {
+    if t < TYPES {
+        if used != TYPES {
+            return OTHER;
+        }
+        return FIRST + t as u8;
+    }
+    if (t == TYPES) & (used == TYPES + 1) {
+        return new_char(words);
+    }
+    OTHER
+}
+
+fn refusal_char(refusal: Refusal) -> u8 {
+    let reason = refusal.reason;
+    let place = refusal.place;
+    if (table::reason_no(reason) == NO_OVERLOAD) & (place.0 == 0) & (refusal.used == TYPES) {
+        return REFUSED;
+    }
+    OTHER
+}
+
+// The character of an answer of a call on the table of 55 types, whose words are those after the call.
+pub fn answer_char(words: &[u32], answer: Answer) -> u8 {
+    match answer {
+        Answer::Value(t, used) => value_char(words, t.0, used),
+        Answer::NoValue(_) => OTHER,
+        Answer::Refused(refusal) => refusal_char(refusal),
+    }
+}
+
+// The count, one higher where a row agreed.
+pub fn counted(n: u64, agreed: bool) -> u64 {
+    if agreed {
+        return std::num::wrapping_add_u64(n, 1);
+    }
+    n
+}
+
+// Where the line that begins at a place ends.
+pub fn line_end(s: &[u8], at: usize) -> usize
+    requires { ⌜ at ≤ length (now s) ⌝ }
+    ensures { λ r. ⌜ (at ≤ r) × (r ≤ length (now (s .entry))) ⌝ }
+{
+    let mut end = at;
+    while end < s.len() {
+        if s[end] == LINE_END {
+            return end;
+        }
+        end += 1;
+    }
+    end
+}
+
+// Writes how many of the rows agreed.
+pub fn write_counts(what: &[u8], agreed: u64, rows: u64) {
+    io::write_all(1, what);
+    io::write_all(1, b": ");
+    io::print_decimal(1, agreed);
+    io::write_all(1, b" of ");
+    io::print_decimal(1, rows);
+    io::write_all(1, b" agreed\n");
+}
