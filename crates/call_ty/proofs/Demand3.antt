@@ -28,9 +28,10 @@ use Rattle.table.specs.declared.answer.Answer.the-variants.{NoValue, Refused}
 use Rattle.table.proofs.Demand1.{entering-refused}
 use Rattle.ruled.specs.Call.{anyReference, judgedOutcome}
 use Rattle.call_ty.specs.Calls.{templateRight, operandsOf, givenBy, givenOutcome, byRule, callOutcome, typeBuiltinFn}
-use Rattle.call_ty.proofs.Lists.{types}
+use Rattle.call_ty.specs.Codes.{Under}
+use Rattle.call_ty.proofs.Lists.{types, types-formed}
 use Rattle.call_ty.proofs.Ways.{by-call}
-use Rattle.call_ty.proofs.Ends.{Ends, Single, thirteen, single-ends}
+use Rattle.call_ty.proofs.Ends.{Ends, Single, thirteen, rule-call-ends, single-ends}
 use Rattle.call_ty.proofs.Ends.Ends.{refused, silent, valued}
 use Rattle.call_ty.proofs.Ends.Single.{early, late}
 use Rattle.call_ty.proofs.Demand1.{whole}
@@ -87,23 +88,32 @@ module _ (place : ℕ) (w : List ℕ) (n : ℕ) (s : Sound w n) (name : List ℕ
 no-thirteen : (reason : Reason) → thirteen reason ≡ false → reasonNo reason ≢ 13
 no-thirteen reason f e = let a = sym f ∙ eq-eqb (reasonNo reason) 13 e in let z : _≡_ {A = ℕ} 0 1 = cc in omega arith
 
-module _ (w : List ℕ) (n : ℕ) (name tplt args : List ℕ) where
-  pub never-13 : (r : Refusal) (v : List ℕ) → Gave (typeBuiltinFn w n name tplt args) (Refused r) v → reasonNo (r .reason) ≢ 13
-  never-13 r v g = go (single-ends w n name tplt args)
-    where
-      same : (reason : Reason) (place : ℕ) → typeBuiltinFn w n name tplt args ≡ turnedDown reason place w n → r ≡ record { reason = reason; place = record { 0 = place }; used = n }
-      same reason place e = let a : Refused r ≡ refuse reason place n = g .reply ∙ ap (λ (x : Outcome). x .answer) e in cc
+by-reason : (reason : Reason) (place : ℕ) (w : List ℕ) (n : ℕ) → thirteen reason ≡ false → (r : Refusal) (v : List ℕ)
+    → turnedDown reason place w n ≡ record { answer = Refused r; words = v } → reasonNo (r .reason) ≢ 13
+by-reason reason place w n f r v e h =
+    let a : refuse reason place n ≡ Refused r = ap (λ (x : Outcome). x .answer) e in
+    let b : reason ≡ r .reason = cc in
+    no-thirteen reason f (ap reasonNo b ∙ h)
 
-      by-reason : (reason : Reason) → thirteen reason ≡ false → typeBuiltinFn w n name tplt args ≡ turnedDown reason 0 w n → reasonNo (r .reason) ≢ 13
-      by-reason reason f e h = no-thirteen reason f (sym (ap (λ (x : Refusal). reasonNo (x .reason)) (same reason 0 e)) ∙ h)
+ends-13 : (place : ℕ) (w : List ℕ) (n : ℕ) → Sound w n → (rule : Known) (ts us : List Ty) (o : Outcome) → Ends place w n rule ts us o
+    → (r : Refusal) (v : List ℕ) → o ≡ record { answer = Refused r; words = v } → reasonNo (r .reason) ≢ 13
+ends-13 place w n s rule ts us o (refused reason f e) r v h = by-reason reason place w n f r v (sym e ∙ h)
+ends-13 place w n s rule ts us o (silent e) r v h =
+    let a : NoValue n ≡ Refused r = ap (λ (x : Outcome). x .answer) (sym e ∙ h) in
+    absurd (let z : _≡_ {A = ℕ} 0 1 = cc in omega arith)
+ends-13 place w n s rule ts us o (valued R k f q x e) r v h =
+    let y = entering-refused place w n s R f r v (sym e ∙ h) .1 in
+    λ t. let a : reasonNo (r .reason) ≡ reasonNo NoRoom = ap (λ (z : Refusal). reasonNo (z .reason)) y in omega arith
 
-      late-go : Sound w n → Ends 0 w n (ruleOf name) (types w tplt) (types w args) (typeBuiltinFn w n name tplt args) → reasonNo (r .reason) ≢ 13
-      late-go s (refused reason f e) h = by-reason reason f e h
-      late-go s (silent e) h = let a : Refused r ≡ NoValue n = g .reply ∙ ap (λ (x : Outcome). x .answer) e in let z : _≡_ {A = ℕ} 0 1 = cc in omega arith
-      late-go s (valued R k f q x e) h =
-          let y = entering-refused 0 w n s R f r v (sym e ∙ whole _ _ v g) .1 in
-          let a : reasonNo (r .reason) ≡ reasonNo NoRoom = ap (λ (z : Refusal). reasonNo (z .reason)) y in omega arith
+pub call-never-13 : (place : ℕ) (w : List ℕ) (n : ℕ) → Sound w n → (name tplt args : List ℕ) → Under n tplt → Under n args → (r : Refusal) (v : List ℕ)
+    → Gave (callOutcome place w n name (types w tplt) (types w args)) (Refused r) v → reasonNo (r .reason) ≢ 13
+call-never-13 place w n s name tplt args ut ua r v g =
+    ends-13 place w n s (ruleOf name) (types w tplt) (types w args) _
+    (rule-call-ends place w n (types w tplt) (types w args) (types-formed w n s tplt ut) (types-formed w n s args ua) (ruleOf name)) r v (whole _ _ v g)
 
-      go : Single w n name tplt args (typeBuiltinFn w n name tplt args) → reasonNo (r .reason) ≢ 13
-      go (early reason f e) = by-reason reason f e
-      go (late s x) = late-go s x
+pub never-13 : (w : List ℕ) (n : ℕ) (name tplt args : List ℕ) (r : Refusal) (v : List ℕ) → Gave (typeBuiltinFn w n name tplt args) (Refused r) v → reasonNo (r .reason) ≢ 13
+never-13 w n name tplt args r v g = go (single-ends w n name tplt args)
+  where
+    go : Single w n name tplt args (typeBuiltinFn w n name tplt args) → reasonNo (r .reason) ≢ 13
+    go (early reason f e) = by-reason reason 0 w n f r v (sym e ∙ whole _ _ v g)
+    go (late s x) = ends-13 0 w n s (ruleOf name) (types w tplt) (types w args) _ x r v (whole _ _ v g)

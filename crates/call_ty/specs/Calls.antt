@@ -79,7 +79,7 @@ pub data Given : Type 0 where
   nothing : Given
 
 -- a ruled name by its row; `bitcast` gives its template type; "`arrayLength`, one operand, gives u32"; `ldexp`;
--- "storageBarrier, textureBarrier, workgroupBarrier: no operand, no value"
+-- "storageBarrier, textureBarrier, workgroupBarrier: no operand, no value", which are the only names left
 unfoldable pub givenBy : ℕ → List Ty → List Ty → Given
 givenBy rule ts us =
     cond (ltb rule overloadRows) (judgment (judgeRow rule us))

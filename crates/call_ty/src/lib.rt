@@ -83,6 +83,7 @@ fn ldexp_codes(x: u8, y: u8) -> bool
 fn operands_of(rule: u8) -> usize
     ensures { λ r. ⌜ r ≡ operandsOf rule ⌝ }
 {
+    // The operators with two sides; then atan2, max, distance, dot, reflect, cross, dot4U8Packed and dot4I8Packed, each with the names of its row.
     let two = ((3 <= rule) & (rule <= 11))
         | (rule == 13)
         | (rule == 17)
@@ -95,6 +96,7 @@ fn operands_of(rule: u8) -> usize
     if two {
         return 2;
     }
+    // fma, mix, clamp, extractBits, faceForward, refract and select.
     let three = (rule == 14)
         | (rule == 15)
         | (rule == 18)
@@ -105,6 +107,7 @@ fn operands_of(rule: u8) -> usize
     if three {
         return 3;
     }
+    // insertBits.
     let four = rule == 21;
     if four {
         return 4;
