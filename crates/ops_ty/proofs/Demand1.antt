@@ -1,6 +1,6 @@
 -- DEMAND 1 for operators: "A refused call changes no lent byte or word." "An accepted call leaves every earlier entry at its number and adds
 -- only the missing entries its result needs." Of any table, count, operator and operands. Assumes nothing.
-use Prim.Native.Nat.{ℕ}
+use Prim.Native.Nat.{ℕ, _<_}
 use mathlib.Core.Path.{_≡_, refl, sym, _∙_, ap}
 use mathlib.Core.Bool.{Bool, true, false, not, cond}
 use mathlib.Core.List.{List, [], _∷_}
@@ -20,36 +20,40 @@ use Rattle.ruled.proofs.Demands.{Kept, kept-refused, kept-by, kept-judged, kept
 use Rattle.ops_ty.specs.Ops.{unaryOps, addressOp, indirectionOp, binaryOps, binaryRow, unaryOutcome, binaryOutcome, typeUnaryOp, typeBinaryOp}
 use Rattle.ops_ty.proofs.Pointers.{address-formed, indirection-formed}
 
+-- on loaded operands, at any place
+module _ (place : ℕ) (w : List ℕ) (n : ℕ) (s : Sound w n) (op : ℕ) where
+  pub unary-at-kept : (a : ℕ) → a < n → Kept w n (unaryOutcome place w n op (typeAt w a))
+  unfolding unaryOutcome
+  unary-at-kept a u =
+      kept-by w n (ltb op unaryOps) _ _
+      (λ k.
+      kept-by w n (eqb op addressOp) _ _ (λ h. kept-judged w n s place (judgeAddress (typeAt w a)) (address-formed w n s a u))
+      (λ h.
+      kept-by w n (isReference (typeAt w a)) _ _ (λ r. kept-refused w n _ place)
+      (λ r.
+      kept-by w n (eqb op indirectionOp) _ _ (λ i. kept-judged w n s place (judgeIndirection (typeAt w a)) (indirection-formed w n s a u))
+      (λ i. kept-judged w n s place (judgeRow op (typeAt w a ∷ [])) (λ R q. gives-formed op (typeAt w a ∷ []) R q .0)))))
+      (λ k. kept-refused w n _ place)
+
+  pub binary-at-kept : (t u : Ty) → Kept w n (binaryOutcome place w n op t u)
+  unfolding binaryOutcome
+  binary-at-kept t u =
+      kept-by w n (ltb op binaryOps) _ _ (λ h. kept-ruled w n s place (binaryRow op) (t ∷ u ∷ [])) (λ h. kept-refused w n _ place)
+
+-- of any table and any numbers, at place 0
 pub unary-kept : (w : List ℕ) (n op a : ℕ) → Kept w n (typeUnaryOp w n op a)
-unfolding typeUnaryOp unaryOutcome
+unfolding typeUnaryOp
 unary-kept w n op a =
     kept-by w n (soundb w n) _ _
-    (λ e.
-    let s = sound-of w n e in
-    kept-by w n (ltb a n) _ _
-    (λ l.
-    let u = ltb-true a n l in
-    kept-by w n (ltb op unaryOps) _ _
-    (λ k.
-    kept-by w n (eqb op addressOp) _ _ (λ h. kept-judged w n s 0 (judgeAddress (typeAt w a)) (address-formed w n s a u))
-    (λ h.
-    kept-by w n (isReference (typeAt w a)) _ _ (λ r. kept-refused w n _ 0)
-    (λ r.
-    kept-by w n (eqb op indirectionOp) _ _ (λ i. kept-judged w n s 0 (judgeIndirection (typeAt w a)) (indirection-formed w n s a u))
-    (λ i. kept-judged w n s 0 (judgeRow op (typeAt w a ∷ [])) (λ R q. gives-formed op (typeAt w a ∷ []) R q .0)))))
-    (λ k. kept-refused w n _ 0))
-    (λ l. kept-refused w n _ 0))
+    (λ e. kept-by w n (ltb a n) _ _ (λ l. unary-at-kept 0 w n (sound-of w n e) op a (ltb-true a n l)) (λ l. kept-refused w n _ 0))
     (λ e. kept-refused w n _ 0)
 
 pub binary-kept : (w : List ℕ) (n op a b : ℕ) → Kept w n (typeBinaryOp w n op a b)
-unfolding typeBinaryOp binaryOutcome
+unfolding typeBinaryOp
 binary-kept w n op a b =
     kept-by w n (soundb w n) _ _
     (λ e.
     kept-by w n (ltb a n) _ _
-    (λ l.
-    kept-by w n (ltb b n) _ _
-    (λ k. kept-by w n (ltb op binaryOps) _ _ (λ h. kept-ruled w n (sound-of w n e) 0 (binaryRow op) (typeAt w a ∷ typeAt w b ∷ [])) (λ h. kept-refused w n _ 0))
-    (λ k. kept-refused w n _ 0))
+    (λ l. kept-by w n (ltb b n) _ _ (λ k. binary-at-kept 0 w n (sound-of w n e) op (typeAt w a) (typeAt w b)) (λ k. kept-refused w n _ 0))
     (λ l. kept-refused w n _ 0))
     (λ e. kept-refused w n _ 0)

@@ -29,9 +29,11 @@ use Rattle.table.proofs.Demand1.{entering-stands, entering-refused, entering-va
 use Rattle.ruled.specs.Call.{anyReference, judgedOutcome, ruledOutcome}
 
 -- DEMAND 1: "A refused call changes no lent byte or word." "An accepted call leaves every earlier entry at its number and adds only the
--- missing entries its result needs": where a value is given, its type stands at its number in a sound table that grew by it and its parts alone
+-- missing entries its result needs": where a value is given, its type stands at its number in a sound table that grew by it and its parts alone.
+-- The count of a refusal is the one that came in
 pub record Kept (w : List ℕ) (n : ℕ) (o : Outcome) : Type 0 where
   pub refused : (r : Refusal) → o .answer ≡ Refused r → o .words ≡ w
+  pub counted : (r : Refusal) → o .answer ≡ Refused r → r .used ≡ n
   pub accepted : (t : TypeNo) (m : ℕ) → o .answer ≡ Value t m → (R : Ty) × Stands w n R (t .0) m (o .words)
   pub without : (m : ℕ) → o .answer ≡ NoValue m → (o .words ≡ w) × (m ≡ n)
 
@@ -41,7 +43,12 @@ impossible e = absurd (omega arith)
 module _ (w : List ℕ) (n : ℕ) where
   pub kept-refused : (reason : Reason) (place : ℕ) → Kept w n (turnedDown reason place w n)
   kept-refused reason place =
-      record { refused = λ r e. refl; accepted = λ t m e. impossible (cc); without = λ m e. impossible (cc) }
+      record {
+        refused = λ r e. refl;
+        counted = λ r e. let q : record { reason = reason; place = record { 0 = place }; used = n } ≡ r = cc in sym (ap (λ (x : Refusal). x .used) q);
+        accepted = λ t m e. impossible (cc);
+        without = λ m e. impossible (cc);
+      }
 
   pub kept-by : (b : Bool) (x y : Outcome) → (b ≡ true → Kept w n x) → (b ≡ false → Kept w n y) → Kept w n (cond b x y)
   kept-by true x y f g = f refl
@@ -52,6 +59,7 @@ module _ (w : List ℕ) (n : ℕ) where
     kept-entering place R f =
         record {
           refused = λ r e. entering-refused place w n s R f r (entering place w n R .words) (λ i. record { answer = e i; words = entering place w n R .words }) .0;
+          counted = λ r e. ap (λ (x : Refusal). x .used) (entering-refused place w n s R f r (entering place w n R .words) (λ i. record { answer = e i; words = entering place w n R .words }) .1);
           accepted = λ t m e. (R, entering-stands place w n s R f t m (entering place w n R .words) (λ i. record { answer = e i; words = entering place w n R .words }));
           without = λ m e. absurd (entering-valued place w n s R f m (entering place w n R .words) (λ i. record { answer = e i; words = entering place w n R .words }));
         }

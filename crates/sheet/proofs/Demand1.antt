@@ -1,0 +1,155 @@
+-- DEMAND 1 for sheets. "Any table, sheet .. gets one of document 01's replies. A refused sheet keeps only what its accepted items entered. An accepted call
+-- leaves every earlier entry at its number." Soundness is tested once, at the start, and kept by every item. Assumes nothing.
+use Prim.Native.Nat.{ℕ, _+_, _*_, _≤_, _<_}
+use mathlib.Core.Path.{_≡_, refl, sym, _∙_, ap}
+use mathlib.Core.Bool.{Bool, true, false, _&&_, cond}
+use mathlib.Core.List.{List, [], _∷_}
+use native.Mathlib.Omega.{arith}
+use lib.Dec.{eqb}
+use lib.ListN.{length, getD}
+use Rattle.table.specs.Answer.{accept, refuse}
+use Rattle.table.specs.Table.{stride, soundb, Sound, Keeps}
+use Rattle.table.specs.Denote.{typeAt}
+use Rattle.table.specs.Placing.{Outcome, turnedDown}
+use Rattle.table.specs.declared.answer.Reason.the-variants.{Unsound, Framing, Stack}
+use Rattle.table.specs.declared.answer.Refusal.{Refusal}
+use Rattle.table.specs.declared.answer.TypeNo.{TypeNo}
+use Rattle.table.specs.declared.answer.Answer.{Answer}
+use Rattle.table.specs.declared.answer.Answer.the-variants.{Value, NoValue, Refused}
+use Rattle.table.proofs.SoundLaws.{sound-of}
+use Rattle.table.proofs.TypeLaws.{type-keeps}
+use Rattle.table.proofs.KindLaws.{split}
+use Rattle.frame.specs.Frame.{version, headerSize, headerOk, itemsFrom}
+use Rattle.frame.specs.declared.Placed.{Placed}
+use Rattle.sheet.specs.Machine.{most, State, height, Effect, goes, silent, ends, stops, effectOf, endAnswer, leftAnswer, after, Turned, more, done, turnOf, onward, runItems, begun, typeSheet}
+use Rattle.sheet.specs.Code.{Good}
+use Rattle.sheet.specs.Kept.{Grew, countOf, further, reached}
+use Rattle.sheet.proofs.Keeping.{EffectKept, grew-none, item-kept}
+use Rattle.sheet.proofs.Running.{turn-kept, sheet-unsound, sheet-unheaded, sheet-runs}
+
+-- growing twice is growing
+grew-twice : {w v u : List ℕ} {n m l : ℕ} → Grew w n v m → Grew v m u l → Grew w n u l
+grew-twice {w} {v} {u} {n} {m} {l} a b =
+    let x = a .more in
+    let y = b .more in
+    record {
+      more = omega arith;
+      keeps = λ k h. b .keeps k (omega arith) ∙ a .keeps k h;
+      long = b .long ∙ a .long;
+      beyond = λ k h. b .beyond k h ∙ a .beyond k (omega arith);
+    }
+
+-- A TURN that answers gives the words and the count of the state that it began with: what was refused entered nothing
+
+abbrev Closes : State → Turned → Type 0
+Closes st (more st') = Unit {0}
+Closes st (done o) = (o .words ≡ st .words) × (countOf (o .answer) ≡ st .used)
+
+count-left : (size place next high used : ℕ) → countOf (leftAnswer size place next high used) ≡ used
+count-left size place next high used = go (eqb high 0 && eqb next size)
+  where
+    go : (b : Bool) → countOf (cond b (NoValue used) (refuse Stack place used)) ≡ used
+    go true = refl
+    go false = refl
+
+count-end : (size : ℕ) (vs : List ℕ) (used : ℕ) → countOf (endAnswer size vs used) ≡ used
+count-end size vs used = go (eqb (length vs) 1)
+  where
+    go : (b : Bool) → countOf (cond b (accept (getD vs 0 0) used) (refuse Stack size used)) ≡ used
+    go true = refl
+    go false = refl
+
+closes : (s : List ℕ) (place next : ℕ) (st : State) (e : Effect) → EffectKept st e → Closes st (after s place next e)
+unfolding after
+closes s place next st (goes st') k = tt
+closes s place next st (silent st') k = (k .1, count-left (length s) place next (height st') (st' .used) ∙ k .2)
+closes s place next st (ends st') k = (ap (λ (t : State). t .words) k, count-end (length s) (st' .stack) (st' .used) ∙ ap (λ (t : State). t .used) k)
+closes s place next st (stops r w) k = k
+
+turn-closes : (s : List ℕ) (x : Placed) (st : State) → Good st → Closes st (turnOf s x st)
+unfolding turnOf
+turn-closes s x st g = closes s (x .at .0) (x .next .0) st (effectOf (x .at .0) st s (x .item)) (item-kept (x .at .0) st g s (x .item))
+
+-- A RUN: its words and its count are those of the state that the accepted items reached; that state is good, and every earlier entry stands in it
+
+pub record Ran (s : List ℕ) (xs : List Placed) (st : State) : Type 0 where
+  pub words : runItems s xs st .words ≡ reached s xs st .words
+  pub count : countOf (runItems s xs st .answer) ≡ reached s xs st .used
+  pub good : Good (reached s xs st)
+  pub grew : Grew (st .words) (st .used) (reached s xs st .words) (reached s xs st .used)
+
+run-on : (s : List ℕ) (x : Placed) (xs : List Placed) (st st' : State) → turnOf s x st ≡ more st'
+    → (runItems s (x ∷ xs) st ≡ runItems s xs st') × (reached s (x ∷ xs) st ≡ reached s xs st')
+unfolding runItems onward reached further
+run-on s x xs st st' h = (rw h, rw h)
+
+run-over : (s : List ℕ) (x : Placed) (xs : List Placed) (st : State) (o : Outcome) → turnOf s x st ≡ done o
+    → (runItems s (x ∷ xs) st ≡ o) × (reached s (x ∷ xs) st ≡ st)
+unfolding runItems onward reached further
+run-over s x xs st o h = (rw h, rw h)
+
+pub ran : (s : List ℕ) (xs : List Placed) (st : State) → Good st → Ran s xs st
+unfolding runItems reached
+ran s [] st g = record { words = refl; count = count-end (length s) (st .stack) (st .used); good = g; grew = grew-none (st .words) (st .used) }
+ran s (x ∷ xs) st g = go (turnOf s x st) refl (turn-closes s x st g) (λ st' h. ran s xs st' h)
+  where
+    go : (t : Turned) → turnOf s x st ≡ t → Closes st t → ((st' : State) → Good st' → Ran s xs st') → Ran s (x ∷ xs) st
+    go (more st') e k ih =
+        let kept = turn-kept s x st st' e g in
+        let r = ih st' (kept .0) in
+        let q = run-on s x xs st st' e in
+        record {
+          words = ap (λ (o : Outcome). o .words) (q .0) ∙ r .words ∙ ap (λ (t : State). t .words) (sym (q .1));
+          count = ap (λ (o : Outcome). countOf (o .answer)) (q .0) ∙ r .count ∙ ap (λ (t : State). t .used) (sym (q .1));
+          good = rw (q .1) (r .good);
+          grew = rw (q .1) (grew-twice (kept .1) (r .grew));
+        }
+    go (done o) e k ih =
+        let q = run-over s x xs st o e in
+        record {
+          words = ap (λ (p : Outcome). p .words) (q .0) ∙ k .0 ∙ ap (λ (t : State). t .words) (sym (q .1));
+          count = ap (λ (p : Outcome). countOf (p .answer)) (q .0) ∙ k .1 ∙ ap (λ (t : State). t .used) (sym (q .1));
+          good = rw (q .1) g;
+          grew = rw (q .1) (grew-none (st .words) (st .used));
+        }
+
+-- A SHEET
+
+module _ (w : List ℕ) (n : ℕ) (s : List ℕ) where
+  abbrev o : Outcome
+  o = typeSheet w n s
+
+  -- the state that the accepted items reached
+  abbrev pub last : State
+  last = reached s (itemsFrom s headerSize) (begun w n)
+
+  begun-good : Sound w n → Good (begun w n)
+  begun-good h = record { sound = h; under = λ i k. absurd (omega arith); high = omega arith }
+
+  -- over a sound table and under a right header, the words and the count afterwards are those of the accepted items, whatever is answered
+  pub sheet-reached : soundb w n ≡ true → headerOk version s ≡ true → (o .words ≡ last .words) × (countOf (o .answer) ≡ last .used)
+  sheet-reached h k =
+      let r = ran s (itemsFrom s headerSize) (begun w n) (begun-good (sound-of w n h)) in
+      let q = sheet-runs w n s h k in
+      (ap (λ (p : Outcome). p .words) (sym q) ∙ r .words, ap (λ (p : Outcome). countOf (p .answer)) (sym q) ∙ r .count)
+
+  -- the table stays sound, the count is that of the entries really there, and the earlier entries stay at their numbers with their words
+  pub sheet-keeps : soundb w n ≡ true → Sound (o .words) (countOf (o .answer)) × Grew w n (o .words) (countOf (o .answer))
+  sheet-keeps h =
+      split (headerOk version s)
+      (λ k.
+      let r = ran s (itemsFrom s headerSize) (begun w n) (begun-good (sound-of w n h)) in
+      let q = sheet-reached h k in
+      (rw (q .0, q .1) (r .good .sound), rw (q .0, q .1) (r .grew)))
+      (λ k. let q = sheet-unheaded w n s h k in (rw (← q) (sound-of w n h), rw (← q) (grew-none w n)))
+
+  -- a saved number means the same type after the sheet
+  pub sheet-types : soundb w n ≡ true → (i : ℕ) → i < n → typeAt (o .words) i ≡ typeAt w i
+  sheet-types h i l = type-keeps w (o .words) n (sheet-keeps h .1 .keeps) i l
+
+  -- a table that is not sound, and a wrong header, change no word
+  pub sheet-refused : soundb w n ≡ false → o ≡ turnedDown Unsound 0 w n
+  sheet-refused h = sym (sheet-unsound w n s h)
+
+  pub sheet-header : soundb w n ≡ true → headerOk version s ≡ false → o ≡ turnedDown Framing 0 w n
+  sheet-header h k = sym (sheet-unheaded w n s h k)

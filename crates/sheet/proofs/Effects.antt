@@ -1,0 +1,164 @@
+-- The effect of each kind of item over the first values of a slice, test by test; and how an answer that was put on the stack is that effect.
+-- Assumes nothing.
+use Prim.Native.Nat.{ℕ, _+_, _-_, _<_, _≤_}
+use mathlib.Core.Path.{_≡_, refl, sym, _∙_, ap}
+use mathlib.Core.Bool.{Bool, true, false, cond}
+use mathlib.Core.List.{List, [], _∷_, map}
+use native.Mathlib.Omega.{arith}
+use native.Mathlib.Nat.{add-zero}
+use lib.ListN.{length, getD, take, drop, set}
+use lib.Dec.{ltb, leb}
+use borrow.Author.Tests.{lt-ltb, le-ltb, lt-leb, le-leb}
+use Rattle.conv.specs.Types.{Ty}
+use Rattle.table.specs.Table.{Sound, allowedb}
+use Rattle.table.specs.Denote.{typeAt, tyOf}
+use Rattle.table.specs.Placing.{Outcome, Gave, entering}
+use Rattle.table.specs.declared.Entry.{Entry}
+use Rattle.table.specs.declared.answer.Place.{Place}
+use Rattle.table.specs.declared.answer.Reason.{Reason}
+use Rattle.table.specs.declared.answer.Reason.the-variants.{NoSuchType, Template, Stack}
+use Rattle.table.specs.declared.answer.TypeNo.{TypeNo}
+use Rattle.table.specs.declared.answer.Refusal.{Refusal}
+use Rattle.table.specs.declared.answer.Answer.{Answer}
+use Rattle.table.specs.declared.answer.Answer.the-variants.{Value, NoValue, Refused}
+use Rattle.ops_ty.specs.Ops.{unaryOutcome, binaryOutcome}
+use Rattle.call_ty.specs.Calls.{callOutcome}
+use Rattle.call_ty.specs.Codes.{Under}
+use Rattle.sheet.specs.declared.Did.{Did}
+use Rattle.sheet.specs.declared.Did.the-variants as did
+use Rattle.sheet.specs.Machine.{most, State, Effect, goes, stop, pushed, onto, pushEffect, unaryEffect, binaryEffect, calling, callEffect, templateEffect, takeEffect}
+use Rattle.sheet.specs.Code.{stateOf, Ready, turnedAway, effectBy, Counted, Does, Settles}
+use Rattle.sheet.proofs.StackLaws.{next-value, sized, below-them, operand-in, operands-lent, value-in}
+
+-- the same effect
+pub does-as : {e f : Effect} {r : Did} {vals w : List ℕ} → e ≡ f → Does e r vals w → Does f r vals w
+does-as h d = record { effect = d .effect ∙ h; counted = d .counted }
+
+-- an answer on the stack, and the outcome that it is
+pub settled : {base : ℕ} {vals after w : List ℕ} {a : Answer} {r : Did} {o : Outcome} → Settles base vals a r after → Gave o a w → Does (onto (take base vals) o) r after w
+settled {base} {vals} {after} {w} {a} {r} {o} s g =
+    record { effect = s .effect w ∙ ap (onto (take base vals)) (λ i. record { answer = g .reply i; words = g .words i }); counted = s .counted }
+
+-- an answer put on the stack, by its case
+module _ (base : ℕ) (vals : List ℕ) where
+  pub settle-value : (t : TypeNo) (m v : ℕ) → v ≡ t .0 → base < length vals → base < most → Settles base vals (Value t m) (did.Went (base + 1) m) (set vals base v)
+  unfolding effectBy Counted onto
+  settle-value t m v e l h =
+      record {
+        effect = λ words. ap (λ (vs : List ℕ). goes (record { stack = vs; used = m; words = words })) (next-value vals base v l ∙ ap (pushed (take base vals)) e);
+        counted = omega arith;
+      }
+
+  pub settle-silent : (m : ℕ) → base ≤ most → Settles base vals (NoValue m) (did.Silent base m) vals
+  unfolding effectBy Counted onto
+  settle-silent m h = record { effect = λ words. refl; counted = h }
+
+  pub settle-refused : (r : Refusal) → Settles base vals (Refused r) (did.Refused r) vals
+  unfolding effectBy Counted onto
+  settle-refused r = record { effect = λ words. refl; counted = tt }
+
+module _ (place : Place) (count : ℕ) (vals : List ℕ) (used : ℕ) (w : List ℕ) where
+  abbrev st : State
+  st = stateOf count vals used w
+
+  -- a refusal changes neither values nor words
+  pub refusing : (reason : Reason) {e : Effect} {r : Did} → r ≡ turnedAway reason place used → stop reason (place .0) st ≡ e → Does e r vals w
+  unfolding effectBy Counted
+  refusing reason q h = rw q (record { effect = h; counted = tt })
+
+  module _ (ready : Ready count vals used w) where
+    fits : count ≤ length vals
+    fits = omega (arith, ready .size, ready .fits)
+
+    high : length (take count vals) ≡ count
+    high = sized count vals fits
+
+    -- a value of the stack is a number of the table
+    pub value-under : (i : ℕ) → i < count → getD vals i 0 < used
+    value-under i h = let u = ready .good .under i (omega (arith, high)) in rw (value-in count vals fits i h) at u
+
+    -- PUSH
+
+    pub push-unknown : (t : ℕ) → used ≤ t → stop NoSuchType (place .0) st ≡ pushEffect (place .0) st t
+    unfolding pushEffect
+    push-unknown t h = rw (le-ltb t used h)
+
+    pub push-full : (t : ℕ) → t < used → most ≤ count → stop Stack (place .0) st ≡ pushEffect (place .0) st t
+    unfolding pushEffect
+    push-full t h f = rw (lt-ltb t used h, high, le-ltb count most f)
+
+    pub push-goes : (t : ℕ) → t < used → count < most → goes (record { stack = pushed (take count vals) t; used = used; words = w }) ≡ pushEffect (place .0) st t
+    unfolding pushEffect
+    push-goes t h f = rw (lt-ltb t used h, high, lt-ltb count most f)
+
+    pub push-does : (t v : ℕ) → v ≡ t → t < used → count < most → Does (pushEffect (place .0) st t) (did.Went (count + 1) used) (set vals count v) w
+    unfolding effectBy Counted
+    push-does t v e h f =
+        does-as (push-goes t h f)
+        (record { effect = ap (λ (vs : List ℕ). goes (record { stack = vs; used = used; words = w })) (next-value vals count v (omega (arith, ready .size)) ∙ ap (pushed (take count vals)) e); counted = omega arith })
+
+    -- OPERATORS
+
+    pub unary-short : (op : ℕ) → count < 1 → stop Stack (place .0) st ≡ unaryEffect (place .0) st op
+    unfolding unaryEffect
+    unary-short op h = rw (high, lt-leb 1 count h)
+
+    pub unary-goes : (op : ℕ) → 1 ≤ count → onto (take (count - 1) vals) (unaryOutcome (place .0) w used op (typeAt w (getD vals (count - 1) 0))) ≡ unaryEffect (place .0) st op
+    unfolding unaryEffect
+    unary-goes op h =
+        let a = operand-in count vals fits 1 0 h (omega arith) ∙ ap (λ (i : ℕ). getD vals i 0) (add-zero (count - 1)) in
+        sym (rw (below-them count vals fits 1, a, high, le-leb 1 count h))
+
+    pub binary-short : (op : ℕ) → count < 2 → stop Stack (place .0) st ≡ binaryEffect (place .0) st op
+    unfolding binaryEffect
+    binary-short op h = rw (high, lt-leb 2 count h)
+
+    pub binary-goes : (op : ℕ) → 2 ≤ count
+        → onto (take (count - 2) vals) (binaryOutcome (place .0) w used op (typeAt w (getD vals (count - 2) 0)) (typeAt w (getD vals (count - 2 + 1) 0)))
+        ≡ binaryEffect (place .0) st op
+    unfolding binaryEffect
+    binary-goes op h =
+        let a = operand-in count vals fits 2 0 h (omega arith) ∙ ap (λ (i : ℕ). getD vals i 0) (add-zero (count - 2)) in
+        let b = operand-in count vals fits 2 1 h (omega arith) in
+        sym (rw (below-them count vals fits 2, a, b, high, le-leb 2 count h))
+
+    -- CALLS
+
+    pub calling-on : (name : List ℕ) (ts : List Ty) (k : ℕ) → k ≤ count
+        → onto (take (count - k) vals) (callOutcome (place .0) w used name ts (map (typeAt w) (take (count - (count - k)) (drop (count - k) vals))))
+        ≡ calling (place .0) st name ts k
+    calling-on name ts k h = sym (rw (below-them count vals fits k, operands-lent count vals fits k h))
+
+    pub call-short : (name : List ℕ) (k : ℕ) → count < k → stop Stack (place .0) st ≡ callEffect (place .0) st name k
+    unfolding callEffect
+    call-short name k h = rw (high, lt-leb k count h)
+
+    pub call-goes : (name : List ℕ) (k : ℕ) → k ≤ count → calling (place .0) st name [] k ≡ callEffect (place .0) st name k
+    unfolding callEffect
+    call-goes name k h = let b : leb k (length (take count vals)) ≡ true = rw high (le-leb k count h) in sym (rw b)
+
+    pub template-short : (name : List ℕ) (t k : ℕ) → count < k → stop Stack (place .0) st ≡ templateEffect (place .0) st name t k
+    unfolding templateEffect
+    template-short name t k h = rw (high, lt-leb k count h)
+
+    pub template-unknown : (name : List ℕ) (t k : ℕ) → k ≤ count → used ≤ t → stop NoSuchType (place .0) st ≡ templateEffect (place .0) st name t k
+    unfolding templateEffect
+    template-unknown name t k h g = rw (high, le-leb k count h, le-ltb t used g)
+
+    pub template-goes : (name : List ℕ) (t k : ℕ) → k ≤ count → t < used → calling (place .0) st name (typeAt w t ∷ []) k ≡ templateEffect (place .0) st name t k
+    unfolding templateEffect
+    template-goes name t k h g = let b : leb k (length (take count vals)) ≡ true = rw high (le-leb k count h) in sym (rw (b, lt-ltb t used g))
+
+    -- TAKE
+
+    pub take-wrong : (e : Entry) → allowedb w used e ≡ false → stop Template (place .0) st ≡ takeEffect (place .0) st e
+    unfolding takeEffect
+    take-wrong e h = rw h
+
+    pub take-full : (e : Entry) → allowedb w used e ≡ true → most ≤ count → stop Stack (place .0) st ≡ takeEffect (place .0) st e
+    unfolding takeEffect
+    take-full e h f = rw (h, high, le-ltb count most f)
+
+    pub take-goes : (e : Entry) → allowedb w used e ≡ true → count < most → onto (take count vals) (entering (place .0) w used (tyOf w e)) ≡ takeEffect (place .0) st e
+    unfolding takeEffect
+    take-goes e h f = let b : ltb (length (take count vals)) most ≡ true = rw high (lt-ltb count most f) in sym (rw (h, b))

@@ -1,0 +1,184 @@
+-- What an item keeps. The state after it is good again; the earlier entries stay at their numbers; a refusal changes no word and gives the count as it
+-- stands. Assumes nothing.
+use Prim.Native.Nat.{ℕ, zero, suc, _+_, _-_, _*_, _<_, _≤_}
+use mathlib.Core.Path.{_≡_, refl, sym, _∙_, ap}
+use mathlib.Core.Bool.{Bool, true, false, cond}
+use mathlib.Core.List.{List, [], _∷_, _++_, map}
+use native.Mathlib.Omega.{arith}
+use lib.Dec.{ltb, leb, eqb}
+use lib.ListN.{length, getD, take, drop, length-append, length-take, length-drop, drop-of-length-le}
+use borrow.Author.Tests.{ltb-true, leb-true}
+use Rattle.conv.specs.Types.{Ty}
+use Rattle.table.specs.Table.{stride, Sound, Keeps, allowedb}
+use Rattle.table.specs.Denote.{typeAt, tyOf}
+use Rattle.table.specs.Stands.{Stands}
+use Rattle.table.specs.Placing.{Outcome, entering}
+use Rattle.table.specs.declared.Entry.{Entry}
+use Rattle.table.specs.declared.answer.Reason.{Reason}
+use Rattle.table.specs.declared.answer.Reason.the-variants.{NoSuchType, Template, Framing, Stack}
+use Rattle.table.specs.declared.answer.Refusal.{Refusal}
+use Rattle.table.specs.declared.answer.TypeNo.{TypeNo}
+use Rattle.table.specs.declared.answer.Answer.{Answer}
+use Rattle.table.specs.declared.answer.Answer.the-variants.{Value, NoValue, Refused}
+use Rattle.table.proofs.FormedLaws.{allowed-type}
+use Rattle.ruled.proofs.Demands.{Kept, kept-entering}
+use Rattle.frame.specs.declared.Item.{Item}
+use Rattle.frame.specs.declared.Item.the-variants.{Push, Unary, Binary, Call, CallTemplate, Take, End, Bad}
+use Rattle.ops_ty.specs.Ops.{unaryOutcome, binaryOutcome}
+use Rattle.ops_ty.proofs.Demand1.{unary-at-kept, binary-at-kept}
+use Rattle.call_ty.specs.Calls.{callOutcome}
+use Rattle.call_ty.specs.Codes.{Under}
+use Rattle.sheet.specs.Machine.{most, State, height, operands, below, Effect, goes, silent, ends, stops, stop, pushed, onto, having, holding, pushEffect, unaryEffect, binaryEffect, calling, callEffect, templateEffect, takeEffect, effectOf, entryOf, bytesOf}
+use Rattle.sheet.specs.Code.{Good}
+use Rattle.sheet.specs.Kept.{Grew}
+use Rattle.sheet.proofs.StackLaws.{under-take, under-drop}
+use Rattle.sheet.proofs.Answers.{call-at-kept, no-operand}
+
+-- what an effect keeps of the state before it
+abbrev pub EffectKept : State → Effect → Type 0
+EffectKept st (goes st') = Good st' × Grew (st .words) (st .used) (st' .words) (st' .used)
+EffectKept st (silent st') = Good st' × (st' .words ≡ st .words) × (st' .used ≡ st .used)
+EffectKept st (ends st') = st' ≡ st
+EffectKept st (stops r w) = (w ≡ st .words) × (r .used ≡ st .used)
+
+-- nothing is added
+pub grew-none : (w : List ℕ) (n : ℕ) → Grew w n w n
+grew-none w n = record { more = omega arith; keeps = λ k h. refl; long = refl; beyond = λ k h. refl }
+
+-- the stack with one value more
+
+under-pushed : (n : ℕ) (vs : List ℕ) (t : ℕ) → Under n vs → t < n → Under n (pushed vs t)
+under-pushed n [] t u h zero l = h
+under-pushed n [] t u h (suc i) l = absurd (omega arith)
+under-pushed n (v ∷ vs) t u h zero l = u 0 (omega arith)
+under-pushed n (v ∷ vs) t u h (suc i) l = under-pushed n vs t (λ j m. u (suc j) (omega arith)) h i (omega arith)
+
+high-pushed : (vs : List ℕ) (t : ℕ) → length (pushed vs t) ≡ length vs + 1
+high-pushed vs t = length-append vs (t ∷ [])
+
+under-more : (n m : ℕ) (vs : List ℕ) → n ≤ m → Under n vs → Under m vs
+under-more n m vs l u i h = let a = u i h in omega arith
+
+-- the two sides of a test
+either : (P : Effect → Type 0) (b : Bool) {x y : Effect} → (b ≡ true → P x) → (b ≡ false → P y) → P (cond b x y)
+either P true f g = f refl
+either P false f g = g refl
+
+module _ (place : ℕ) (st : State) (good : Good st) where
+  abbrev w : List ℕ
+  w = st .words
+
+  abbrev n : ℕ
+  n = st .used
+
+  kept-stop : (reason : Reason) → EffectKept st (stop reason place st)
+  kept-stop reason = (refl, refl)
+
+  kept-having : (k : ℕ) (e : Effect) → (k ≤ height st → EffectKept st e) → EffectKept st (having place st k e)
+  kept-having k e f = either (EffectKept st) (leb k (height st)) (λ b. f (leb-true k (height st) b)) (λ b. kept-stop Stack)
+
+  kept-holding : (e : Effect) → (height st < most → EffectKept st e) → EffectKept st (holding place st e)
+  kept-holding e f = either (EffectKept st) (ltb (height st) most) (λ b. f (ltb-true (height st) most b)) (λ b. kept-stop Stack)
+
+  -- a single call's outcome, over values that the stack had
+  kept-onto : (vs : List ℕ) (o : Outcome) → Under n vs → length vs ≤ most → ((t : TypeNo) (m : ℕ) → o .answer ≡ Value t m → length vs < most) → Kept w n o → EffectKept st (onto vs o)
+  unfolding onto
+  kept-onto vs o u h room k = go (o .answer) refl
+    where
+      go : (a : Answer) → o .answer ≡ a → EffectKept st (onto vs o)
+      go (Value t m) e =
+          let s = k .accepted t m e .1 in
+          let up = s .grows in
+          rw e (
+            record {
+              sound = s .sound;
+              under = under-pushed m vs (t .0) (under-more n m vs up u) (s .below);
+              high = let l = room t m e in omega (arith, high-pushed vs (t .0));
+            },
+            record { more = up; keeps = s .keeps; long = s .long; beyond = s .beyond },
+          )
+      go (NoValue m) e =
+          let q = k .without m e in
+          rw e (record { sound = rw (q .0, q .1) (good .sound); under = rw (q .1) u; high = h }, q .0, q .1)
+      go (Refused r) e = rw e (k .refused r e, k .counted r e)
+
+  -- below k operands
+
+  below-under : (k : ℕ) → Under n (below k st)
+  below-under k = under-take n (height st - k) (st .stack) (good .under)
+
+  below-high : (k : ℕ) → length (below k st) ≤ height st - k
+  below-high k = omega (arith, length-take (height st - k) (st .stack))
+
+  operand-under : (k i : ℕ) → k ≤ height st → i < k → getD (operands k st) i 0 < n
+  operand-under k i l h = under-drop n (height st - k) (st .stack) (good .under) i (omega (arith, length-drop (height st - k) (st .stack)))
+
+  -- THE ITEMS
+
+  kept-push : (t : ℕ) → EffectKept st (pushEffect place st t)
+  unfolding pushEffect
+  kept-push t =
+      either (EffectKept st) (ltb t n)
+      (λ b. kept-holding _ (λ h.
+      (record { sound = good .sound; under = under-pushed n (st .stack) t (good .under) (ltb-true t n b); high = omega (arith, high-pushed (st .stack) t) }, grew-none w n)))
+      (λ b. kept-stop NoSuchType)
+
+  kept-unary : (op : ℕ) → EffectKept st (unaryEffect place st op)
+  unfolding unaryEffect
+  kept-unary op =
+      kept-having 1 _ (λ l.
+      kept-onto (below 1 st) _ (below-under 1) (omega (arith, below-high 1, good .high)) (λ t m e. omega (arith, below-high 1, good .high))
+      (unary-at-kept place w n (good .sound) op _ (operand-under 1 0 l (omega arith))))
+
+  kept-binary : (op : ℕ) → EffectKept st (binaryEffect place st op)
+  unfolding binaryEffect
+  kept-binary op =
+      kept-having 2 _ (λ l.
+      kept-onto (below 2 st) _ (below-under 2) (omega (arith, below-high 2, good .high)) (λ t m e. omega (arith, below-high 2, good .high))
+      (binary-at-kept place w n (good .sound) op _ _))
+
+  -- a call without operands gives no value, so no 65th value comes of it
+  call-room : (name : List ℕ) (ts : List Ty) (k : ℕ) → k ≤ height st → (t : TypeNo) (m : ℕ)
+      → callOutcome place w n name ts (map (typeAt w) (operands k st)) .answer ≡ Value t m → length (below k st) < most
+  call-room name ts zero l t m e =
+      let none : operands 0 st ≡ [] = drop-of-length-le (st .stack) {i = height st - 0} (omega arith) in
+      absurd (no-operand place w n ts t m name (rw none at e))
+  call-room name ts (suc k) l t m e = omega (arith, below-high (suc k), good .high)
+
+  kept-calling : (name tplt : List ℕ) (k : ℕ) → Under n tplt → k ≤ height st → EffectKept st (calling place st name (map (typeAt w) tplt) k)
+  kept-calling name tplt k ut l =
+      kept-onto (below k st) _ (below-under k) (omega (arith, below-high k, good .high)) (call-room name (map (typeAt w) tplt) k l)
+      (call-at-kept place w n (good .sound) name tplt (operands k st) ut (under-drop n (height st - k) (st .stack) (good .under)))
+
+  kept-call : (name : List ℕ) (k : ℕ) → EffectKept st (callEffect place st name k)
+  unfolding callEffect
+  kept-call name k = kept-having k _ (λ l. kept-calling name [] k (λ i h. absurd (omega arith)) l)
+
+  one : (t : ℕ) → t < n → Under n (t ∷ [])
+  one t h zero l = h
+  one t h (suc i) l = absurd (omega arith)
+
+  kept-template : (name : List ℕ) (t k : ℕ) → EffectKept st (templateEffect place st name t k)
+  unfolding templateEffect
+  kept-template name t k =
+      kept-having k _ (λ l. either (EffectKept st) (ltb t n) (λ b. kept-calling name (t ∷ []) k (one t (ltb-true t n b)) l) (λ b. kept-stop NoSuchType))
+
+  kept-take : (e : Entry) → EffectKept st (takeEffect place st e)
+  unfolding takeEffect
+  kept-take e =
+      either (EffectKept st) (allowedb w n e)
+      (λ b. kept-holding _ (λ h.
+      kept-onto (st .stack) _ (good .under) (good .high) (λ t m q. h)
+      (kept-entering w n (good .sound) place (tyOf w e) (allowed-type w n (good .sound) e b))))
+      (λ b. kept-stop Template)
+
+  pub item-kept : (s : List ℕ) (i : Item) → EffectKept st (effectOf place st s i)
+  unfolding effectOf
+  item-kept s (Push t) = kept-push (t .0)
+  item-kept s (Unary op) = kept-unary op
+  item-kept s (Binary op) = kept-binary op
+  item-kept s (Call k name) = kept-call (bytesOf s name) k
+  item-kept s (CallTemplate t k name) = kept-template (bytesOf s name) (t .0) k
+  item-kept s (Take kind p q elem) = kept-take (entryOf kind p q elem)
+  item-kept s End = refl
+  item-kept s Bad = kept-stop Framing

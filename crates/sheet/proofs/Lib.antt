@@ -1,0 +1,9 @@
+pub mod StackLaws
+pub mod Answers
+pub mod Effects
+pub mod Items
+pub mod Turning
+pub mod Keeping
+pub mod Running
+pub mod Demand1
+pub mod OneReply

@@ -1,0 +1,141 @@
+-- A run, one turn unrolled: what is left of the items gives what the whole gives. Assumes nothing.
+use Prim.Native.Nat.{ℕ, _+_, _<_, _≤_}
+use mathlib.Core.Path.{_≡_, refl, sym, _∙_, ap}
+use mathlib.Core.Bool.{Bool, true, false}
+use mathlib.Core.List.{List, [], _∷_}
+use native.Mathlib.Omega.{arith}
+use lib.ListN.{length, take}
+use Rattle.table.specs.Table.{soundb, Sound}
+use Rattle.table.specs.Placing.{Outcome, Gave, turnedDown}
+use Rattle.table.specs.declared.answer.Reason.the-variants.{Unsound, Framing}
+use Rattle.table.specs.declared.answer.Answer.{Answer}
+use Rattle.frame.specs.Frame.{pick, itemAt, isItem, itemsFrom, nameOf, namePart, Within, version, headerSize, headerOk}
+use Rattle.frame.specs.declared.Item.{Item}
+use Rattle.frame.specs.declared.Item.the-variants.{Push, Unary, Binary, Call, CallTemplate, Take, End, Bad}
+use Rattle.frame.specs.declared.Placed.{Placed}
+use Rattle.frame.proofs.FrameLaws.{framed, name-within}
+use Rattle.frame.proofs.ItemsLaws.{items-from}
+use Rattle.sheet.specs.declared.Turn.the-variants as turn
+use Rattle.sheet.specs.Machine.{most, State, Effect, goes, silent, ends, stops, effectOf, after, Turned, more, done, turnOf, onward, runItems, begun, typeSheet}
+use Rattle.sheet.specs.Code.{stateOf, Good, Ready, turnBy, TurnCounted, Turns}
+use Rattle.sheet.specs.Kept.{Grew}
+use Rattle.sheet.proofs.Keeping.{EffectKept, item-kept}
+
+-- a turn goes on only after an item, not at the end or at bad framing
+
+goes-from : (s : List ℕ) (place next : ℕ) (e : Effect) (st : State) → after s place next e ≡ more st → e ≡ goes st
+unfolding after
+goes-from s place next (goes st') st h = let q : st' ≡ st = cc in ap goes q
+goes-from s place next (silent st') st h = absurd (let z : _≡_ {A = ℕ} 0 1 = cc in omega arith)
+goes-from s place next (ends st') st h = absurd (let z : _≡_ {A = ℕ} 0 1 = cc in omega arith)
+goes-from s place next (stops r w) st h = absurd (let z : _≡_ {A = ℕ} 0 1 = cc in omega arith)
+
+goes-item : (s : List ℕ) (place : ℕ) (st st' : State) (i : Item) → effectOf place st s i ≡ goes st' → isItem i ≡ true
+unfolding effectOf
+goes-item s place st st' (Push t) h = refl
+goes-item s place st st' (Unary op) h = refl
+goes-item s place st st' (Binary op) h = refl
+goes-item s place st st' (Call k name) h = refl
+goes-item s place st st' (CallTemplate t k name) h = refl
+goes-item s place st st' (Take kind p q elem) h = refl
+goes-item s place st st' End h = absurd (let z : _≡_ {A = ℕ} 0 1 = cc in omega arith)
+goes-item s place st st' Bad h = absurd (let z : _≡_ {A = ℕ} 0 1 = cc in omega arith)
+
+module _ (s : List ℕ) (x : Placed) (st st' : State) (h : turnOf s x st ≡ more st') where
+  went : effectOf (x .at .0) st s (x .item) ≡ goes st'
+  unfolding turnOf
+  went = goes-from s (x .at .0) (x .next .0) (effectOf (x .at .0) st s (x .item)) st' h
+
+  pub turn-item : isItem (x .item) ≡ true
+  turn-item = goes-item s (x .at .0) st st' (x .item) went
+
+  -- and leaves a good state, in which every earlier entry stands
+  pub turn-kept : Good st → Good st' × Grew (st .words) (st .used) (st' .words) (st' .used)
+  turn-kept g = rw went at (item-kept (x .at .0) st g s (x .item))
+
+-- THE RUN from a place on
+
+module _ (s : List ℕ) (at : ℕ) (st : State) where
+  abbrev from : ℕ → State → Outcome
+  from k t = runItems s (itemsFrom s k) t
+
+  pub run-more : (st' : State) → turnOf s (itemAt s at) st ≡ more st' → from at st ≡ from (itemAt s at .next .0) st'
+  unfolding runItems onward
+  run-more st' h =
+      let i = turn-item s (itemAt s at) st st' h in
+      ap (λ (l : List Placed). runItems s l st) (items-from s at) ∙ rw (h, i)
+
+  pub run-done : (o : Outcome) → turnOf s (itemAt s at) st ≡ done o → from at st ≡ o
+  unfolding runItems onward
+  run-done o h = ap (λ (l : List Placed). runItems s l st) (items-from s at) ∙ rw h
+
+  -- the next place lies after this one and within the sheet
+  pub run-forward : (st' : State) → turnOf s (itemAt s at) st ≡ more st' → (at < itemAt s at .next .0) × (itemAt s at .next .0 ≤ length s)
+  run-forward st' h = let f = framed s at (turn-item s (itemAt s at) st st' h) in (f .after, f .within)
+
+-- the name of what stands at a place lies within the sheet
+pub name-in : (s : List ℕ) (at : ℕ) → Within (length s) (nameOf (itemAt s at .item))
+unfolding namePart
+name-in s at = name-within s at
+
+-- THE LOOP, over the first values of a slice: before every turn, what is left of the items gives what the whole sheet gives
+
+pub record Left (s w₀ : List ℕ) (n₀ : ℕ) (w vals : List ℕ) (count n at : ℕ) : Type 0 where
+  pub long : length w ≡ length w₀
+  pub ready : Ready count vals n w
+  pub rest : runItems s (itemsFrom s at) (stateOf count vals n w) ≡ runItems s (itemsFrom s headerSize) (begun w₀ n₀)
+
+pub left-start : (s w : List ℕ) (n : ℕ) (vals : List ℕ) → Sound w n → length vals ≡ most → Left s w n w vals 0 n headerSize
+left-start s w n vals h l =
+    record {
+      long = refl;
+      ready = record { size = l; fits = omega arith; good = record { sound = h; under = λ i k. absurd (omega arith); high = omega arith } };
+      rest = refl;
+    }
+
+module _ (s w₀ : List ℕ) (n₀ : ℕ) (w vals : List ℕ) (count n at : ℕ) (l : Left s w₀ n₀ w vals count n at) (x : Placed) (e : x ≡ itemAt s at) (vals' w' : List ℕ) where
+  abbrev st : State
+  st = stateOf count vals n w
+
+  module _ (c u : ℕ) (t : Turns (turnOf s x st) (turn.More c u) vals' w') where
+    went-on : turnOf s (itemAt s at) st ≡ more (stateOf c vals' u w')
+    unfolding turnBy
+    went-on = ap (λ (y : Placed). turnOf s y st) (sym e) ∙ sym (t .turned)
+
+    within : c ≤ most
+    unfolding TurnCounted
+    within = t .counted
+
+    pub left-again : length vals' ≡ length vals → length w' ≡ length w → Left s w₀ n₀ w' vals' c u (x .next .0)
+    left-again a b =
+        record {
+          long = b ∙ l .long;
+          ready = record { size = a ∙ l .ready .size; fits = within; good = turn-kept s (itemAt s at) st (stateOf c vals' u w') went-on (l .ready .good) .0 };
+          rest = ap (λ (k : ℕ). runItems s (itemsFrom s k) (stateOf c vals' u w')) (ap (λ (y : Placed). y .next .0) e) ∙ sym (run-more s at st (stateOf c vals' u w') went-on) ∙ l .rest;
+        }
+
+    pub left-less : (at < x .next .0) × (x .next .0 ≤ length s)
+    left-less = let f = run-forward s at st (stateOf c vals' u w') went-on in rw e f
+
+  pub left-done : (a : Answer) → Turns (turnOf s x st) (turn.Done a) vals' w' → Gave (runItems s (itemsFrom s headerSize) (begun w₀ n₀)) a w'
+  unfolding turnBy
+  left-done a t =
+      let o : Outcome = record { answer = a; words = w' } in
+      let q : turnOf s (itemAt s at) st ≡ done o = ap (λ (y : Placed). turnOf s y st) (sym e) ∙ sym (t .turned) in
+      let r = sym (run-done s at st o q) ∙ l .rest in
+      record { reply = ap (λ (y : Outcome). y .answer) r; words = ap (λ (y : Outcome). y .words) r }
+
+-- A SHEET, test by test
+
+module _ (w : List ℕ) (n : ℕ) (s : List ℕ) where
+  pub sheet-unsound : soundb w n ≡ false → turnedDown Unsound 0 w n ≡ typeSheet w n s
+  unfolding typeSheet
+  sheet-unsound h = sym (rw h)
+
+  pub sheet-unheaded : soundb w n ≡ true → headerOk version s ≡ false → turnedDown Framing 0 w n ≡ typeSheet w n s
+  unfolding typeSheet
+  sheet-unheaded h k = sym (rw (h, k))
+
+  pub sheet-runs : soundb w n ≡ true → headerOk version s ≡ true → runItems s (itemsFrom s headerSize) (begun w n) ≡ typeSheet w n s
+  unfolding typeSheet
+  sheet-runs h k = sym (rw (h, k))

@@ -1,0 +1,55 @@
+use Prim.Native.Nat.{_<_, _≤_}
+use lib.ListN.{length}
+use borrow.Author.Tests.{eq-eqb, ne-eqb}
+use native.Mathlib.Omega.{arith}
+use Rattle.sheet.proofs.StackLaws.{sized, value-in}
+use borrow.Author.Needs.{needs}
+use Rattle.sheet.proofs.finish.Statement.{statement}
+use Rattle.sheet.proofs.finish.Tie as tie
+use Rattle.sheet.proofs.finish.Reads as reads
+use Rattle.sheet.proofs.finish.Lts as lts
+use Rattle.sheet.proofs.number.Reads as number-reads
+use Rattle.table.proofs.accepted.Reads as accepted-reads
+use Rattle.table.proofs.refused.Reads as refused-reads
+
+-- src/lib.rt:294:39
+shared-slice-read-number : tie.Need-shared-slice-read-number
+shared-slice-read-number c = search needs
+
+-- src/lib.rt:294:32
+number-requires : tie.Need-number-requires
+number-requires c κs = search needs
+
+-- src/lib.rt:294:9
+accepted-requires : tie.Need-accepted-requires
+accepted-requires c κs = search needs
+
+-- src/lib.rt:294:9
+returns : tie.Need-returns
+returns c = let a = c .before .before .before .before .before .args in
+    let p = c .before .before .before .before .before .pre in
+    let fits : a .count ≤ length (a .stack .now) = omega (arith, p .0, p .1) in
+    let one : 0 < a .count = omega (arith, c .before .before .before .if1 .taken) in
+    rw (c .accepted .ensures .made, sized (a .count) (a .stack .now) fits, eq-eqb _ _ (c .before .before .before .if1 .taken), value-in (a .count) (a .stack .now) fits 0 one, c .before .number .ensures)
+
+-- src/lib.rt:296:5
+refused-requires : tie.Need-refused-requires
+refused-requires c κs = search needs
+
+-- src/lib.rt:289:1
+returns-2 : tie.Need-returns-2
+returns-2 c = let a = c .before .before .before .args in
+    let p = c .before .before .before .pre in
+    let fits : a .count ≤ length (a .stack .now) = omega (arith, p .0, p .1) in
+    rw (c .refused .ensures .made, sized (a .count) (a .stack .now) fits, ne-eqb _ _ (c .before .if1 .left))
+
+pub finish-spec : {M : Type 1} → statement M
+finish-spec =
+    tie.close
+    (tie.spec
+    shared-slice-read-number
+    number-requires
+    accepted-requires
+    returns
+    refused-requires
+    returns-2)

@@ -1,0 +1,232 @@
+use mathlib.Core.Path.{refl}
+use Rattle.sheet.proofs.Effects.{refusing}
+use Rattle.table.specs.declared.answer.Reason.the-variants.{Framing}
+use Rattle.sheet.specs.Code.{effectBy, Counted}
+use Rattle.sheet.specs.Machine.{effectOf}
+use borrow.Author.Needs.{needs}
+use Rattle.sheet.proofs.step.Statement.{statement}
+use Rattle.sheet.proofs.step.Tie as tie
+use Rattle.sheet.proofs.step.Reads as reads
+use Rattle.sheet.proofs.step.Lts as lts
+use Rattle.frame.proofs.part_of.Reads as part-of-reads
+use Rattle.sheet.proofs.binary.Reads as binary-reads
+use Rattle.sheet.proofs.call.Reads as call-reads
+use Rattle.sheet.proofs.call_template.Reads as call-template-reads
+use Rattle.sheet.proofs.push.Reads as push-reads
+use Rattle.sheet.proofs.stopped.Reads as stopped-reads
+use Rattle.sheet.proofs.take_in.Reads as take-in-reads
+use Rattle.sheet.proofs.unary.Reads as unary-reads
+use Rattle.sheet.proofs.wide32.Reads as wide32-reads
+
+-- src/lib.rt:259:20
+enum-known-item : tie.Need-enum-known-item
+enum-known-item c = search needs
+
+-- src/lib.rt:259:26
+push-requires : tie.Need-push-requires
+push-requires c κs = search needs
+
+-- src/lib.rt:260:21
+enum-known-item-2 : tie.Need-enum-known-item-2
+enum-known-item-2 c = search needs
+
+-- src/lib.rt:260:28
+unary-requires : tie.Need-unary-requires
+unary-requires c κs = search needs
+
+-- src/lib.rt:261:22
+enum-known-item-3 : tie.Need-enum-known-item-3
+enum-known-item-3 c = search needs
+
+-- src/lib.rt:261:29
+binary-requires : tie.Need-binary-requires
+binary-requires c κs = search needs
+
+-- src/lib.rt:262:29
+enum-known-item-4 : tie.Need-enum-known-item-4
+enum-known-item-4 c = search needs
+
+-- src/lib.rt:263:17
+part-of-requires : tie.Need-part-of-requires
+part-of-requires c κs = rw (c .before .item4 .given .1) at (c .before .before .before .before .before .before .pre .1)
+
+-- src/lib.rt:264:13
+call-requires : tie.Need-call-requires
+call-requires c κs = search needs
+
+-- src/lib.rt:267:13
+enum-known-item-5 : tie.Need-enum-known-item-5
+enum-known-item-5 c = search needs
+
+-- src/lib.rt:271:17
+part-of-requires-2 : tie.Need-part-of-requires-2
+part-of-requires-2 c κs = rw (c .before .item5 .given .1) at (c .before .before .before .before .before .before .pre .1)
+
+-- src/lib.rt:272:13
+call-template-requires : tie.Need-call-template-requires
+call-template-requires c κs = search needs
+
+-- src/lib.rt:274:22
+enum-known-item-6 : tie.Need-enum-known-item-6
+enum-known-item-6 c = search needs
+
+-- src/lib.rt:276:23
+wide32-requires : tie.Need-wide32-requires
+wide32-requires c κs = search needs
+
+-- src/lib.rt:278:20
+wide32-requires-2 : tie.Need-wide32-requires-2
+wide32-requires-2 c κs = search needs
+
+-- src/lib.rt:279:23
+wide32-requires-3 : tie.Need-wide32-requires-3
+wide32-requires-3 c κs = search needs
+
+-- src/lib.rt:281:13
+take-in-requires : tie.Need-take-in-requires
+take-in-requires c κs = search needs
+
+-- src/lib.rt:283:22
+enum-told : tie.Need-enum-told
+enum-told c = search needs
+
+-- src/lib.rt:284:30
+enum-told-2 : tie.Need-enum-told-2
+enum-told-2 c = search needs
+
+-- src/lib.rt:284:22
+stopped-requires : tie.Need-stopped-requires
+stopped-requires c κs = search needs
+
+-- src/lib.rt:246:1
+same-length : tie.Need-same-length
+same-length c = search needs
+
+-- src/lib.rt:246:1
+same-length-2 : tie.Need-same-length-2
+same-length-2 c = search needs
+
+-- src/lib.rt:246:1
+returns : tie.Need-returns
+unfolding effectOf
+returns c = rw (c .before .before .before .before .before .before .item .given .1) (c .before .before .push .ensures)
+
+-- src/lib.rt:246:1
+same-length-3 : tie.Need-same-length-3
+same-length-3 c = search needs
+
+-- src/lib.rt:246:1
+same-length-4 : tie.Need-same-length-4
+same-length-4 c = search needs
+
+-- src/lib.rt:246:1
+returns-2 : tie.Need-returns-2
+unfolding effectOf
+returns-2 c = rw (c .before .before .before .before .before .before .before .before .item2 .given .1) (c .before .before .before .before .unary .ensures)
+
+-- src/lib.rt:246:1
+same-length-5 : tie.Need-same-length-5
+same-length-5 c = search needs
+
+-- src/lib.rt:246:1
+same-length-6 : tie.Need-same-length-6
+same-length-6 c = search needs
+
+-- src/lib.rt:246:1
+returns-3 : tie.Need-returns-3
+unfolding effectOf
+returns-3 c = rw (c .before .before .before .before .before .before .before .before .item3 .given .1) (c .before .before .before .before .binary .ensures)
+
+-- src/lib.rt:246:1
+same-length-7 : tie.Need-same-length-7
+same-length-7 c = search needs
+
+-- src/lib.rt:246:1
+same-length-8 : tie.Need-same-length-8
+same-length-8 c = search needs
+
+-- src/lib.rt:246:1
+returns-4 : tie.Need-returns-4
+unfolding effectOf
+returns-4 c = rw (c .before .before .before .before .before .before .before .before .before .item4 .given .1) (rw (c .before .before .before .before .before .before .before .part-of .ensures .bytes) at (c .before .before .before .before .call .ensures))
+
+-- src/lib.rt:246:1
+same-length-9 : tie.Need-same-length-9
+same-length-9 c = search needs
+
+-- src/lib.rt:246:1
+same-length-10 : tie.Need-same-length-10
+same-length-10 c = search needs
+
+-- src/lib.rt:246:1
+returns-5 : tie.Need-returns-5
+unfolding effectOf
+returns-5 c = rw (c .before .before .before .before .before .before .before .before .before .item5 .given .1) (rw (c .before .before .before .before .before .before .before .part-of2 .ensures .bytes) at (c .before .before .before .before .call-template .ensures))
+
+-- src/lib.rt:246:1
+same-length-11 : tie.Need-same-length-11
+same-length-11 c = search needs
+
+-- src/lib.rt:246:1
+same-length-12 : tie.Need-same-length-12
+same-length-12 c = search needs
+
+-- src/lib.rt:246:1
+returns-6 : tie.Need-returns-6
+unfolding effectOf
+returns-6 c = rw (c .before .before .before .before .before .before .before .before .before .before .before .item6 .given .1) (rw (c .before .before .before .before .before .before .before .before .before .wide32 .ensures, c .before .before .before .before .before .before .before .before .wide322 .ensures, c .before .before .before .before .before .before .before .wide323 .ensures) at (c .before .before .before .before .take-in .ensures))
+
+-- src/lib.rt:246:1
+returns-7 : tie.Need-returns-7
+unfolding effectOf effectBy Counted
+returns-7 c = rw (c .enum-told .given .1) (record { effect = refl; counted = c .before .before .before .before .before .pre .0 .fits })
+
+-- src/lib.rt:246:1
+returns-8 : tie.Need-returns-8
+unfolding effectOf
+returns-8 c = let a = c .before .before .before .before .before .before .args in rw (c .before .enum-told2 .given .1) (refusing (a .place) (a .count) (a .stack .now) (a .used) (a .table .now) Framing (c .stopped .ensures) refl)
+
+pub step-spec : {M : Type 1} → statement M
+step-spec =
+    tie.close
+    (tie.spec
+    enum-known-item
+    push-requires
+    enum-known-item-2
+    unary-requires
+    enum-known-item-3
+    binary-requires
+    enum-known-item-4
+    part-of-requires
+    call-requires
+    enum-known-item-5
+    part-of-requires-2
+    call-template-requires
+    enum-known-item-6
+    wide32-requires
+    wide32-requires-2
+    wide32-requires-3
+    take-in-requires
+    enum-told
+    enum-told-2
+    stopped-requires
+    same-length
+    same-length-2
+    returns
+    same-length-3
+    same-length-4
+    returns-2
+    same-length-5
+    same-length-6
+    returns-3
+    same-length-7
+    same-length-8
+    returns-4
+    same-length-9
+    same-length-10
+    returns-5
+    same-length-11
+    same-length-12
+    returns-6
+    returns-7
+    returns-8)

@@ -1,0 +1,33 @@
+-- What a sheet keeps of the table, and the state that its accepted items reach. Assumes nothing.
+use Prim.Native.Nat.{ℕ, _*_, _≤_}
+use mathlib.Core.Path.{_≡_}
+use mathlib.Core.List.{List, [], _∷_}
+use lib.ListN.{length, getD}
+use Rattle.table.specs.Table.{stride, Keeps}
+use Rattle.table.specs.declared.answer.Answer.{Answer}
+use Rattle.table.specs.declared.answer.Answer.the-variants.{Value, NoValue, Refused}
+use Rattle.frame.specs.declared.Placed.{Placed}
+use Rattle.sheet.specs.Machine.{State, Turned, more, done, turnOf}
+
+-- a table of n entries in the words w became one of m entries in the words v: the earlier entries stand at their numbers with their words, and no
+-- word behind the m entries changed
+pub record Grew (w : List ℕ) (n : ℕ) (v : List ℕ) (m : ℕ) : Type 0 where
+  pub more : n ≤ m
+  pub keeps : Keeps w v n
+  pub long : length v ≡ length w
+  pub beyond : (k : ℕ) → m * stride ≤ k → getD v k 0 ≡ getD w k 0
+
+-- the count that an answer gives
+abbrev pub countOf : Answer → ℕ
+countOf (Value t m) = m
+countOf (NoValue m) = m
+countOf (Refused r) = r .used
+
+-- the state after the items that are accepted, one after the other
+unfoldable pub further : Turned → State → (State → State) → State
+further (more st') st go = go st'
+further (done o) st go = st
+
+unfoldable pub reached : List ℕ → List Placed → State → State
+reached s [] st = st
+reached s (x ∷ xs) st = further (turnOf s x st) st (reached s xs)
