@@ -123,14 +123,14 @@ module _ (place : ℕ) (st : State) (good : Good st) where
       (record { sound = good .sound; under = under-pushed n (st .stack) t (good .under) (ltb-true t n b); high = omega (arith, high-pushed (st .stack) t) }, grew-none w n)))
       (λ b. kept-stop NoSuchType)
 
-  kept-unary : (op : ℕ) → EffectKept st (unaryEffect place st op)
+  pub kept-unary : (op : ℕ) → EffectKept st (unaryEffect place st op)
   unfolding unaryEffect
   kept-unary op =
       kept-having 1 _ (λ l.
       kept-onto (below 1 st) _ (below-under 1) (omega (arith, below-high 1, good .high)) (λ t m e. omega (arith, below-high 1, good .high))
       (unary-at-kept place w n (good .sound) op _ (operand-under 1 0 l (omega arith))))
 
-  kept-binary : (op : ℕ) → EffectKept st (binaryEffect place st op)
+  pub kept-binary : (op : ℕ) → EffectKept st (binaryEffect place st op)
   unfolding binaryEffect
   kept-binary op =
       kept-having 2 _ (λ l.

@@ -7,3 +7,4 @@ pub mod Keeping
 pub mod Running
 pub mod Demand1
 pub mod OneReply
+pub mod MemoLaws

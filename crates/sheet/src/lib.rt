@@ -18,6 +18,7 @@ ghost use Rattle.table.specs.Placing.{Gave};
 ghost use Rattle.frame.specs.Frame.{headerSize, itemsFrom, nameOf, Within};
 ghost use Rattle.call_ty.specs.Codes.{Under};
 ghost use Rattle.sheet.specs.Machine.{valueOf, numberOf, pushEffect, unaryEffect, binaryEffect, calling, callEffect, templateEffect, takeEffect, effectOf, endAnswer, leftAnswer, turnOf, runItems, begun, typeSheet};
+ghost use Rattle.sheet.specs.Memo.{keyOf, Recalls, Recalled, Noted, Leaves, NotedDid, After, AfterTurn};
 ghost use Rattle.sheet.specs.Code.{stateOf, turnedAway, Ready, Pushes, Settles, Does, Turns};
 
 // A call's name, as that part of the lent sheet.
@@ -25,6 +26,19 @@ pub use frame::call_name;
 
 // How many values the stack holds.
 pub const VALUES: usize = 64;
+
+// How many results of operators a run's memo holds, and what it answers where it has none.
+const SLOTS: usize = 256;
+
+const NOTHING: u32 = 256;
+// How many operators there are, and the code of the first of each in the memo.
+const BINARY_OPS: u8 = 18;
+
+const UNARY_OPS: u8 = 5;
+
+const BINARY_CODES: u32 = 1;
+
+const UNARY_CODES: u32 = 19;
 
 // What an item did: it left so many values and entries; it was a call without value; the items ended; or it was refused.
 pub enum Did {
@@ -157,6 +171,117 @@ fn binary(
     settle(stack, base, r)
 }
 
+// THE MEMO. An operator that was typed before on the same values gives the same value: it is recalled, and not typed again.
+
+// An operator and the values of its operands, as one number.
+fn key_of(code: u32, a: u32, b: u32) -> u32
+    requires { ⌜ (code < 24) × (a < 256) × (b < 256) ⌝ }
+    ensures { λ r. ⌜ r ≡ keyOf code a b ⌝ }
+{
+    (code * 256 + a) * 256 + b
+}
+
+// The slot of a key. Any would do: a slot says itself what it holds.
+fn slot_of(key: u32) -> usize
+    ensures { λ r. ⌜ r < 256 ⌝ }
+{
+    let mixed = key / 65536 * 37 + key / 256 % 256 * 5 + key % 256;
+    (mixed % 256) as usize
+}
+
+// The value that the memo has for a key, or NOTHING.
+fn recall(memo: &[u32], key: u32) -> u32
+    requires { ⌜ length (now memo) ≡ 256 ⌝ }
+    ensures { λ r. ⌜ Recalled (now (memo .entry)) key r ⌝ }
+{
+    let v = memo[slot_of(key)];
+    if v / 256 == key {
+        return v % 256;
+    }
+    NOTHING
+}
+
+// Notes the value for a key.
+fn note(memo: &mut [u32], key: u32, t: u32)
+    requires { ⌜ (length (now memo) ≡ 256) × (key < 2 ^ 24) × (t < 256) ⌝ }
+    ensures { λ _. ⌜ Noted (now (memo .entry)) key t (now (memo .exit)) ⌝ }
+{
+    let i = slot_of(key);
+    memo[i] = key * 256 + t;
+}
+
+// What an item left, noted where it left a value.
+fn note_did(memo: &mut [u32], key: u32, d: Did, stack: &[u32])
+    requires { ⌜ (length (now memo) ≡ 256) × (key < 2 ^ 24) × Leaves d (now stack) ⌝ }
+    ensures { λ _. ⌜ NotedDid (now (memo .entry)) key d (now (stack .entry)) (now (memo .exit)) ⌝ }
+{
+    match d {
+        Did::Went { count, used: _ } => {
+            note(memo, key, stack[count - 1]);
+        }
+        _ => {}
+    }
+}
+
+// `unary`, by the memo where it can.
+fn unary_by(
+    op: u8,
+    place: Place,
+    stack: &mut [u32],
+    count: usize,
+    table: &mut [u32],
+    used: usize,
+    memo: &mut [u32],
+) -> Did
+    requires { ⌜ Ready count (now stack) used (now table) × Recalls (now memo) (now table) used ⌝ }
+    ensures { λ r. ⌜ Does (unaryEffect (place .0) (stateOf count (now (stack .entry)) used (now (table .entry))) op) r (now (stack .exit)) (now (table .exit)) × After r (now (memo .exit)) (now (table .exit)) ⌝ }
+{
+    if (count < 1) | (UNARY_OPS <= op) {
+        return unary(op, place, stack, count, table, used);
+    }
+    let base = count - 1;
+    let key = key_of(UNARY_CODES + wide32(op), stack[base], 0);
+    let t = recall(memo, key);
+    if t != NOTHING {
+        stack[base] = t;
+        return Did::Went { count, used };
+    }
+    let d = unary(op, place, stack, count, table, used);
+    note_did(memo, key, d, stack);
+    d
+}
+
+// `binary`, by the memo where it can.
+fn binary_by(
+    op: u8,
+    place: Place,
+    stack: &mut [u32],
+    count: usize,
+    table: &mut [u32],
+    used: usize,
+    memo: &mut [u32],
+) -> Did
+    requires { ⌜ Ready count (now stack) used (now table) × Recalls (now memo) (now table) used ⌝ }
+    ensures { λ r. ⌜ Does (binaryEffect (place .0) (stateOf count (now (stack .entry)) used (now (table .entry))) op) r (now (stack .exit)) (now (table .exit)) × After r (now (memo .exit)) (now (table .exit)) ⌝ }
+{
+    if (count < 2) | (BINARY_OPS <= op) {
+        return binary(op, place, stack, count, table, used);
+    }
+    let base = count - 2;
+    let key = key_of(BINARY_CODES + wide32(op), stack[base], stack[base + 1]);
+    let t = recall(memo, key);
+    if t != NOTHING {
+        stack[base] = t;
+        return Did::Went {
+            count: count - 1,
+            used,
+        };
+    }
+    let d = binary(op, place, stack, count, table, used);
+    note_did(memo, key, d, stack);
+    d
+}
+
 // A call on the last k values, with its template list.
 fn call_on(
     name: &[u8],
@@ -251,14 +376,15 @@ fn step(
     count: usize,
     table: &mut [u32],
     used: usize,
+    memo: &mut [u32],
 ) -> Did
-    requires { ⌜ Ready count (now stack) used (now table) × Within (length (now sheet)) (nameOf item) ⌝ }
-    ensures { λ r. ⌜ Does (effectOf (place .0) (stateOf count (now (stack .entry)) used (now (table .entry))) (now (sheet .entry)) item) r (now (stack .exit)) (now (table .exit)) ⌝ }
+    requires { ⌜ Ready count (now stack) used (now table) × Within (length (now sheet)) (nameOf item) × Recalls (now memo) (now table) used ⌝ }
+    ensures { λ r. ⌜ Does (effectOf (place .0) (stateOf count (now (stack .entry)) used (now (table .entry))) (now (sheet .entry)) item) r (now (stack .exit)) (now (table .exit)) × After r (now (memo .exit)) (now (table .exit)) ⌝ }
 {
     match item {
         Item::Push(t) => push(t, place, stack, count, table, used),
-        Item::Unary(op) => unary(op, place, stack, count, table, used),
-        Item::Binary(op) => binary(op, place, stack, count, table, used),
+        Item::Unary(op) => unary_by(op, place, stack, count, table, used, memo),
+        Item::Binary(op) => binary_by(op, place, stack, count, table, used, memo),
         Item::Call { count: k, name } => {
             let bytes = frame::part_of(sheet, name);
             call(bytes, k, place, stack, count, table, used)
@@ -314,14 +440,15 @@ fn one_turn(
     count: usize,
     table: &mut [u32],
     used: usize,
+    memo: &mut [u32],
 ) -> Turn
-    requires { ⌜ Ready count (now stack) used (now table) × Within (length (now sheet)) (nameOf (found .item)) ⌝ }
-    ensures { λ r. ⌜ Turns (turnOf (now (sheet .entry)) found (stateOf count (now (stack .entry)) used (now (table .entry)))) r (now (stack .exit)) (now (table .exit)) ⌝ }
+    requires { ⌜ Ready count (now stack) used (now table) × Within (length (now sheet)) (nameOf (found .item)) × Recalls (now memo) (now table) used ⌝ }
+    ensures { λ r. ⌜ Turns (turnOf (now (sheet .entry)) found (stateOf count (now (stack .entry)) used (now (table .entry)))) r (now (stack .exit)) (now (table .exit)) × AfterTurn r (now (memo .exit)) (now (table .exit)) ⌝ }
 {
     let size = sheet.len();
     let place = found.at;
     let item = found.item;
-    match step(sheet, item, place, stack, count, table, used) {
+    match step(sheet, item, place, stack, count, table, used, memo) {
         Did::Went { count: c, used: u } => Turn::More { count: c, used: u },
         Did::Silent { count: c, used: u } => {
             Turn::Done(leave(size, place, found.next, c, u))
@@ -338,12 +465,14 @@ fn run(sheet: &[u8], table: &mut [u32], used: usize) -> Answer
 {
     let mut values = [0u32; VALUES];
     let stack: &mut [u32] = &mut values;
+    let mut results = [0u32; SLOTS];
+    let memo: &mut [u32] = &mut results;
     let mut count: usize = 0;
     let mut n = used;
     let mut at = HEADER;
     loop {
         let found = frame::item_at(sheet, Place(at));
-        match one_turn(sheet, found, stack, count, table, n) {
+        match one_turn(sheet, found, stack, count, table, n, memo) {
             Turn::More { count: c, used: u } => {
                 let next = found.next;
                 at = next.0;
