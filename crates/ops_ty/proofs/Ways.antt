@@ -16,7 +16,7 @@ use Rattle.overload.proofs.Operands.{allFormed, judge-types}
 use Rattle.table.specs.Table.{soundb, Sound}
 use Rattle.table.specs.Denote.{typeAt}
 use Rattle.table.specs.Placing.{Outcome, turnedDown}
-use Rattle.table.specs.declared.answer.Reason.the-variants.{Unsound, NoSuchType, Reference, Unknown}
+use Rattle.answer.specs.declared.Reason.the-variants.{Unsound, NoSuchType, Reference, Unknown}
 use Rattle.table.proofs.FormedLaws.{formed-at}
 use Rattle.ruled.specs.Call.{anyReference, judgedOutcome, ruledOutcome}
 use Rattle.ruled.proofs.Loaded.{code-ref, ruled-reference, ruled-judged}

@@ -18,7 +18,7 @@ use Rattle.overload.proofs.Operands.{code-scalar, code-vec, code-mat, code-othe
 use Rattle.table.specs.Table.{kindRef, kindPtr, entryAt, Sound}
 use Rattle.table.specs.Denote.{typeAt, kindOf}
 use Rattle.table.specs.Placing.{Outcome, turnedDown}
-use Rattle.table.specs.declared.answer.Reason.the-variants.{Reference}
+use Rattle.answer.specs.declared.Reason.the-variants.{Reference}
 use Rattle.table.proofs.FormedLaws.{formed-at}
 use Rattle.table.proofs.TypeLaws.{kind-of}
 use Rattle.ruled.specs.Call.{anyReference, judgedOutcome, ruledOutcome}

@@ -1,6 +1,6 @@
 // The one answer that every call gives, built and numbered here alone.
 ghost use mathlib.Core.Path.{_≡_};
-ghost use Rattle.table.specs.Answer.{reasonNo, Accepted, WithoutValue, Turned};
+ghost use Rattle.answer.specs.Answer.{reasonNo, Accepted, WithoutValue, Turned};
 
 // The number of a table entry.
 pub struct TypeNo(pub usize);

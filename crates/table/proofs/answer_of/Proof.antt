@@ -1,12 +1,10 @@
--- `ruled::answer_of` meets its contract: the two cases of entering. Assumes nothing.
+-- `table::answer_of` meets its contract: the two cases of entering. Assumes nothing.
 use borrow.Author.Needs.{needs}
 use mathlib.Core.Path.{_≡_, sym, _∙_, ap}
-use Rattle.table.specs.Placing.{entryAnswer}
+use Rattle.table.specs.Enter.{entryAnswer}
 use Rattle.table.specs.declared.Entered.{Entered}
-use Rattle.ruled.proofs.answer_of.Statement.{statement}
-use Rattle.ruled.proofs.answer_of.Tie as tie
-use Rattle.ruled.proofs.answer_of.Reads as reads
-use Rattle.ruled.proofs.answer_of.Lts as lts
+use Rattle.table.proofs.answer_of.Statement.{statement}
+use Rattle.table.proofs.answer_of.Tie as tie
 
 enum-known-r : tie.Need-enum-known-r
 enum-known-r c = search needs
