@@ -1,0 +1,4 @@
+pub mod Lengths
+pub mod Valued
+pub mod Examples
+pub mod OneReply
