@@ -6,15 +6,15 @@ use mathlib.Core.List.{List}
 use native.Mathlib.Omega.{arith}
 use Rattle.conv.specs.Types.{Ty}
 use Rattle.names.specs.Names.{Known, ruleOf}
-use Rattle.table.specs.Answer.{refuse}
+use Rattle.answer.specs.Answer.{refuse}
 use Rattle.table.specs.Table.{Sound}
 use Rattle.table.specs.Denote.{typeAt}
 use Rattle.table.specs.Stands.{Absent, Stands}
 use Rattle.table.specs.Placing.{Outcome, Gave, entering}
-use Rattle.table.specs.declared.answer.TypeNo.{TypeNo}
-use Rattle.table.specs.declared.answer.Refusal.{Refusal}
-use Rattle.table.specs.declared.answer.Answer.{Answer}
-use Rattle.table.specs.declared.answer.Answer.the-variants.{Value, NoValue, Refused}
+use Rattle.answer.specs.declared.TypeNo.{TypeNo}
+use Rattle.answer.specs.declared.Refusal.{Refusal}
+use Rattle.answer.specs.declared.Answer.{Answer}
+use Rattle.answer.specs.declared.Answer.the-variants.{Value, NoValue, Refused}
 use Rattle.table.proofs.Demand1.{entering-stands, entering-missing, entering-refused, entering-valued}
 use Rattle.call_ty.specs.Calls.{callOutcome, typeBuiltinFn}
 use Rattle.call_ty.specs.Codes.{Under}

@@ -8,12 +8,12 @@ use Rattle.conv.specs.Types.{Ty}
 use Rattle.overload.specs.Overload.Judged.{gives}
 use Rattle.names.specs.Names.{Known, ruleOf}
 use Rattle.names.specs.Names.Known.{known}
-use Rattle.table.specs.Answer.{refuse}
+use Rattle.answer.specs.Answer.{refuse}
 use Rattle.table.specs.Table.{Sound}
 use Rattle.table.specs.Denote.{typeAt}
 use Rattle.table.specs.Placing.{Outcome, Gave}
-use Rattle.table.specs.declared.answer.TypeNo.{TypeNo}
-use Rattle.table.specs.declared.answer.Answer.the-variants.{Value, NoValue}
+use Rattle.answer.specs.declared.TypeNo.{TypeNo}
+use Rattle.answer.specs.declared.Answer.the-variants.{Value, NoValue}
 use Rattle.table.proofs.Demand1.{entering-stands}
 use Rattle.call_ty.specs.Calls.{givenBy, callOutcome, typeBuiltinFn}
 use Rattle.call_ty.specs.Calls.Given.{judgment}

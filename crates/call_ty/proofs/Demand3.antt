@@ -18,13 +18,13 @@ use Rattle.overload.proofs.Judge.{judge-resolved}
 use Rattle.overload.proofs.Results.{gives-formed}
 use Rattle.names.specs.Names.{Known, ruleOf, overloadRows}
 use Rattle.names.specs.Names.Known.{known}
-use Rattle.table.specs.Answer.{refuse, reasonNo}
+use Rattle.answer.specs.Answer.{refuse, reasonNo}
 use Rattle.table.specs.Table.{Sound}
 use Rattle.table.specs.Placing.{Outcome, Gave, turnedDown, entering}
-use Rattle.table.specs.declared.answer.Reason.{Reason}
-use Rattle.table.specs.declared.answer.Reason.the-variants.{NoOverload, NoRoom}
-use Rattle.table.specs.declared.answer.Refusal.{Refusal}
-use Rattle.table.specs.declared.answer.Answer.the-variants.{NoValue, Refused}
+use Rattle.answer.specs.declared.Reason.{Reason}
+use Rattle.answer.specs.declared.Reason.the-variants.{NoOverload, NoRoom}
+use Rattle.answer.specs.declared.Refusal.{Refusal}
+use Rattle.answer.specs.declared.Answer.the-variants.{NoValue, Refused}
 use Rattle.table.proofs.Demand1.{entering-refused}
 use Rattle.ruled.specs.Call.{anyReference, judgedOutcome}
 use Rattle.call_ty.specs.Calls.{templateRight, operandsOf, givenBy, givenOutcome, byRule, callOutcome, typeBuiltinFn}

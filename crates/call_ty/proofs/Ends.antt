@@ -15,11 +15,11 @@ use Rattle.overload.proofs.Judge.{judge-resolved}
 use Rattle.overload.proofs.Results.{gives-formed}
 use Rattle.names.specs.Names.{Known, ruleOf, overloadRows, ruleBitcast, ruleArrayLength, ruleLdexp}
 use Rattle.names.specs.Names.Known.{known, unknown}
-use Rattle.table.specs.Answer.{reasonNo}
+use Rattle.answer.specs.Answer.{reasonNo}
 use Rattle.table.specs.Table.{soundb, Sound}
 use Rattle.table.specs.Placing.{Outcome, turnedDown, entering}
-use Rattle.table.specs.declared.answer.Reason.{Reason}
-use Rattle.table.specs.declared.answer.Reason.the-variants.{Unsound, NoSuchType, Reference, Unknown, Template, Operands, NoOverload}
+use Rattle.answer.specs.declared.Reason.{Reason}
+use Rattle.answer.specs.declared.Reason.the-variants.{Unsound, NoSuchType, Reference, Unknown, Template, Operands, NoOverload}
 use Rattle.table.proofs.SoundLaws.{sound-of}
 use Rattle.ruled.specs.Call.{anyReference, judgedOutcome}
 use Rattle.call_ty.specs.Calls.{firstIn, secondIn, templateRight, operandsOf, ldexpTakes, judgeLdexp, givenBy, givenOutcome, withoutValue, byRule, allUnder, typeBuiltinFn}

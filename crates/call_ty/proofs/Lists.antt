@@ -1,14 +1,13 @@
 -- Lists of numbers of types, and the types that they stand for. Assumes nothing.
 use Prim.Native.Nat.{ℕ, zero, suc, _-_, _≤_, _<_}
 use mathlib.Core.Path.{_≡_, refl, sym, _∙_, ap}
-use mathlib.Core.Logic.{_≢_}
 use mathlib.Core.Bool.{Bool, true, false, _&&_}
 use mathlib.Core.List.{List, [], _∷_, map}
 use native.Mathlib.Nat.{not-suc-le-zero}
 use native.Mathlib.Omega.{arith}
-use lib.Dec.{eqb, ltb}
+use lib.Dec.{ltb}
 use lib.ListN.{length, getD, take, drop, length-map}
-use borrow.Author.Tests.{ltb-true, lt-ltb, le-ltb, eq-eqb, ne-eqb}
+use borrow.Author.Tests.{ltb-true, lt-ltb, le-ltb}
 use Rattle.conv.specs.Types.{Ty, bool}
 use Rattle.conv.specs.Types.Ty.{scalar}
 use Rattle.conv.specs.Rank.{isReference}
@@ -20,7 +19,6 @@ use Rattle.table.specs.Denote.{typeAt}
 use Rattle.table.proofs.KindLaws.{and-false}
 use Rattle.table.proofs.FormedLaws.{formed-at}
 use Rattle.ruled.specs.Call.{anyReference}
-use Rattle.ruled.proofs.Loaded.{code-ref}
 use Rattle.call_ty.specs.Calls.{allUnder}
 use Rattle.call_ty.specs.Codes.{Under}
 
@@ -87,14 +85,3 @@ module _ (w : List ℕ) where
 -- the part of the codes that is handed on
 pub codes-front : (w : List ℕ) (ts cs : List ℕ) → take (length (types w ts)) cs ≡ codesOf (types w ts) → take (length ts - 0) (drop 0 cs) ≡ codesOf (types w ts)
 codes-front w ts cs h = let z : length ts - 0 ≡ length ts = omega arith in ap (λ (k : ℕ). take k cs) (z ∙ sym (length-map ts (typeAt w))) ∙ h
-
--- whether an operand is a reference, by its number
-module _ (w : List ℕ) (n : ℕ) (s : Sound w n) (t : ℕ) (l : t < n) (x : ℕ) (e : x ≡ codeOf (typeAt w t)) where
-  by-number : isReference (typeAt w t) ≡ eqb x 98
-  by-number = code-ref (typeAt w t) (formed-at w n s t l) .1 ∙ ap (λ (k : ℕ). eqb k 98) (sym e)
-
-  pub offered : x ≡ 98 → isReference (typeAt w t) ≡ true
-  offered h = by-number ∙ eq-eqb x 98 h
-
-  pub not-offered : x ≢ 98 → isReference (typeAt w t) ≡ false
-  not-offered h = by-number ∙ ne-eqb x 98 h

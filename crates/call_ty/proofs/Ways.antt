@@ -15,13 +15,13 @@ use Rattle.overload.specs.Code.{operand, codeOf}
 use Rattle.overload.proofs.Operands.{and-left, allFormed, codesOf, judge-types}
 use Rattle.names.specs.Names.{overloadRows, ruleBitcast, ruleArrayLength, ruleLdexp}
 use Rattle.names.specs.Names.Known.{known, unknown}
-use Rattle.table.specs.Answer.{accept, Accepted, WithoutValue}
+use Rattle.answer.specs.Answer.{accept, Accepted, WithoutValue}
 use Rattle.table.specs.Table.{soundb, Sound}
 use Rattle.table.specs.Denote.{typeAt}
 use Rattle.table.specs.Placing.{Gave, turnedDown}
-use Rattle.table.specs.declared.answer.Answer.{Answer}
-use Rattle.table.specs.declared.answer.TypeNo.{TypeNo}
-use Rattle.table.specs.declared.answer.Reason.the-variants.{Unsound, NoSuchType, Reference, Unknown, Template, Operands, NoOverload}
+use Rattle.answer.specs.declared.Answer.{Answer}
+use Rattle.answer.specs.declared.TypeNo.{TypeNo}
+use Rattle.answer.specs.declared.Reason.the-variants.{Unsound, NoSuchType, Reference, Unknown, Template, Operands, NoOverload}
 use Rattle.table.proofs.TypeLaws.{type-scalar}
 use Rattle.table.proofs.FormedLaws.{formed-at}
 use Rattle.table.proofs.PlacingLaws.{standing-outcome}

@@ -15,8 +15,8 @@ use Rattle.names.specs.Names.Known.{known, unknown}
 use Rattle.table.specs.Table.{soundb}
 use Rattle.table.specs.Denote.{typeAt}
 use Rattle.table.specs.Placing.{Outcome, turnedDown}
-use Rattle.table.specs.declared.answer.Reason.the-variants.{Unsound, NoSuchType, Reference, Unknown, Template, Operands}
-use Rattle.table.specs.declared.answer.Answer.the-variants.{NoValue}
+use Rattle.answer.specs.declared.Reason.the-variants.{Unsound, NoSuchType, Reference, Unknown, Template, Operands}
+use Rattle.answer.specs.declared.Answer.the-variants.{NoValue}
 use Rattle.ruled.specs.Call.{anyReference, judgedOutcome}
 
 -- WORDS OF THE CRATE RULES

@@ -6,8 +6,8 @@ use mathlib.Core.Bool.{Bool, true, false, _&&_}
 use lib.ListN.{length, getD, take, drop}
 use lib.Dec.{ltb, leb, eqb}
 use denote.Ref.{RefT, now}
-use Rattle.table.specs.declared.answer.Place.{Place}
-use Rattle.table.specs.declared.answer.TypeNo.{TypeNo}
+use Rattle.answer.specs.declared.Place.{Place}
+use Rattle.answer.specs.declared.TypeNo.{TypeNo}
 use Rattle.frame.specs.declared.Part.{Part}
 use Rattle.frame.specs.declared.Item.{Item}
 use Rattle.frame.specs.declared.Item.the-variants.{Push, Unary, Binary, Call, CallTemplate, Take, End, Bad}

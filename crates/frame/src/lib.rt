@@ -3,8 +3,8 @@ ghost use mathlib.Core.Path.{_≡_};
 ghost use Prim.Native.Nat.{_+_, _<_, _≤_, _^_};
 ghost use lib.ListN.{length};
 ghost use Rattle.frame.specs.Frame.{version, headerOk, be32, payloadItem, itemAt, namePart, Within, IsPart};
-use table::Place;
-use table::TypeNo;
+use answer::Place;
+use answer::TypeNo;
 
 // The version that is read, the bytes of the header, and the most bytes that may follow it.
 pub const VERSION: u8 = 1;

@@ -1,11 +1,11 @@
 -- The lines that document 01 writes out, byte by byte: all compute. Assumes nothing.
 use mathlib.Core.Path.{_≡_, refl}
 use mathlib.Core.List.{_++_}
-use Rattle.table.specs.Answer.{accept, refuse}
+use Rattle.answer.specs.Answer.{accept, refuse}
 use Rattle.table.specs.Table.{chainBy, chain}
 use Rattle.table.specs.Denote.{typeAt}
-use Rattle.table.specs.declared.answer.Reason.the-variants.{NoOverload}
-use Rattle.table.specs.declared.answer.Answer.the-variants.{NoValue}
+use Rattle.answer.specs.declared.Reason.the-variants.{NoOverload}
+use Rattle.answer.specs.declared.Answer.the-variants.{NoValue}
 use Rattle.spell.specs.Spell.{ascii, named, decimalBy, decimal, spelling}
 use Rattle.lines.specs.Lines.{typeLine, refusedLine, firstLine, secondLine, lineEnd, linesOf, start}
 

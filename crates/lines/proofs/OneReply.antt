@@ -2,7 +2,7 @@
 use Prim.Native.Nat.{ℕ}
 use mathlib.Core.Path.{_≡_}
 use mathlib.Core.List.{List}
-use Rattle.table.specs.declared.answer.Answer.{Answer}
+use Rattle.answer.specs.declared.Answer.{Answer}
 use Rattle.spell.specs.Parts.{Put}
 use Rattle.spell.proofs.OneReply.{one-put}
 use Rattle.lines.specs.Lines.{linesOf, report}

@@ -1,20 +1,20 @@
 -- The type that a sheet is answered with is one of the table, and so can be spelled. Assumes nothing.
 use Prim.Native.Nat.{ℕ, _<_}
-use mathlib.Core.Path.{_≡_, refl, sym, _∙_, ap}
+use mathlib.Core.Path.{_≡_, refl, _∙_, ap}
 use mathlib.Core.Bool.{Bool, true, false, _&&_, cond}
 use mathlib.Core.List.{List, [], _∷_}
 use native.Mathlib.Omega.{arith}
 use lib.Dec.{eqb}
 use lib.ListN.{length, getD}
 use borrow.Author.Tests.{eqb-true}
-use Rattle.table.specs.Answer.{accept, refuse}
+use Rattle.answer.specs.Answer.{accept, refuse}
 use Rattle.table.specs.Tools.{allBelow}
 use Rattle.table.specs.Table.{scalars, entryOk, findIn, soundb, Sound}
 use Rattle.table.specs.Placing.{Outcome}
-use Rattle.table.specs.declared.answer.Reason.the-variants.{Stack}
-use Rattle.table.specs.declared.answer.TypeNo.{TypeNo}
-use Rattle.table.specs.declared.answer.Answer.{Answer}
-use Rattle.table.specs.declared.answer.Answer.the-variants.{Value, NoValue, Refused}
+use Rattle.answer.specs.declared.Reason.the-variants.{Stack}
+use Rattle.answer.specs.declared.TypeNo.{TypeNo}
+use Rattle.answer.specs.declared.Answer.{Answer}
+use Rattle.answer.specs.declared.Answer.the-variants.{Value, NoValue, Refused}
 use Rattle.table.proofs.SoundLaws.{sound-of}
 use Rattle.table.proofs.KindLaws.{split}
 use Rattle.frame.specs.Frame.{version, headerSize, headerOk, itemsFrom}
@@ -86,7 +86,7 @@ module _ (t : TypeNo) (m : ℕ) where
         (λ k. let q = ap (λ (o : Outcome). o .answer) (sheet-unheaded w n s h k) ∙ e in never (cc))
 
 -- the seven scalars are a sound table
-start-sound : soundb start scalars ≡ true
+pub start-sound : soundb start scalars ≡ true
 unfolding soundb entryOk findIn allBelow
 start-sound = refl
 

@@ -2,13 +2,13 @@
 use Prim.Native.Nat.{ℕ, _<_}
 use mathlib.Core.List.{List, [], _∷_, _++_}
 use lib.ListN.{replicate}
-use Rattle.table.specs.Answer.{reasonNo, numbersOf}
+use Rattle.answer.specs.Answer.{reasonNo, numbersOf}
 use Rattle.table.specs.Table.{scalars, Sound}
 use Rattle.table.specs.Denote.{typeAt}
 use Rattle.table.specs.Placing.{Outcome}
-use Rattle.table.specs.declared.answer.Refusal.{Refusal}
-use Rattle.table.specs.declared.answer.Answer.{Answer}
-use Rattle.table.specs.declared.answer.Answer.the-variants.{Value, NoValue, Refused}
+use Rattle.answer.specs.declared.Refusal.{Refusal}
+use Rattle.answer.specs.declared.Answer.{Answer}
+use Rattle.answer.specs.declared.Answer.the-variants.{Value, NoValue, Refused}
 use Rattle.spell.specs.Spell.{ascii, decimal, spelling}
 use Rattle.sheet.specs.Machine.{typeSheet}
 

@@ -1,14 +1,13 @@
 // The two lines that the program writes for a sheet.
+use answer::Answer;
+use answer::Refusal;
+use answer::TypeNo;
 use sheet::type_sheet;
-use table::Answer;
-use table::Refusal;
-use table::TypeNo;
 ghost use mathlib.Core.Path.{_≡_};
 ghost use mathlib.Core.List.{_++_};
 ghost use Prim.Native.Nat.{_+_, _*_, _<_};
 ghost use lib.ListN.{length};
 ghost use Rattle.table.specs.Table.{Sound};
-ghost use Rattle.table.specs.Placing.{Outcome};
 ghost use Rattle.spell.specs.Spell.{decimal};
 ghost use Rattle.spell.specs.Parts.{Put, far};
 ghost use Rattle.lines.specs.Lines.{typeLine, refusedLine, firstLine, usedOf, linesOf, start, report, Spellable};
@@ -57,7 +56,7 @@ fn refused_line(r: Refusal, out: &mut [u8]) -> usize
 {
     let why = r.reason;
     let place = r.place;
-    let a = put_after(out, 0, b"refused ", table::reason_no(why) as usize);
+    let a = put_after(out, 0, b"refused ", answer::reason_no(why) as usize);
     put_after(out, a, b" at ", place.0)
 }
 

@@ -1,10 +1,10 @@
 // Lists the items of a sheet given on standard input through the reader, one line each: the place of the item, its kind, its numbers and its name.
+use answer::Place;
 use frame::HEADER;
 use frame::Item;
 use frame::Placed;
 use libc::STDIN_FILENO;
 use libc::STDOUT_FILENO;
-use table::Place;
 
 fn text(bytes: &[u8]) {
     io::write_all(STDOUT_FILENO, bytes);

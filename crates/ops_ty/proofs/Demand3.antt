@@ -18,13 +18,13 @@ use Rattle.overload.proofs.Operands.{allFormed}
 use Rattle.overload.proofs.Described.{judge-address, judge-indirection}
 use Rattle.overload.proofs.Judge.{judge-resolved}
 use Rattle.overload.proofs.Results.{gives-formed}
-use Rattle.table.specs.Answer.{accept}
+use Rattle.answer.specs.Answer.{accept}
 use Rattle.table.specs.Table.{soundb, Sound}
 use Rattle.table.specs.Denote.{typeAt}
 use Rattle.table.specs.Placing.{Outcome, turnedDown}
-use Rattle.table.specs.declared.answer.TypeNo.{TypeNo}
-use Rattle.table.specs.declared.answer.Reason.the-variants.{NoOverload}
-use Rattle.table.specs.declared.answer.Answer.the-variants.{Value}
+use Rattle.answer.specs.declared.TypeNo.{TypeNo}
+use Rattle.answer.specs.declared.Reason.the-variants.{NoOverload}
+use Rattle.answer.specs.declared.Answer.the-variants.{Value}
 use Rattle.table.proofs.SoundLaws.{of-sound}
 use Rattle.table.proofs.FormedLaws.{formed-at}
 use Rattle.ruled.specs.Call.{anyReference, judgedOutcome, ruledOutcome}

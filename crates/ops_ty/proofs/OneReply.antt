@@ -4,7 +4,7 @@ use mathlib.Core.Path.{_≡_}
 use mathlib.Core.List.{List}
 use Rattle.conv.specs.Types.{Ty}
 use Rattle.table.specs.Placing.{Gave}
-use Rattle.table.specs.declared.answer.Answer.{Answer}
+use Rattle.answer.specs.declared.Answer.{Answer}
 use Rattle.table.proofs.OneReply.{gave-one}
 use Rattle.ops_ty.specs.Ops.{unaryOutcome, binaryOutcome, typeUnaryOp, typeBinaryOp}
 

@@ -16,9 +16,9 @@ use Rattle.overload.specs.Rows.{judgeAddress, judgeIndirection}
 use Rattle.overload.proofs.Operands.{and-left, and-right}
 use Rattle.table.specs.Table.{scalars, kindPtr, kindRef, entryAt, Sound}
 use Rattle.table.specs.Denote.{made, typeAt, tyOf}
-use Rattle.table.specs.Enter.{EnterDone}
-use Rattle.table.specs.Placing.{Outcome, turnedDown, entering, entryAnswer}
-use Rattle.table.specs.declared.answer.Reason.the-variants.{NoOverload}
+use Rattle.table.specs.Enter.{EnterDone, entryAnswer}
+use Rattle.table.specs.Placing.{Outcome, turnedDown, entering}
+use Rattle.answer.specs.declared.Reason.the-variants.{NoOverload}
 use Rattle.table.specs.declared.Entry.{Entry}
 use Rattle.table.specs.declared.Entered.{Entered}
 use Rattle.table.proofs.TypeLaws.{type-ptr, type-ref, kind-above, elem-in, made-ptr, made-ref, row-at}

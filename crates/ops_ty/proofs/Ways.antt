@@ -13,25 +13,13 @@ use Rattle.overload.specs.Overload.{or}
 use Rattle.overload.specs.Rows.{judgeRow, judgeAddress, judgeIndirection}
 use Rattle.overload.specs.Code.{operand, codeOf}
 use Rattle.overload.proofs.Operands.{allFormed, judge-types}
-use Rattle.table.specs.Table.{soundb, Sound}
+use Rattle.table.specs.Table.{soundb}
 use Rattle.table.specs.Denote.{typeAt}
 use Rattle.table.specs.Placing.{Outcome, turnedDown}
-use Rattle.table.specs.declared.answer.Reason.the-variants.{Unsound, NoSuchType, Reference, Unknown}
-use Rattle.table.proofs.FormedLaws.{formed-at}
+use Rattle.answer.specs.declared.Reason.the-variants.{Unsound, NoSuchType, Reference, Unknown}
 use Rattle.ruled.specs.Call.{anyReference, judgedOutcome, ruledOutcome}
-use Rattle.ruled.proofs.Loaded.{code-ref, ruled-reference, ruled-judged}
+use Rattle.ruled.proofs.Loaded.{ruled-reference, ruled-judged}
 use Rattle.ops_ty.specs.Ops.{unaryOps, addressOp, indirectionOp, binaryOps, binaryRow, unaryOutcome, binaryOutcome, typeUnaryOp, typeBinaryOp}
-
--- whether an operand is a reference, by its number
-module _ (w : List ℕ) (n : ℕ) (s : Sound w n) (t : ℕ) (l : t < n) (x : ℕ) (e : x ≡ codeOf (typeAt w t)) where
-  pub by-number : isReference (typeAt w t) ≡ eqb x 98
-  by-number = code-ref (typeAt w t) (formed-at w n s t l) .1 ∙ ap (λ (k : ℕ). eqb k 98) (sym e)
-
-  pub offered : x ≡ 98 → isReference (typeAt w t) ≡ true
-  offered h = by-number ∙ eq-eqb x 98 h
-
-  pub not-offered : x ≢ 98 → isReference (typeAt w t) ≡ false
-  not-offered h = by-number ∙ ne-eqb x 98 h
 
 module _ (place : ℕ) (w : List ℕ) (n op : ℕ) where
   -- UNARY

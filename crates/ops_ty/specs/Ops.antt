@@ -10,7 +10,7 @@ use Rattle.overload.specs.Rows.{judgeRow, judgeAddress, judgeIndirection}
 use Rattle.table.specs.Table.{soundb}
 use Rattle.table.specs.Denote.{typeAt}
 use Rattle.table.specs.Placing.{Outcome, turnedDown}
-use Rattle.table.specs.declared.answer.Reason.the-variants.{Unsound, NoSuchType, Reference, Unknown}
+use Rattle.answer.specs.declared.Reason.the-variants.{Unsound, NoSuchType, Reference, Unknown}
 use Rattle.ruled.specs.Call.{judgedOutcome, ruledOutcome}
 
 -- "Unary 0 to 4: `!` `-` `~` `&` `*`": the first three are rows 0 to 2

@@ -61,7 +61,7 @@ fn type_ref(words: &mut [u32], n: usize, place: Place, a: usize) -> Answer
             elem: e.elem,
         },
     );
-    ruled::answer_of(place, n, r)
+    table::answer_of(place, n, r)
 }
 
 // `op_deref`: from a pointer the reference.
@@ -83,7 +83,7 @@ fn type_deref(words: &mut [u32], n: usize, place: Place, a: usize) -> Answer
             elem: e.elem,
         },
     );
-    ruled::answer_of(place, n, r)
+    table::answer_of(place, n, r)
 }
 
 // A unary operator on a loaded operand, at a place.

@@ -24,8 +24,8 @@ use denote.Struct.Declared.{Declared}
 use denote.Struct.Laws as LL
 use denote.Struct.Rest.{all-own, ownAt, rest, own-open, own-out}
 use denote.Struct.Values.{Values}
-use Rattle.table.proofs.answer.Place as P
-use Rattle.table.proofs.answer.Place.Laws as P′
+use Rattle.answer.proofs.Place as P
+use Rattle.answer.proofs.Place.Laws as P′
 use Rattle.reader.specs.declared.Reader.{Reader}
 use Rattle.reader.proofs.Reader as T
 use Rattle.reader.proofs.Reader.Laws as T′

@@ -4,7 +4,7 @@ use Prim.Native.Nat.{ℕ}
 use mathlib.Core.Path.{_≡_, sym, _∙_}
 use mathlib.Core.List.{List}
 use denote.Ref.{RefT, now}
-use Rattle.table.specs.declared.answer.Place.{Place}
+use Rattle.answer.specs.declared.Place.{Place}
 use Rattle.frame.specs.declared.Placed.{Placed}
 use Rattle.frame.specs.Frame.{itemAt, namePart, IsPart}
 use Rattle.frame.proofs.OneReply.{call-name-one as frame-name-one}

@@ -3,9 +3,9 @@
 ghost use mathlib.Core.Path.{_≡_};
 ghost use Rattle.frame.specs.Frame.{itemAt, namePart, IsPart};
 ghost use Rattle.reader.specs.Read.{startOf, stepOf};
+use answer::Place;
 use frame::HEADER;
 use frame::Placed;
-use table::Place;
 
 pub struct Reader<'a> {
     pub sheet: &'a [u8],

@@ -1,10 +1,6 @@
 // Replays names from standard input, a line each: three digits of the rule, a blank and the name, as `012 acos`, or `---` for bytes that are no name.
 // A line that begins with `#` ends a group: it is written with the group's counts.
 use names::Rule;
-ghost use Prim.Native.Nat.{_≤_, _<_};
-ghost use lib.ListN.{length};
-
-const LINE_END: u8 = 10;
 
 const GROUP: u8 = b'#';
 
@@ -54,21 +50,6 @@ fn judged(line: &[u8]) -> Verdict {
         return Verdict::Unknown;
     }
     Verdict::Known
-}
-
-// Where the line that begins at a place ends.
-fn line_end(s: &[u8], at: usize) -> usize
-    requires { ⌜ at ≤ length (now s) ⌝ }
-    ensures { λ r. ⌜ (at ≤ r) × (r ≤ length (now (s .entry))) ⌝ }
-{
-    let mut end = at;
-    while end < s.len() {
-        if s[end] == LINE_END {
-            return end;
-        }
-        end += 1;
-    }
-    end
 }
 
 fn write_count(n: u64, what: &[u8]) {
@@ -121,7 +102,7 @@ fn replay(s: &[u8]) {
     };
     let mut at = 0;
     while at < s.len() {
-        let end = line_end(s, at);
+        let end = vectors::line_end(s, at);
         let line = &s[at..end];
         let verdict = judged(line);
         if let Verdict::Group = verdict {

@@ -13,18 +13,18 @@ use Rattle.overload.specs.Rows.{overloadsOf, ofRow, judgeRow}
 use Rattle.overload.proofs.Operands.{allFormed, never-thirteen}
 use Rattle.overload.proofs.Judge.{judge-resolved, judge-is}
 use Rattle.overload.proofs.Results.{gives-formed}
-use Rattle.table.specs.Answer.{accept}
+use Rattle.answer.specs.Answer.{accept}
 use Rattle.table.specs.Table.{Sound}
 use Rattle.table.specs.Denote.{typeAt}
 use Rattle.table.specs.Enter.{free}
 use Rattle.table.specs.Stands.{Stands}
 use Rattle.table.specs.Placing.{Outcome, turnedDown, placed, entering}
-use Rattle.table.specs.declared.answer.TypeNo.{TypeNo}
-use Rattle.table.specs.declared.answer.Reason.{Reason}
-use Rattle.table.specs.declared.answer.Reason.the-variants.{NoOverload}
-use Rattle.table.specs.declared.answer.Refusal.{Refusal}
-use Rattle.table.specs.declared.answer.Answer.{Answer}
-use Rattle.table.specs.declared.answer.Answer.the-variants.{Value, NoValue, Refused}
+use Rattle.answer.specs.declared.TypeNo.{TypeNo}
+use Rattle.answer.specs.declared.Reason.{Reason}
+use Rattle.answer.specs.declared.Reason.the-variants.{NoOverload}
+use Rattle.answer.specs.declared.Refusal.{Refusal}
+use Rattle.answer.specs.declared.Answer.{Answer}
+use Rattle.answer.specs.declared.Answer.the-variants.{Value, NoValue, Refused}
 use Rattle.table.proofs.Demand1.{entering-stands, entering-refused, entering-valued}
 use Rattle.ruled.specs.Call.{anyReference, judgedOutcome, ruledOutcome}
 

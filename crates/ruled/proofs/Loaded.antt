@@ -7,7 +7,7 @@ use mathlib.Core.List.{List, [], _∷_, map}
 use native.Mathlib.Omega.{arith}
 use lib.Dec.{T, eqb, ltb}
 use lib.ListN.{length, getD}
-use borrow.Author.Tests.{ltb-true, lt-ltb, ne-eqb}
+use borrow.Author.Tests.{ltb-true, lt-ltb, eq-eqb, ne-eqb}
 use Rattle.conv.specs.Types.{Ty, formed, isWidth}
 use Rattle.conv.specs.Types.Ty.{scalar, vec, mat, array, runtime, atomic, ptr, ref, frexp, modf}
 use Rattle.conv.specs.Rank.{pick, shapeOf, tagOf, isReference, isPointer}
@@ -18,7 +18,7 @@ use Rattle.overload.proofs.Operands.{code-scalar, code-vec, code-mat, code-othe
 use Rattle.table.specs.Table.{kindRef, kindPtr, entryAt, Sound}
 use Rattle.table.specs.Denote.{typeAt, kindOf}
 use Rattle.table.specs.Placing.{Outcome, turnedDown}
-use Rattle.table.specs.declared.answer.Reason.the-variants.{Reference}
+use Rattle.answer.specs.declared.Reason.the-variants.{Reference}
 use Rattle.table.proofs.FormedLaws.{formed-at}
 use Rattle.table.proofs.TypeLaws.{kind-of}
 use Rattle.ruled.specs.Call.{anyReference, judgedOutcome, ruledOutcome}
@@ -53,6 +53,17 @@ code-ref (ptr a b t) h = let e = code-other (ptr a b t) refl in (omega arith, sy
 code-ref (ref a b t) h = let e = code-other (ref a b t) refl in (omega arith, sym (rw e))
 code-ref (frexp t) h = let e = code-other (frexp t) refl in (omega arith, sym (rw e))
 code-ref (modf t) h = let e = code-other (modf t) refl in (omega arith, sym (rw e))
+
+-- whether an operand is a reference, by its number
+module _ (w : List ℕ) (n : ℕ) (s : Sound w n) (t : ℕ) (l : t < n) (x : ℕ) (e : x ≡ codeOf (typeAt w t)) where
+  by-number : isReference (typeAt w t) ≡ eqb x 98
+  by-number = code-ref (typeAt w t) (formed-at w n s t l) .1 ∙ ap (λ (k : ℕ). eqb k 98) (sym e)
+
+  pub offered : x ≡ 98 → isReference (typeAt w t) ≡ true
+  offered h = by-number ∙ eq-eqb x 98 h
+
+  pub not-offered : x ≢ 98 → isReference (typeAt w t) ≡ false
+  not-offered h = by-number ∙ ne-eqb x 98 h
 
 -- the kind word says whether a type is a pointer or a reference
 module _ (w : List ℕ) (n : ℕ) (s : Sound w n) (t : ℕ) (l : t < n) where

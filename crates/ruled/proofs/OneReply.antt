@@ -5,17 +5,13 @@ use mathlib.Core.List.{List, map}
 use Rattle.overload.specs.Rows.{judgeRow}
 use Rattle.overload.specs.Code.{operand, codeOf}
 use Rattle.table.specs.Denote.{typeAt}
-use Rattle.table.specs.Placing.{Gave, entryAnswer}
-use Rattle.table.specs.declared.answer.Answer.{Answer}
-use Rattle.table.specs.declared.Entered.{Entered}
+use Rattle.table.specs.Placing.{Gave}
+use Rattle.answer.specs.declared.Answer.{Answer}
 use Rattle.table.proofs.OneReply.{gave-one}
 use Rattle.ruled.specs.Call.{judgedOutcome}
 
 pub code-at-one : (w : List ℕ) (t r s : ℕ) → r ≡ codeOf (typeAt w t) → s ≡ codeOf (typeAt w t) → r ≡ s
 code-at-one w t r s p q = p ∙ sym q
-
-pub answer-of-one : (place n : ℕ) (e : Entered) (r s : Answer) → r ≡ entryAnswer place e n → s ≡ entryAnswer place e n → r ≡ s
-answer-of-one place n e r s p q = p ∙ sym q
 
 pub judge-codes-one : (place : ℕ) (w : List ℕ) (n row : ℕ) (xs : List ℕ) (r s : Answer) (v u : List ℕ) → Gave (judgedOutcome place w n (judgeRow row (map operand xs))) r v
     → Gave (judgedOutcome place w n (judgeRow row (map operand xs))) s u → (r ≡ s) × (v ≡ u)

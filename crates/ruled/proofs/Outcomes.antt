@@ -12,12 +12,12 @@ use Rattle.overload.specs.Code.{operand}
 use Rattle.overload.proofs.Operands.{and-left, and-right}
 use Rattle.table.specs.Table.{scalars, kindVec, kindMat, kindFrexp, kindModf, allowedb, Sound}
 use Rattle.table.specs.Denote.{made, typeAt, tyOf, kindOf, pOf, qOf}
-use Rattle.table.specs.Enter.{entered, enterWords, EnterDone, enteredTwo, enterTwoWords, EnterTwoDone, container}
-use Rattle.table.specs.Answer.{Turned}
-use Rattle.table.specs.declared.answer.Reason.{Reason}
-use Rattle.table.specs.declared.answer.Place.{Place}
-use Rattle.table.specs.Placing.{turnedDown, Outcome, Gave, entering, entryAnswer, entryOf}
-use Rattle.table.specs.declared.answer.Answer.{Answer}
+use Rattle.table.specs.Enter.{entered, enterWords, EnterDone, enteredTwo, enterTwoWords, EnterTwoDone, container, entryAnswer}
+use Rattle.answer.specs.Answer.{Turned}
+use Rattle.answer.specs.declared.Reason.{Reason}
+use Rattle.answer.specs.declared.Place.{Place}
+use Rattle.table.specs.Placing.{turnedDown, Outcome, Gave, entering, entryOf}
+use Rattle.answer.specs.declared.Answer.{Answer}
 use Rattle.table.specs.declared.Entry.{Entry}
 use Rattle.table.specs.declared.Entered.{Entered}
 use Rattle.table.specs.declared.Entered.the-variants.{There}

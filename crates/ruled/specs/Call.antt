@@ -8,7 +8,7 @@ use Rattle.overload.specs.Overload.{or, Judged}
 use Rattle.overload.specs.Overload.Judged.{gives, noneFits, nonePreferred}
 use Rattle.overload.specs.Rows.{judgeRow}
 use Rattle.table.specs.Placing.{Outcome, turnedDown, entering}
-use Rattle.table.specs.declared.answer.Reason.the-variants.{Reference, NoOverload, NonePreferred}
+use Rattle.answer.specs.declared.Reason.the-variants.{Reference, NoOverload, NonePreferred}
 
 unfoldable pub anyReference : List Ty → Bool
 anyReference [] = false

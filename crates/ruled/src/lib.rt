@@ -17,7 +17,7 @@ ghost use Rattle.overload.specs.Rows.{judgeRow};
 ghost use Rattle.overload.specs.Code.{operand, codeOf, outOf, judgedOf};
 ghost use Rattle.table.specs.Table.{Sound};
 ghost use Rattle.table.specs.Denote.{typeAt};
-ghost use Rattle.table.specs.Placing.{Gave, entering, entryAnswer};
+ghost use Rattle.table.specs.Placing.{Gave, entering};
 ghost use Rattle.table.specs.declared.Entry.{Entry};
 ghost use Rattle.ruled.specs.Call.{judgedOutcome};
 ghost use Rattle.ruled.specs.Result.{ResultDone, PlainDone};
@@ -50,16 +50,6 @@ pub fn code_at(words: &[u32], n: usize, t: usize) -> u8
         return REFERENCE;
     }
     OTHER
-}
-
-// The answer by the reply of entering.
-pub fn answer_of(place: Place, n: usize, r: Entered) -> Answer
-    ensures { λ a. ⌜ a ≡ entryAnswer (place .0) r n ⌝ }
-{
-    match r {
-        Entered::There(t, m) => table::accepted(t, m),
-        Entered::Full => table::refused(Reason::NoRoom, place, n),
-    }
 }
 
 // The entry of the vector of that number.
@@ -138,9 +128,9 @@ fn enter_out(words: &mut [u32], n: usize, place: Place, out: Out) -> Answer
     ensures { λ r. ⌜ Gave (entering (place .0) (now (words .entry)) n (outOf out)) r (now (words .exit)) ⌝ }
 {
     match out {
-        Out::Plain(x) => answer_of(place, n, enter_plain(words, n, x)),
-        Out::Frexp(x) => answer_of(place, n, enter_result(words, n, table::KIND_FREXP, x)),
-        Out::Modf(x) => answer_of(place, n, enter_result(words, n, table::KIND_MODF, x)),
+        Out::Plain(x) => table::answer_of(place, n, enter_plain(words, n, x)),
+        Out::Frexp(x) => table::answer_of(place, n, enter_result(words, n, table::KIND_FREXP, x)),
+        Out::Modf(x) => table::answer_of(place, n, enter_result(words, n, table::KIND_MODF, x)),
     }
 }
 

@@ -16,12 +16,12 @@ use Rattle.names.specs.Names.{Known, ruleOf, overloadRows, ruleBitcast, ruleArr
 use Rattle.names.specs.Names.Known.{known, unknown}
 use Rattle.table.specs.Table.{Sound}
 use Rattle.table.specs.Denote.{typeAt}
-use Rattle.table.specs.Answer.{refuse}
+use Rattle.answer.specs.Answer.{refuse}
 use Rattle.table.specs.Placing.{Outcome, Gave, turnedDown, entering}
-use Rattle.table.specs.declared.answer.TypeNo.{TypeNo}
-use Rattle.table.specs.declared.answer.Refusal.{Refusal}
-use Rattle.table.specs.declared.answer.Answer.{Answer}
-use Rattle.table.specs.declared.answer.Answer.the-variants.{Value, NoValue, Refused}
+use Rattle.answer.specs.declared.TypeNo.{TypeNo}
+use Rattle.answer.specs.declared.Refusal.{Refusal}
+use Rattle.answer.specs.declared.Answer.{Answer}
+use Rattle.answer.specs.declared.Answer.the-variants.{Value, NoValue, Refused}
 use Rattle.table.proofs.KindLaws.{split, clash}
 use Rattle.ruled.specs.Call.{anyReference}
 use Rattle.ruled.proofs.Demands.{Kept}

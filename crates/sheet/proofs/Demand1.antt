@@ -7,15 +7,15 @@ use mathlib.Core.List.{List, [], _∷_}
 use native.Mathlib.Omega.{arith}
 use lib.Dec.{eqb}
 use lib.ListN.{length, getD}
-use Rattle.table.specs.Answer.{accept, refuse}
+use Rattle.answer.specs.Answer.{accept, refuse}
 use Rattle.table.specs.Table.{stride, soundb, Sound, Keeps}
 use Rattle.table.specs.Denote.{typeAt}
 use Rattle.table.specs.Placing.{Outcome, turnedDown}
-use Rattle.table.specs.declared.answer.Reason.the-variants.{Unsound, Framing, Stack}
-use Rattle.table.specs.declared.answer.Refusal.{Refusal}
-use Rattle.table.specs.declared.answer.TypeNo.{TypeNo}
-use Rattle.table.specs.declared.answer.Answer.{Answer}
-use Rattle.table.specs.declared.answer.Answer.the-variants.{Value, NoValue, Refused}
+use Rattle.answer.specs.declared.Reason.the-variants.{Unsound, Framing, Stack}
+use Rattle.answer.specs.declared.Refusal.{Refusal}
+use Rattle.answer.specs.declared.TypeNo.{TypeNo}
+use Rattle.answer.specs.declared.Answer.{Answer}
+use Rattle.answer.specs.declared.Answer.the-variants.{Value, NoValue, Refused}
 use Rattle.table.proofs.SoundLaws.{sound-of}
 use Rattle.table.proofs.TypeLaws.{type-keeps}
 use Rattle.table.proofs.KindLaws.{split}

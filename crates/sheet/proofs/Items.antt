@@ -9,14 +9,14 @@ use lib.ListN.{length, getD, take, drop}
 use Rattle.conv.specs.Types.{Ty}
 use Rattle.table.specs.Table.{Sound, allowedb}
 use Rattle.table.specs.Denote.{typeAt, tyOf}
-use Rattle.table.specs.Enter.{EnterDone}
-use Rattle.table.specs.Placing.{Outcome, Gave, entering, entryAnswer}
+use Rattle.table.specs.Enter.{EnterDone, entryAnswer}
+use Rattle.table.specs.Placing.{Outcome, Gave, entering}
 use Rattle.table.specs.declared.Entry.{Entry}
 use Rattle.table.specs.declared.Entered.{Entered}
-use Rattle.table.specs.declared.answer.Place.{Place}
-use Rattle.table.specs.declared.answer.TypeNo.{TypeNo}
-use Rattle.table.specs.declared.answer.Answer.{Answer}
-use Rattle.table.specs.declared.answer.Answer.the-variants.{Value}
+use Rattle.answer.specs.declared.Place.{Place}
+use Rattle.answer.specs.declared.TypeNo.{TypeNo}
+use Rattle.answer.specs.declared.Answer.{Answer}
+use Rattle.answer.specs.declared.Answer.the-variants.{Value}
 use Rattle.table.proofs.FormedLaws.{allowed-type}
 use Rattle.table.proofs.PlacingLaws.{enter-outcome}
 use Rattle.ruled.proofs.Demands.{Kept, kept-entering}

@@ -14,12 +14,12 @@ use Rattle.table.specs.Denote.{typeAt, tyOf}
 use Rattle.table.specs.Stands.{Stands}
 use Rattle.table.specs.Placing.{Outcome, entering}
 use Rattle.table.specs.declared.Entry.{Entry}
-use Rattle.table.specs.declared.answer.Reason.{Reason}
-use Rattle.table.specs.declared.answer.Reason.the-variants.{NoSuchType, Template, Framing, Stack}
-use Rattle.table.specs.declared.answer.Refusal.{Refusal}
-use Rattle.table.specs.declared.answer.TypeNo.{TypeNo}
-use Rattle.table.specs.declared.answer.Answer.{Answer}
-use Rattle.table.specs.declared.answer.Answer.the-variants.{Value, NoValue, Refused}
+use Rattle.answer.specs.declared.Reason.{Reason}
+use Rattle.answer.specs.declared.Reason.the-variants.{NoSuchType, Template, Framing, Stack}
+use Rattle.answer.specs.declared.Refusal.{Refusal}
+use Rattle.answer.specs.declared.TypeNo.{TypeNo}
+use Rattle.answer.specs.declared.Answer.{Answer}
+use Rattle.answer.specs.declared.Answer.the-variants.{Value, NoValue, Refused}
 use Rattle.table.proofs.FormedLaws.{allowed-type}
 use Rattle.ruled.proofs.Demands.{Kept, kept-entering}
 use Rattle.frame.specs.declared.Item.{Item}

@@ -16,15 +16,15 @@ use Rattle.conv.specs.Rank.{isReference}
 use Rattle.overload.specs.Overload.{Judged}
 use Rattle.overload.specs.Overload.Judged.{gives, noneFits, nonePreferred}
 use Rattle.overload.specs.Rows.{judgeRow, judgeAddress, judgeIndirection}
-use Rattle.table.specs.Answer.{accept}
+use Rattle.answer.specs.Answer.{accept}
 use Rattle.table.specs.Table.{Sound}
 use Rattle.table.specs.Denote.{typeAt}
 use Rattle.table.specs.Stands.{Stands}
 use Rattle.table.specs.Placing.{Outcome, Gave, turnedDown, entering}
-use Rattle.table.specs.declared.answer.Place.{Place}
-use Rattle.table.specs.declared.answer.TypeNo.{TypeNo}
-use Rattle.table.specs.declared.answer.Answer.{Answer}
-use Rattle.table.specs.declared.answer.Answer.the-variants.{Value, NoValue, Refused}
+use Rattle.answer.specs.declared.Place.{Place}
+use Rattle.answer.specs.declared.TypeNo.{TypeNo}
+use Rattle.answer.specs.declared.Answer.{Answer}
+use Rattle.answer.specs.declared.Answer.the-variants.{Value, NoValue, Refused}
 use Rattle.table.proofs.TypeLaws.{type-keeps}
 use Rattle.table.proofs.PlacingLaws.{standing-outcome}
 use Rattle.table.proofs.Demand1.{entering-stands}

@@ -7,8 +7,8 @@ use native.Mathlib.Omega.{arith}
 use lib.ListN.{length, take}
 use Rattle.table.specs.Table.{soundb, Sound}
 use Rattle.table.specs.Placing.{Outcome, Gave, turnedDown}
-use Rattle.table.specs.declared.answer.Reason.the-variants.{Unsound, Framing}
-use Rattle.table.specs.declared.answer.Answer.{Answer}
+use Rattle.answer.specs.declared.Reason.the-variants.{Unsound, Framing}
+use Rattle.answer.specs.declared.Answer.{Answer}
 use Rattle.frame.specs.Frame.{pick, itemAt, isItem, itemsFrom, nameOf, namePart, Within, version, headerSize, headerOk}
 use Rattle.frame.specs.declared.Item.{Item}
 use Rattle.frame.specs.declared.Item.the-variants.{Push, Unary, Binary, Call, CallTemplate, Take, End, Bad}

@@ -5,10 +5,10 @@ use mathlib.Core.List.{List}
 use lib.ListN.{length, getD, take}
 use Rattle.table.specs.Table.{Sound}
 use Rattle.table.specs.Placing.{Outcome}
-use Rattle.table.specs.declared.answer.Place.{Place}
-use Rattle.table.specs.declared.answer.Reason.{Reason}
-use Rattle.table.specs.declared.answer.Answer.{Answer}
-use Rattle.table.specs.declared.answer.Answer.the-variants.{Value, NoValue, Refused}
+use Rattle.answer.specs.declared.Place.{Place}
+use Rattle.answer.specs.declared.Reason.{Reason}
+use Rattle.answer.specs.declared.Answer.{Answer}
+use Rattle.answer.specs.declared.Answer.the-variants.{Value, NoValue, Refused}
 use Rattle.call_ty.specs.Codes.{Under}
 use Rattle.sheet.specs.declared.Did.{Did}
 use Rattle.sheet.specs.declared.Did.the-variants as did

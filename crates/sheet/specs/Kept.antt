@@ -4,8 +4,8 @@ use mathlib.Core.Path.{_≡_}
 use mathlib.Core.List.{List, [], _∷_}
 use lib.ListN.{length, getD}
 use Rattle.table.specs.Table.{stride, Keeps}
-use Rattle.table.specs.declared.answer.Answer.{Answer}
-use Rattle.table.specs.declared.answer.Answer.the-variants.{Value, NoValue, Refused}
+use Rattle.answer.specs.declared.Answer.{Answer}
+use Rattle.answer.specs.declared.Answer.the-variants.{Value, NoValue, Refused}
 use Rattle.frame.specs.declared.Placed.{Placed}
 use Rattle.sheet.specs.Machine.{State, Turned, more, done, turnOf}
 

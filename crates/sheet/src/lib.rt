@@ -364,7 +364,7 @@ fn take_in(
         return stopped(Reason::Stack, place, used);
     }
     let r = table::enter(table, used, e);
-    settle(stack, count, ruled::answer_of(place, used, r))
+    settle(stack, count, table::answer_of(place, used, r))
 }
 
 // What stands at a place of the sheet, on the stack of `count` values and the table.

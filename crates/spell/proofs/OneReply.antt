@@ -4,8 +4,8 @@ use Prim.Native.Nat.{ℕ}
 use mathlib.Core.Path.{_≡_, sym, _∙_, ap}
 use mathlib.Core.List.{List, [], _∷_}
 use native.Mathlib.Omega.{arith}
-use Rattle.table.specs.declared.answer.TypeNo.{TypeNo}
-use Rattle.table.proofs.AnswerLaws.{reason-injective}
+use Rattle.answer.specs.declared.TypeNo.{TypeNo}
+use Rattle.answer.proofs.AnswerLaws.{reason-injective}
 use Rattle.spell.specs.declared.Spelled.{Spelled}
 use Rattle.spell.specs.declared.Spelled.the-variants.{Length, Refused}
 use Rattle.spell.specs.Parts.{Put}

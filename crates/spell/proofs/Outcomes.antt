@@ -7,8 +7,8 @@ use lib.ListN.{length}
 use lib.Seq.{sets}
 use borrow.Author.Tests.{lt-ltb, le-ltb, le-leb, lt-leb}
 use Rattle.table.specs.Table.{soundb, Sound}
-use Rattle.table.specs.declared.answer.TypeNo.{TypeNo}
-use Rattle.table.specs.declared.answer.Reason.the-variants.{Unsound, NoSuchType, TooLong}
+use Rattle.answer.specs.declared.TypeNo.{TypeNo}
+use Rattle.answer.specs.declared.Reason.the-variants.{Unsound, NoSuchType, TooLong}
 use Rattle.table.proofs.SoundLaws.{of-sound}
 use Rattle.spell.specs.declared.Spelled.the-variants.{Length}
 use Rattle.spell.specs.Reply.{spellingAt, inOrder, refuse, spellReply, spellNumbers, spellBytes, SpellDone}

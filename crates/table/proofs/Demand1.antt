@@ -14,7 +14,7 @@ use Rattle.conv.specs.Types.{Ty, storage, handle, readWrite, isWidth, isFloat, 
 use Rattle.conv.specs.Types.Ty.{scalar, vec, mat, array, runtime, atomic, ptr, ref, frexp, modf}
 use Rattle.conv.specs.Rank.{sameTy, elementOf}
 use Rattle.conv.proofs.Made.{same-ty}
-use Rattle.table.specs.Answer.{accept, refuse}
+use Rattle.answer.specs.Answer.{accept, refuse}
 use Rattle.table.specs.Table.{stride, scalars, ceiling, putEntry, orElse, findIn, allowedb, Sound}
 use Rattle.table.specs.Denote.{typeAt, tyOf, made, kindOf, pOf, qOf}
 use Rattle.table.specs.Enter.{free}
@@ -22,11 +22,11 @@ use Rattle.table.specs.Stands.{Absent, Part, Stands}
 use Rattle.table.specs.Stands.Part.{whole, inside}
 use Rattle.table.specs.Placing.{standsIn, Placed, here, entryOf, placed, Outcome, turnedDown, entering}
 use Rattle.table.specs.declared.Entry.{Entry}
-use Rattle.table.specs.declared.answer.TypeNo.{TypeNo}
-use Rattle.table.specs.declared.answer.Refusal.{Refusal}
-use Rattle.table.specs.declared.answer.Reason.the-variants.{NoRoom}
-use Rattle.table.specs.declared.answer.Answer.{Answer}
-use Rattle.table.specs.declared.answer.Answer.the-variants.{Value, NoValue, Refused}
+use Rattle.answer.specs.declared.TypeNo.{TypeNo}
+use Rattle.answer.specs.declared.Refusal.{Refusal}
+use Rattle.answer.specs.declared.Reason.the-variants.{NoRoom}
+use Rattle.answer.specs.declared.Answer.{Answer}
+use Rattle.answer.specs.declared.Answer.the-variants.{Value, NoValue, Refused}
 use Rattle.table.specs.declared.Found.{Found}
 use Rattle.table.specs.declared.Found.the-variants.{At, Nothing}
 use Rattle.table.proofs.SoundLaws.{and-left, and-right}

@@ -8,12 +8,11 @@ use lib.ListN.{length}
 use lib.Dec.{leb, ltb, eqb}
 use borrow.Author.Tests.{le-leb, lt-leb, leb-true, leb-false, ltb-true, ltb-false, eqb-true, lt-ltb, le-ltb}
 use Rattle.table.specs.Table.{stride, scalars, ceiling, entryAt, putEntry, Key, keyOf, scalarOk, madeOk, entryOk, findIn, soundb, allowedb, Sound}
-use Rattle.table.specs.Enter.{free, missing, numberOr, entered, enterWords, EnterDone, container, outerOver, missingTwo, enteredTwo, enterTwoWords, EnterTwoDone, enterTypeReply, enterTypeWords, EnterTypeDone}
-use Rattle.table.specs.Answer.{refuse}
-use Rattle.table.specs.declared.answer.Reason.the-variants.{Unsound, Template, NoRoom}
-use Rattle.table.specs.declared.answer.Answer.the-variants.{Value}
+use Rattle.table.specs.Enter.{free, missing, numberOr, entered, enterWords, EnterDone, container, outerOver, missingTwo, enteredTwo, enterTwoWords, EnterTwoDone, entryAnswer, enterTypeReply, enterTypeWords, EnterTypeDone}
+use Rattle.answer.specs.Answer.{refuse}
+use Rattle.answer.specs.declared.Reason.the-variants.{Unsound, Template}
 use Rattle.table.specs.declared.Entry.{Entry}
-use Rattle.table.specs.declared.answer.TypeNo.{TypeNo}
+use Rattle.answer.specs.declared.TypeNo.{TypeNo}
 use Rattle.table.specs.declared.Found.{Found}
 use Rattle.table.specs.declared.Found.the-variants.{At, Nothing}
 use Rattle.table.specs.declared.Entered.{Entered}
@@ -120,7 +119,7 @@ module _ (w : List ℕ) (n : ℕ) (inner outer : Entry) where
         let o = outer-absent w n s n (s .low) (omega arith) outer in
         record { reply = rw (missing-both, k, over-next, m, o); words = rw (missing-both, k, over-next, m, o, h) }
 
--- the four answers to a host
+-- the three answers to a host
 module _ (w : List ℕ) (n : ℕ) (e : Entry) where
   pub host-unsound : soundb w n ≡ false → EnterTypeDone w n e (refuse Unsound 0 n) w
   unfolding enterTypeReply enterTypeWords
@@ -131,11 +130,6 @@ module _ (w : List ℕ) (n : ℕ) (e : Entry) where
     unfolding enterTypeReply enterTypeWords
     host-forbidden k = record { reply = rw (h, k); words = rw (h, k) }
 
-    module _ (k : allowedb w n e ≡ true) (v : List ℕ) where
-      pub host-full : EnterDone w n e Full v → EnterTypeDone w n e (refuse NoRoom 0 n) v
-      unfolding enterTypeReply enterTypeWords
-      host-full d = record { reply = rw (h, k, ← d .reply); words = rw (h, k) (d .words) }
-
-      pub host-there : (t : TypeNo) (m : ℕ) → EnterDone w n e (There t m) v → EnterTypeDone w n e (Value t m) v
-      unfolding enterTypeReply enterTypeWords
-      host-there t m d = record { reply = rw (h, k, ← d .reply); words = rw (h, k) (d .words) }
+    pub host-entered : allowedb w n e ≡ true → (r : Entered) (v : List ℕ) → EnterDone w n e r v → EnterTypeDone w n e (entryAnswer 0 r n) v
+    unfolding enterTypeReply enterTypeWords
+    host-entered k r v d = record { reply = rw (h, k, ← d .reply); words = rw (h, k) (d .words) }

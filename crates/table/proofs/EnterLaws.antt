@@ -18,7 +18,7 @@ use Rattle.table.specs.Stands.{Absent, Part, Stands}
 use Rattle.conv.specs.Rank.{elementOf}
 use Rattle.table.specs.Stands.Part.{whole, inside}
 use Rattle.table.specs.declared.Entry.{Entry}
-use Rattle.table.specs.declared.answer.TypeNo.{TypeNo}
+use Rattle.answer.specs.declared.TypeNo.{TypeNo}
 use Rattle.table.specs.declared.Found.{Found}
 use Rattle.table.specs.declared.Found.the-variants.{At, Nothing}
 use Rattle.table.specs.declared.Entered.{Entered}

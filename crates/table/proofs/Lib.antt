@@ -7,7 +7,6 @@ pub mod FormedLaws
 pub mod ReadLaws
 pub mod EnterLaws
 pub mod EnterTwoLaws
-pub mod AnswerLaws
 pub mod OneReply
 pub mod Examples
 pub mod PlacingLaws

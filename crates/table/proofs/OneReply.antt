@@ -3,33 +3,17 @@ use Prim.Native.Nat.{ℕ}
 use mathlib.Core.Path.{_≡_, refl, sym, _∙_, ap}
 use mathlib.Core.Bool.{Bool}
 use mathlib.Core.List.{List}
-use Rattle.table.specs.Answer.{reasonNo, numbersOf, Accepted, WithoutValue, Turned}
 use Rattle.table.specs.Table.{entryAt, findIn, soundb, allowedb}
 use Rattle.table.specs.Placing.{Outcome, Gave}
-use Rattle.table.specs.Enter.{EnterDone, EnterTwoDone, EnterTypeDone}
+use Rattle.table.specs.Enter.{EnterDone, EnterTwoDone, entryAnswer, EnterTypeDone}
 use Rattle.table.specs.declared.Entry.{Entry}
 use Rattle.table.specs.declared.Found.{Found}
 use Rattle.table.specs.declared.Entered.{Entered}
-use Rattle.table.specs.declared.answer.TypeNo.{TypeNo}
-use Rattle.table.specs.declared.answer.Place.{Place}
-use Rattle.table.specs.declared.answer.Reason.{Reason}
-use Rattle.table.specs.declared.answer.Answer.{Answer}
+use Rattle.answer.specs.declared.Answer.{Answer}
 
 -- what equals one thing is one thing
 one : {A : Type 0} {x a b : A} → a ≡ x → b ≡ x → a ≡ b
 one p q = p ∙ sym q
-
-pub accepted-one : {t : TypeNo} {used : ℕ} {a b : Answer} → Accepted t used a → Accepted t used b → a ≡ b
-accepted-one x y = one (x .made) (y .made)
-
-pub no-value-one : {used : ℕ} {a b : Answer} → WithoutValue used a → WithoutValue used b → a ≡ b
-no-value-one x y = one (x .made) (y .made)
-
-pub refused-one : {reason : Reason} {place : Place} {used : ℕ} {a b : Answer} → Turned reason place used a → Turned reason place used b → a ≡ b
-refused-one x y = one (x .made) (y .made)
-
-pub reason-no-one : (r : Reason) {a b : ℕ} → a ≡ reasonNo r → b ≡ reasonNo r → a ≡ b
-reason-no-one r x y = one x y
 
 pub wide-one : (x : ℕ) {a b : ℕ} → a ≡ x → b ≡ x → a ≡ b
 wide-one x p q = one p q
@@ -52,6 +36,9 @@ enter-one x y = (one (x .reply) (y .reply), one (x .words) (y .words))
 pub enter-two-one : {w : List ℕ} {n : ℕ} {inner outer : Entry} {a b : Entered} {u v : List ℕ} →
     EnterTwoDone w n inner outer a u → EnterTwoDone w n inner outer b v → (a ≡ b) × (u ≡ v)
 enter-two-one x y = (one (x .reply) (y .reply), one (x .words) (y .words))
+
+pub answer-of-one : (place n : ℕ) (r : Entered) {a b : Answer} → a ≡ entryAnswer place r n → b ≡ entryAnswer place r n → a ≡ b
+answer-of-one place n r x y = one x y
 
 pub enter-type-one : {w : List ℕ} {n : ℕ} {e : Entry} {a b : Answer} {u v : List ℕ} → EnterTypeDone w n e a u → EnterTypeDone w n e b v → (a ≡ b) × (u ≡ v)
 enter-type-one x y = (one (x .reply) (y .reply), one (x .words) (y .words))

@@ -14,15 +14,15 @@ use Rattle.conv.specs.Types.{Ty, formed}
 use Rattle.conv.specs.Types.Ty.{scalar, vec, mat, array, runtime, atomic, ptr, ref, frexp, modf}
 use Rattle.conv.specs.Rank.{sameTy, elementOf}
 use Rattle.conv.proofs.Made.{same-ty, self-ty}
-use Rattle.table.specs.Answer.{accept, refuse}
+use Rattle.answer.specs.Answer.{accept, refuse}
 use Rattle.table.specs.Table.{scalars, putEntry, orElse, findIn, allowedb, Sound, keyOf, entryAt}
 use Rattle.table.specs.Denote.{typeAt, tyOf, made, kindOf, pOf, qOf}
-use Rattle.table.specs.Enter.{free, missing, numberOr, addAt, entered, enterWords, EnterDone, afterEnter, container, missingTwo, enteredTwo, enterTwoWords, EnterTwoDone}
+use Rattle.table.specs.Enter.{free, missing, numberOr, addAt, entered, enterWords, EnterDone, entryAnswer, container, missingTwo, enteredTwo, enterTwoWords, EnterTwoDone}
 use Rattle.table.specs.Stands.{Absent, Stands}
-use Rattle.table.specs.Placing.{standsIn, Placed, here, entryOf, orNext, over, placed, Outcome, turnedDown, entering, entryAnswer}
+use Rattle.table.specs.Placing.{standsIn, Placed, here, entryOf, orNext, over, placed, Outcome, turnedDown, entering}
 use Rattle.table.specs.declared.Entry.{Entry}
-use Rattle.table.specs.declared.answer.TypeNo.{TypeNo}
-use Rattle.table.specs.declared.answer.Reason.the-variants.{NoRoom}
+use Rattle.answer.specs.declared.TypeNo.{TypeNo}
+use Rattle.answer.specs.declared.Reason.the-variants.{NoRoom}
 use Rattle.table.specs.declared.Found.{Found}
 use Rattle.table.specs.declared.Found.the-variants.{At, Nothing}
 use Rattle.table.specs.declared.Entered.{Entered}

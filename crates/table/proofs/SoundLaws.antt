@@ -14,7 +14,7 @@ use borrow.Author.Tests.{lt-ltb, le-ltb, le-leb, ltb-true, ltb-false, leb-true, 
 use Rattle.table.specs.Tools.{allBelow}
 use Rattle.table.specs.Table.{stride, ceiling, entryAt, putEntry, Key, keyOf, sameb, rowOk, chainBy, chain, baseOf, entryOk, orElse, findIn, isNothing, goodAt, soundb, Sound, Keeps, scalarOk, madeOk, allowedb}
 use Rattle.table.specs.declared.Entry.{Entry}
-use Rattle.table.specs.declared.answer.TypeNo.{TypeNo}
+use Rattle.answer.specs.declared.TypeNo.{TypeNo}
 use Rattle.table.specs.declared.Found.{Found}
 use Rattle.table.specs.declared.Found.the-variants.{At, Nothing}
 use Rattle.table.proofs.TableLaws.{elemOf, all-more, all-none, find-none, find-more, find-stop}

@@ -5,16 +5,16 @@ use mathlib.Core.Path.{_≡_}
 use mathlib.Core.List.{List}
 use lib.ListN.{length}
 use lib.Dec.{leb}
-use Rattle.table.specs.Answer.{refuse}
+use Rattle.answer.specs.Answer.{refuse}
 use Rattle.table.specs.Table.{stride, ceiling, putEntry, findIn, isNothing, soundb, allowedb}
 use Rattle.table.specs.declared.Entry.{Entry}
 use Rattle.table.specs.declared.Found.{Found}
 use Rattle.table.specs.declared.Found.the-variants.{At, Nothing}
 use Rattle.table.specs.declared.Entered.{Entered}
 use Rattle.table.specs.declared.Entered.the-variants.{There, Full}
-use Rattle.table.specs.declared.answer.Reason.the-variants.{Unsound, Template, NoRoom}
-use Rattle.table.specs.declared.answer.Answer.{Answer}
-use Rattle.table.specs.declared.answer.Answer.the-variants.{Value}
+use Rattle.answer.specs.declared.Reason.the-variants.{Unsound, Template, NoRoom}
+use Rattle.answer.specs.declared.Answer.{Answer}
+use Rattle.answer.specs.declared.Answer.the-variants.{Value}
 
 -- "the slice or 256 leaves too little room": the free entries are the least of 256 and the slice's whole entries, less those in use
 unfoldable pub free : List ℕ → ℕ → ℕ
@@ -73,16 +73,17 @@ pub record EnterTwoDone (w : List ℕ) (n : ℕ) (inner outer : Entry) (r : Ente
   pub reply : r ≡ enteredTwo w n inner outer
   pub words : after ≡ enterTwoWords w n inner outer
 
+-- what a call answers by the reply of entering
+abbrev pub entryAnswer : ℕ → Entered → ℕ → Answer
+entryAnswer place (There t m) n = Value t m
+entryAnswer place Full n = refuse NoRoom place n
+
 -- a host enters a type: 1 for a table that is not sound, 5 for an entry that is not allowed, 9 for want of room, in this order
 -- and at place 0; else its number and the used count
-abbrev pub afterEnter : Entered → ℕ → Answer
-afterEnter (There t m) n = Value t m
-afterEnter Full n = refuse NoRoom 0 n
-
 unfoldable pub enterTypeReply : List ℕ → ℕ → Entry → Answer
 enterTypeReply w n e =
     cond (soundb w n)
-    (cond (allowedb w n e) (afterEnter (entered w n e) n) (refuse Template 0 n))
+    (cond (allowedb w n e) (entryAnswer 0 (entered w n e) n) (refuse Template 0 n))
     (refuse Unsound 0 n)
 
 unfoldable pub enterTypeWords : List ℕ → ℕ → Entry → List ℕ

@@ -1,5 +1,4 @@
 pub mod Tools
-pub mod Answer
 pub mod Table
 pub mod Denote
 pub mod Enter

@@ -8,19 +8,16 @@ use lib.Dec.{leb}
 use Rattle.conv.specs.Types.{Ty}
 use Rattle.conv.specs.Types.Ty.{scalar, vec, mat, array, runtime, atomic, ptr, ref, frexp, modf}
 use Rattle.conv.specs.Rank.{sameTy}
-use Rattle.table.specs.Answer.{accept, refuse}
+use Rattle.answer.specs.Answer.{accept, refuse}
 use Rattle.table.specs.Table.{putEntry, orElse}
 use Rattle.table.specs.Denote.{typeAt, kindOf, pOf, qOf}
 use Rattle.table.specs.Enter.{free}
 use Rattle.table.specs.declared.Entry.{Entry}
 use Rattle.table.specs.declared.Found.{Found}
 use Rattle.table.specs.declared.Found.the-variants.{At, Nothing}
-use Rattle.table.specs.declared.answer.Reason.{Reason}
-use Rattle.table.specs.declared.answer.Reason.the-variants.{NoRoom}
-use Rattle.table.specs.declared.answer.Answer.{Answer}
-use Rattle.table.specs.declared.answer.Answer.the-variants.{Value}
-use Rattle.table.specs.declared.Entered.{Entered}
-use Rattle.table.specs.declared.Entered.the-variants.{There, Full}
+use Rattle.answer.specs.declared.Reason.{Reason}
+use Rattle.answer.specs.declared.Reason.the-variants.{NoRoom}
+use Rattle.answer.specs.declared.Answer.{Answer}
 
 -- the number of the type R in a table of n entries
 unfoldable pub standsIn : List ℕ → ℕ → Ty → Found
@@ -75,11 +72,6 @@ entering place w n R =
     cond (leb (placed w n R .used - n) (free w n))
     (record { answer = accept (placed w n R .number) (placed w n R .used); words = placed w n R .words })
     (turnedDown NoRoom place w n)
-
--- what a call answers by the reply of entering
-abbrev pub entryAnswer : ℕ → Entered → ℕ → Answer
-entryAnswer place (There t m) n = Value t m
-entryAnswer place Full n = refuse NoRoom place n
 
 -- what a call promises: its answer, and every word afterwards
 pub record Gave (o : Outcome) (r : Answer) (after : List ℕ) : Type 0 where

@@ -4,10 +4,7 @@ ghost use Prim.Native.Nat.{ℕ, _+_, _*_, _≤_, _<_};
 ghost use lib.ListN.{length};
 ghost use Rattle.conv.specs.Types.{isWidth, isFloat, isAbstract};
 ghost use Rattle.table.specs.Table.{stride, ceiling, entryAt, putEntry, sameb, rowOk, baseOf, scalarOk, madeOk, entryOk, findIn, isNothing, goodAt, soundb, allowedb, Sound};
-ghost use Rattle.table.specs.Enter.{free, container, EnterDone, EnterTwoDone, EnterTypeDone};
-
-pub mod answer;
-
+ghost use Rattle.table.specs.Enter.{free, container, EnterDone, EnterTwoDone, entryAnswer, EnterTypeDone};
 pub use answer::Answer;
 pub use answer::Place;
 pub use answer::Reason;
@@ -367,6 +364,16 @@ pub fn enter_two(words: &mut [u32], n: usize, inner: Entry, outer: Entry) -> Ent
     }
 }
 
+// The answer of a call at a place by the reply of entering.
+pub fn answer_of(place: Place, n: usize, r: Entered) -> Answer
+    ensures { λ a. ⌜ a ≡ entryAnswer (place .0) r n ⌝ }
+{
+    match r {
+        Entered::There(t, m) => accepted(t, m),
+        Entered::Full => refused(Reason::NoRoom, place, n),
+    }
+}
+
 // For a host: the type that e stands for, entered where it is absent.
 pub fn enter_type(words: &mut [u32], n: usize, e: Entry) -> Answer
     ensures { λ r. ⌜ EnterTypeDone (now (words .entry)) n e r (now (words .exit)) ⌝ }
@@ -377,9 +384,5 @@ pub fn enter_type(words: &mut [u32], n: usize, e: Entry) -> Answer
     if !allowed(words, n, e) {
         return refused(Reason::Template, Place(0), n);
     }
-    let r = enter(words, n, e);
-    match r {
-        Entered::There(t, m) => accepted(t, m),
-        Entered::Full => refused(Reason::NoRoom, Place(0), n),
-    }
+    answer_of(Place(0), n, enter(words, n, e))
 }

@@ -12,7 +12,7 @@ use Rattle.conv.specs.Types.Ty.{vec, mat, array, runtime, atomic}
 use Rattle.table.specs.Table.{scalars, soundb}
 use Rattle.table.specs.Denote.{typeAt}
 use Rattle.table.specs.Placing.{Outcome, turnedDown, entering}
-use Rattle.table.specs.declared.answer.Reason.the-variants.{Unknown, Template, Count}
+use Rattle.answer.specs.declared.Reason.the-variants.{Unknown, Template, Count}
 use Rattle.tplt.specs.Heads.{digit, nameOf, headOf, heads, amongst, named, bytes}
 use Rattle.tplt.specs.Params.{typeParam, i32Param, u32Param, paramOf, paramsOf, isKnown, isTyped, typesKnown, alone, paired, argumentsOf, countZ, countOf}
 use Rattle.tplt.specs.Templates.{isConcrete, isMatrixComponent, isAtomicComponent, isElement, vecParsed, matParsed, atomicParsed, arrayParsed, parsedOf, typeOf, outcomeOf, templateOutcome}

@@ -6,7 +6,7 @@ use mathlib.Core.List.{List}
 use lib.IntN.{ℤ}
 use Rattle.table.specs.Placing.{Outcome}
 use Rattle.table.specs.declared.Entry.{Entry}
-use Rattle.table.specs.declared.answer.Answer.{Answer}
+use Rattle.answer.specs.declared.Answer.{Answer}
 use Rattle.tplt.specs.Heads.{headOf}
 use Rattle.tplt.specs.Params.{paramsOf, typesKnown, argumentsOf, countOf}
 use Rattle.tplt.specs.Templates.{vecParsed, matParsed, atomicParsed, arrayParsed, TemplateDone}

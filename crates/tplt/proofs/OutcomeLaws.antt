@@ -7,8 +7,8 @@ use native.Mathlib.Omega.{arith}
 use lib.IntN.{ℤ}
 use Rattle.table.specs.Table.{soundb, Sound}
 use Rattle.table.specs.Placing.{Outcome, turnedDown, entering}
-use Rattle.table.specs.declared.answer.Reason.the-variants.{Unsound, NoSuchType}
-use Rattle.table.specs.declared.answer.Answer.{Answer}
+use Rattle.answer.specs.declared.Reason.the-variants.{Unsound, NoSuchType}
+use Rattle.answer.specs.declared.Answer.{Answer}
 use Rattle.tplt.specs.Heads.{headOf}
 use Rattle.tplt.specs.Params.{paramsOf, typesKnown, argumentsOf}
 use Rattle.tplt.specs.Templates.{parsedOf, outcomeOf, templateOutcome, TemplateDone}

@@ -11,13 +11,13 @@ use Rattle.conv.specs.Types.{Ty, isWidth, isFloat, isValue, isRuntime, formed}
 use Rattle.conv.specs.Types.Ty.{scalar, vec, mat, array, runtime, atomic, ptr, ref, frexp, modf}
 use Rattle.table.specs.Table.{scalars, ceiling, entryAt, allowedb, Sound}
 use Rattle.table.specs.Denote.{made, typeAt, tyOf, kindOf}
-use Rattle.table.specs.Enter.{EnterDone}
-use Rattle.table.specs.Placing.{Outcome, entering, entryAnswer}
+use Rattle.table.specs.Enter.{EnterDone, entryAnswer}
+use Rattle.table.specs.Placing.{Outcome, entering}
 use Rattle.table.specs.declared.Entry.{Entry}
 use Rattle.table.specs.declared.Entered.{Entered}
-use Rattle.table.specs.declared.answer.TypeNo.{TypeNo}
-use Rattle.table.specs.declared.answer.Answer.{Answer}
-use Rattle.table.specs.declared.answer.Reason.the-variants.{Unknown, Template, Count}
+use Rattle.answer.specs.declared.TypeNo.{TypeNo}
+use Rattle.answer.specs.declared.Answer.{Answer}
+use Rattle.answer.specs.declared.Reason.the-variants.{Unknown, Template, Count}
 use Rattle.table.proofs.SoundLaws.{and-left, and-right, and-both}
 use Rattle.table.proofs.KindLaws.{split, clash, and-true}
 use Rattle.table.proofs.TypeLaws.{kind-of}

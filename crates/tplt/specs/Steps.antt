@@ -9,7 +9,7 @@ use Rattle.conv.specs.Types.{Ty, formed}
 use Rattle.table.specs.Table.{kindVec, kindMat, kindArray, kindRuntime, kindAtomic}
 use Rattle.table.specs.Placing.{Outcome, entering}
 use Rattle.table.specs.declared.Entry.{Entry}
-use Rattle.table.specs.declared.answer.Answer.{Answer}
+use Rattle.answer.specs.declared.Answer.{Answer}
 use Rattle.tplt.specs.declared.head.Head.{Head}
 use Rattle.tplt.specs.declared.head.Head.the-variants.{Vector, Matrix, NoHead}
 use Rattle.tplt.specs.declared.param.Arguments.{Arguments}

@@ -10,9 +10,9 @@ use Rattle.conv.specs.Types.Ty.{scalar, vec, mat, array, runtime, atomic}
 use Rattle.table.specs.Table.{soundb}
 use Rattle.table.specs.Denote.{typeAt}
 use Rattle.table.specs.Placing.{Outcome, turnedDown, entering}
-use Rattle.table.specs.declared.answer.TypeNo.{TypeNo}
-use Rattle.table.specs.declared.answer.Reason.the-variants.{Unsound, NoSuchType, Unknown, Template, Count}
-use Rattle.table.specs.declared.answer.Answer.{Answer}
+use Rattle.answer.specs.declared.TypeNo.{TypeNo}
+use Rattle.answer.specs.declared.Reason.the-variants.{Unsound, NoSuchType, Unknown, Template, Count}
+use Rattle.answer.specs.declared.Answer.{Answer}
 use Rattle.tplt.specs.declared.head.Head.{Head}
 use Rattle.tplt.specs.declared.head.Head.the-variants.{Vector, Matrix, Atomic, Array, NoHead}
 use Rattle.tplt.specs.declared.param.Arguments.{Arguments}

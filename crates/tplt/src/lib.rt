@@ -19,12 +19,11 @@ use param::arguments_of;
 use param::count_of;
 use param::types_known;
 use table::Answer;
-use table::Entered;
 use table::Entry;
 use table::Place;
 use table::Reason;
 use table::TypeNo;
-use table::accepted;
+use table::answer_of;
 use table::enter;
 use table::entry_at;
 use table::refused;
@@ -279,11 +278,7 @@ fn take(words: &mut [u32], n: usize, e: Entry) -> Answer
     requires { ⌜ allowedb (now words) n e ≡ true ⌝ }
     ensures { λ r. ⌜ Entering (now (words .entry)) n (tyOf (now (words .entry)) e) r (now (words .exit)) ⌝ }
 {
-    let r = enter(words, n, e);
-    match r {
-        Entered::There(t, m) => accepted(t, m),
-        Entered::Full => refused(Reason::NoRoom, Place(0), n),
-    }
+    answer_of(Place(0), n, enter(words, n, e))
 }
 
 fn enter_parsed(words: &mut [u32], n: usize, p: Parsed) -> Answer

@@ -2,7 +2,7 @@
 use libc::STDIN_FILENO;
 use libc::STDOUT_FILENO;
 
-// More bytes than the longest answer has: a table of 256 entries spells a type in less than 5,000.
+// More bytes than the two lines have: 256 entries spell no type of 5,000.
 const ROOM: usize = 8192;
 
 // The first k bytes.
@@ -12,7 +12,7 @@ fn write_front(out: &[u8], k: usize) {
     }
 }
 
-// An input that fills the buffer is longer than any sheet, and refused as such.
+// The buffer holds more than the longest sheet. A longer input is refused for its header, whatever follows.
 fn main() {
     let mut buffer = io::large_buffer();
     let n = io::read_full(STDIN_FILENO, &mut buffer);

@@ -7,6 +7,10 @@ use table::Refusal;
 ghost use mathlib.Core.Path.{_≡_};
 ghost use Prim.Native.Nat.{_≤_};
 ghost use lib.ListN.{length};
+ghost use Rattle.answer.specs.Answer.{numbersOf};
+ghost use Rattle.vectors.specs.Filled.{scalarWords, floatNo, entryOf, FillDone};
+ghost use Rattle.vectors.specs.Chars.{modfs, floatPlace, resultChar, entryChar, newChar, valueChar, refusalChar, answerChar};
+ghost use Rattle.vectors.specs.Lines.{countedOf, lineEnd};
 
 // How many types the table holds.
 pub const TYPES: usize = 55;
@@ -40,7 +44,9 @@ const FREXPS: u8 = 55;
 const MODFS: u8 = 67;
 
 // A float by its place among the three.
-fn float_no(k: u32) -> u32 {
+fn float_no(k: u32) -> u32
+    ensures { λ r. ⌜ r ≡ floatNo k ⌝ }
+{
     if k == 0 {
         return ABSTRACT_FLOAT;
     }
@@ -51,7 +57,9 @@ fn float_no(k: u32) -> u32 {
 }
 
 // The entry of a vector or matrix by its number.
-fn entry_of(i: u32) -> Entry {
+fn entry_of(i: u32) -> Entry
+    ensures { λ r. ⌜ r ≡ entryOf i ⌝ }
+{
     if i < FIRST_MAT {
         return Entry {
             kind: table::KIND_VEC,
@@ -72,6 +80,7 @@ fn entry_of(i: u32) -> Entry {
 // The words of a table of the seven scalars, with room for 64 entries.
 pub fn scalars() -> [u32; 256]
     ensures { λ r. ⌜ 256 ≡ length r ⌝ }
+    ensures { λ r. ⌜ r ≡ scalarWords ⌝ }
 {
     let mut words = [0; 256];
     words[table::STRIDE] = 1;
@@ -84,7 +93,9 @@ pub fn scalars() -> [u32; 256]
 }
 
 // The used count that an answer tells.
-fn used_of(answer: Answer) -> usize {
+fn used_of(answer: Answer) -> usize
+    ensures { λ r. ⌜ r ≡ numbersOf answer .used ⌝ }
+{
     match answer {
         Answer::Value(_, used) => used,
         Answer::NoValue(used) => used,
@@ -93,7 +104,9 @@ fn used_of(answer: Answer) -> usize {
 }
 
 // Enters the vectors and matrices in their order, and gives the used count.
-pub fn fill(words: &mut [u32]) -> usize {
+pub fn fill(words: &mut [u32]) -> usize
+    ensures { λ r. ⌜ FillDone (now (words .entry)) r (now (words .exit)) ⌝ }
+{
     let mut used = table::SCALARS;
     for i in SCALARS..END {
         used = used_of(table::enter_type(words, used, entry_of(i)));
@@ -102,7 +115,9 @@ pub fn fill(words: &mut [u32]) -> usize {
 }
 
 // The place of a type that is a float scalar or vector, by its width and then its float, or OTHER.
-fn float_place(t: u32) -> u8 {
+fn float_place(t: u32) -> u8
+    ensures { λ r. ⌜ r ≡ floatPlace t ⌝ }
+{
     let width = t / SCALARS;
     if 4 <= width {
         return OTHER;
@@ -122,19 +137,20 @@ fn float_place(t: u32) -> u8 {
 }
 
 // The character of the result type over a float's place, whose first has that number.
-fn result_char(first: u8, place: u8) -> u8 {
+fn result_char(first: u8, place: u8) -> u8
+    requires { ⌜ first ≤ modfs ⌝ }
+    ensures { λ r. ⌜ r ≡ resultChar first place ⌝ }
+{
     if 12 <= place {
         return OTHER;
     }
-    std::num::wrapping_add_u8(FIRST, std::num::wrapping_add_u8(first, place))
+    FIRST + first + place
 }
 
-// The character of the entry after the 55.
-fn new_char(words: &[u32]) -> u8 {
-    if words.len() < WORDS {
-        return OTHER;
-    }
-    let e = table::entry_at(words, TYPES);
+// The character of an entry that is a result type of frexp or of modf.
+fn entry_char(e: Entry) -> u8
+    ensures { λ r. ⌜ r ≡ entryChar e ⌝ }
+{
     if (e.p != 0) | (e.q != 0) {
         return OTHER;
     }
@@ -147,7 +163,19 @@ fn new_char(words: &[u32]) -> u8 {
     OTHER
 }
 
-fn value_char(words: &[u32], t: usize, used: usize) -> u8 {
+// The character of the entry after the 55.
+fn new_char(words: &[u32]) -> u8
+    ensures { λ r. ⌜ r ≡ newChar (now (words .entry)) ⌝ }
+{
+    if words.len() < WORDS {
+        return OTHER;
+    }
+    entry_char(table::entry_at(words, TYPES))
+}
+
+fn value_char(words: &[u32], t: usize, used: usize) -> u8
+    ensures { λ r. ⌜ r ≡ valueChar (now (words .entry)) t used ⌝ }
+{
     if t < TYPES {
         if used != TYPES {
             return OTHER;
@@ -160,7 +188,9 @@ fn value_char(words: &[u32], t: usize, used: usize) -> u8 {
     OTHER
 }
 
-fn refusal_char(refusal: Refusal) -> u8 {
+fn refusal_char(refusal: Refusal) -> u8
+    ensures { λ r. ⌜ r ≡ refusalChar refusal ⌝ }
+{
     let reason = refusal.reason;
     let place = refusal.place;
     if (table::reason_no(reason) == NO_OVERLOAD) & (place.0 == 0) & (refusal.used == TYPES) {
@@ -170,7 +200,9 @@ fn refusal_char(refusal: Refusal) -> u8 {
 }
 
 // The character of an answer of a call on the table of 55 types, whose words are those after the call.
-pub fn answer_char(words: &[u32], answer: Answer) -> u8 {
+pub fn answer_char(words: &[u32], answer: Answer) -> u8
+    ensures { λ r. ⌜ r ≡ answerChar (now (words .entry)) answer ⌝ }
+{
     match answer {
         Answer::Value(t, used) => value_char(words, t.0, used),
         Answer::NoValue(_) => OTHER,
@@ -179,7 +211,9 @@ pub fn answer_char(words: &[u32], answer: Answer) -> u8 {
 }
 
 // The count, one higher where a row agreed.
-pub fn counted(n: u64, agreed: bool) -> u64 {
+pub fn counted(n: u64, agreed: bool) -> u64
+    ensures { λ r. ⌜ r ≡ countedOf n agreed ⌝ }
+{
     if agreed {
         return std::num::wrapping_add_u64(n, 1);
     }
@@ -190,6 +224,7 @@ pub fn counted(n: u64, agreed: bool) -> u64 {
 pub fn line_end(s: &[u8], at: usize) -> usize
     requires { ⌜ at ≤ length (now s) ⌝ }
     ensures { λ r. ⌜ (at ≤ r) × (r ≤ length (now (s .entry))) ⌝ }
+    ensures { λ r. ⌜ r ≡ lineEnd (now (s .entry)) at ⌝ }
 {
     let mut end = at;
     while end < s.len() {

@@ -3,7 +3,7 @@ use Prim.Native.Nat.{ℕ}
 use mathlib.Core.Path.{_∙_, ap}
 use native.Mathlib.Omega.{arith}
 use borrow.Author.Needs.{needs}
-use Rattle.table.specs.Answer.{accept}
+use Rattle.answer.specs.Answer.{accept}
 use Rattle.table.specs.Denote.{typeAt}
 use Rattle.ruled.specs.Call.{judgedOutcome}
 use Rattle.ruled.proofs.Outcomes.{gave-as}

@@ -11,7 +11,8 @@ use Rattle.conv.specs.Rank.{isReference}
 use Rattle.overload.specs.Code.{codeOf}
 use Rattle.table.proofs.KindLaws.{clash}
 use Rattle.table.specs.Denote.{typeAt}
-use Rattle.call_ty.proofs.Lists.{some-reference, no-reference, codes-in, offered, not-offered}
+use Rattle.ruled.proofs.Loaded.{offered, not-offered}
+use Rattle.call_ty.proofs.Lists.{some-reference, no-reference, codes-in}
 use Rattle.call_ty.proofs.load.Statement.{statement}
 use Rattle.call_ty.proofs.load.Tie as tie
 

@@ -5,8 +5,6 @@ use Rattle.lines.specs.Lines.{outcome, report}
 use Rattle.lines.proofs.Valued.{spellable}
 use Rattle.lines.proofs.answer_sheet.Statement.{statement}
 use Rattle.lines.proofs.answer_sheet.Tie as tie
-use Rattle.lines.proofs.answer_sheet.Reads as reads
-use Rattle.lines.proofs.answer_sheet.Lts as lts
 
 scalars-requires : tie.Need-scalars-requires
 scalars-requires c κs = search needs

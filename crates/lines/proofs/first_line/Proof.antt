@@ -5,11 +5,6 @@ use Rattle.lines.specs.Lines.{firstLine}
 use borrow.Author.Needs.{needs}
 use Rattle.lines.proofs.first_line.Statement.{statement}
 use Rattle.lines.proofs.first_line.Tie as tie
-use Rattle.lines.proofs.first_line.Reads as reads
-use Rattle.lines.proofs.first_line.Lts as lts
-use Rattle.lines.proofs.put_text.Reads as put-text-reads
-use Rattle.lines.proofs.refused_line.Reads as refused-line-reads
-use Rattle.lines.proofs.type_line.Reads as type-line-reads
 
 enum-known-a : tie.Need-enum-known-a
 enum-known-a c = search needs

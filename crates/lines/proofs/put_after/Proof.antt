@@ -3,10 +3,6 @@ use Rattle.spell.proofs.Puts.{put-put}
 use borrow.Author.Needs.{needs}
 use Rattle.lines.proofs.put_after.Statement.{statement}
 use Rattle.lines.proofs.put_after.Tie as tie
-use Rattle.lines.proofs.put_after.Reads as reads
-use Rattle.lines.proofs.put_after.Lts as lts
-use Rattle.lines.proofs.put_text.Reads as put-text-reads
-use Rattle.spell.proofs.put_number.Reads as put-number-reads
 
 put-text-requires : tie.Need-put-text-requires
 put-text-requires c κs = search needs

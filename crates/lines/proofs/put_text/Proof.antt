@@ -1,5 +1,5 @@
 -- `lines::put_text` meets its contract. The loop's invariant: the first j bytes of the text stand there. Assumes nothing.
-use Prim.Native.Nat.{ℕ, _+_, _<_, _≤_, _-_}
+use Prim.Native.Nat.{_≤_, _-_}
 use mathlib.Core.Path.{_≡_, refl, _∙_, ap}
 use native.Mathlib.Omega.{arith}
 use lib.ListN.{length, take}
@@ -7,8 +7,6 @@ use lib.Seq.{sets, length-sets, take-all}
 use Rattle.spell.proofs.Puts.{put-more}
 use Rattle.lines.proofs.put_text.Statement.{statement}
 use Rattle.lines.proofs.put_text.Tie as tie
-use Rattle.lines.proofs.put_text.Reads as reads
-use Rattle.lines.proofs.put_text.Lts as lts
 
 abbrev Inv-loop : tie.InvT-loop
 Inv-loop out₀ at text j₀ out j = (j ≤ length text) × (out ≡ sets out₀ at (take j text))

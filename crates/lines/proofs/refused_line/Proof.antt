@@ -7,10 +7,6 @@ use Rattle.lines.proofs.Lengths.{after-near}
 use borrow.Author.Needs.{needs}
 use Rattle.lines.proofs.refused_line.Statement.{statement}
 use Rattle.lines.proofs.refused_line.Tie as tie
-use Rattle.lines.proofs.refused_line.Reads as reads
-use Rattle.lines.proofs.refused_line.Lts as lts
-use Rattle.lines.proofs.put_after.Reads as put-after-reads
-use Rattle.table.proofs.reason_no.Reads as reason-no-reads
 
 slice-aggregate-put-after : tie.Need-slice-aggregate-put-after
 slice-aggregate-put-after c = search needs

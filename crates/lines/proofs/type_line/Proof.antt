@@ -7,11 +7,6 @@ use Rattle.lines.proofs.Lengths.{after-near}
 use borrow.Author.Needs.{needs}
 use Rattle.lines.proofs.type_line.Statement.{statement}
 use Rattle.lines.proofs.type_line.Tie as tie
-use Rattle.lines.proofs.type_line.Reads as reads
-use Rattle.lines.proofs.type_line.Lts as lts
-use Rattle.lines.proofs.put_after.Reads as put-after-reads
-use Rattle.spell.proofs.put_byte.Reads as put-byte-reads
-use Rattle.spell.proofs.spell_type.Reads as spell-type-reads
 
 slice-aggregate-put-after : tie.Need-slice-aggregate-put-after
 slice-aggregate-put-after c = search needs

@@ -7,8 +7,6 @@ use Rattle.lines.specs.Lines.{secondLine, linesOf}
 use Rattle.lines.proofs.Lengths.{after-near}
 use Rattle.lines.proofs.write.Statement.{statement}
 use Rattle.lines.proofs.write.Tie as tie
-use Rattle.lines.proofs.write.Reads as reads
-use Rattle.lines.proofs.write.Lts as lts
 
 first-line-requires : tie.Need-first-line-requires
 first-line-requires c κs = search needs

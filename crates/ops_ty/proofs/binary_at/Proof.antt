@@ -5,7 +5,8 @@ use mathlib.Core.Path.{_≡_, refl, sym, _∙_, ap}
 use Rattle.table.specs.Denote.{typeAt}
 use Rattle.table.proofs.FormedLaws.{formed-at}
 use Rattle.ruled.proofs.Outcomes.{gave-as, gave-refused}
-use Rattle.ops_ty.proofs.Ways.{offered, not-offered, binary-unknown, binary-left, binary-right, binary-row}
+use Rattle.ruled.proofs.Loaded.{offered, not-offered}
+use Rattle.ops_ty.proofs.Ways.{binary-unknown, binary-left, binary-right, binary-row}
 use Rattle.ops_ty.proofs.binary_at.Statement.{statement}
 use Rattle.ops_ty.proofs.binary_at.Tie as tie
 use Rattle.ops_ty.proofs.binary_at.Reads as reads

@@ -5,7 +5,8 @@ use mathlib.Core.Path.{_≡_, refl, sym, _∙_, ap}
 use Rattle.table.specs.Denote.{typeAt}
 use Rattle.table.proofs.FormedLaws.{formed-at}
 use Rattle.ruled.proofs.Outcomes.{gave-as, gave-refused}
-use Rattle.ops_ty.proofs.Ways.{offered, not-offered, unary-unknown, unary-address, unary-reference, unary-indirection, unary-row}
+use Rattle.ruled.proofs.Loaded.{offered, not-offered}
+use Rattle.ops_ty.proofs.Ways.{unary-unknown, unary-address, unary-reference, unary-indirection, unary-row}
 use Rattle.ops_ty.proofs.unary_at.Statement.{statement}
 use Rattle.ops_ty.proofs.unary_at.Tie as tie
 use Rattle.ops_ty.proofs.unary_at.Reads as reads

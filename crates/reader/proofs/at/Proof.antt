@@ -28,8 +28,8 @@ use denote.Triple.Spec.{Meets, tripleOf}
 use denote.Triple.Table.{entered}
 use denote.Triple.Walked.{says, Stays, stay-none, walkOf, goes-none, Walks, ends-at, walked, walk-meets}
 use denote.Exit.{yes}
-use Rattle.table.proofs.answer.Place as P
-use Rattle.table.proofs.answer.Place.Laws as P′
+use Rattle.answer.proofs.Place as P
+use Rattle.answer.proofs.Place.Laws as P′
 use Rattle.reader.specs.declared.Reader.{Reader}
 use Rattle.reader.proofs.Reader as T
 use Rattle.reader.proofs.Reader.Laws as T′

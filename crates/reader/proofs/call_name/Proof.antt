@@ -37,8 +37,8 @@ use denote.Triple.Table.{entered, cited}
 use denote.Triple.Walked.{says, Stays, stay-none, walkOf, goes-none, Walks, ends-at, walked, walk-meets}
 use denote.Exit.{yes}
 use denote.Triple.Clauses.{ensured, lasts}
-use Rattle.table.proofs.answer.Place as P
-use Rattle.table.proofs.answer.Place.Laws as P′
+use Rattle.answer.proofs.Place as P
+use Rattle.answer.proofs.Place.Laws as P′
 use Rattle.frame.specs.Frame.{namePart, IsPart}
 use Rattle.frame.proofs.call_name as named-by
 use Rattle.frame.proofs.call_name.Symbol as named-def

@@ -39,8 +39,8 @@ use denote.Triple.Table.{entered, cited}
 use denote.Triple.Walked.{says, Stays, stay-none, walkOf, goes-none, Walks, ends-at, walked, walk-meets}
 use denote.Exit.{yes}
 use denote.Triple.Clauses.{ensured, lasts}
-use Rattle.table.proofs.answer.Place as P
-use Rattle.table.proofs.answer.Place.Laws as P′
+use Rattle.answer.proofs.Place as P
+use Rattle.answer.proofs.Place.Laws as P′
 use Rattle.frame.specs.declared.Placed.{Placed}
 use Rattle.frame.proofs.Placed as S
 use Rattle.frame.proofs.Placed.Laws as S′

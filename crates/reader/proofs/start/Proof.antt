@@ -35,9 +35,9 @@ use denote.Triple.Table.{entered}
 use denote.Triple.Walked.{says, Stays, stay-none-slice, walkOf, goes-none-slice, Walks, ends-at, walked, walk-meets}
 use denote.Exit.{yes}
 use Rattle.frame.specs.Frame.{place, headerSize}
-use Rattle.table.specs.declared.answer.Place.{Place}
-use Rattle.table.proofs.answer.Place as P
-use Rattle.table.proofs.answer.Place.Laws as P′
+use Rattle.answer.specs.declared.Place.{Place}
+use Rattle.answer.proofs.Place as P
+use Rattle.answer.proofs.Place.Laws as P′
 use Rattle.reader.specs.Read.{startOf}
 use Rattle.reader.proofs.Reader as T
 use Rattle.reader.proofs.Reader.Laws as T′

@@ -1,7 +1,7 @@
 use native.Mathlib.Omega.{arith}
 use Rattle.sheet.proofs.Items.{binary-under, binary-pushes, binary-does}
 use Rattle.sheet.proofs.Effects.{refusing, binary-short}
-use Rattle.table.specs.declared.answer.Reason.the-variants.{Stack}
+use Rattle.answer.specs.declared.Reason.the-variants.{Stack}
 use borrow.Author.Needs.{needs}
 use Rattle.sheet.proofs.binary.Statement.{statement}
 use Rattle.sheet.proofs.binary.Tie as tie

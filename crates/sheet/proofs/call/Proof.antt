@@ -1,5 +1,5 @@
 use Rattle.sheet.proofs.Effects.{does-as, refusing, call-short, call-goes}
-use Rattle.table.specs.declared.answer.Reason.the-variants.{Stack}
+use Rattle.answer.specs.declared.Reason.the-variants.{Stack}
 use borrow.Author.Needs.{needs}
 use Rattle.sheet.proofs.call.Statement.{statement}
 use Rattle.sheet.proofs.call.Tie as tie

@@ -3,7 +3,7 @@ use lib.ListN.{getD}
 use native.Mathlib.Omega.{arith}
 use Prim.Native.Nat.{ℕ, zero, suc, _<_}
 use Rattle.sheet.proofs.Effects.{does-as, refusing, template-short, template-unknown, template-goes}
-use Rattle.table.specs.declared.answer.Reason.the-variants.{NoSuchType, Stack}
+use Rattle.answer.specs.declared.Reason.the-variants.{NoSuchType, Stack}
 use borrow.Author.Needs.{needs}
 use Rattle.sheet.proofs.call_template.Statement.{statement}
 use Rattle.sheet.proofs.call_template.Tie as tie

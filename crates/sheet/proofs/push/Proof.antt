@@ -1,6 +1,6 @@
 use native.Mathlib.Omega.{arith}
 use Rattle.sheet.proofs.Effects.{refusing, push-unknown, push-full, push-does}
-use Rattle.table.specs.declared.answer.Reason.the-variants.{NoSuchType, Stack}
+use Rattle.answer.specs.declared.Reason.the-variants.{NoSuchType, Stack}
 use borrow.Author.Needs.{needs}
 use Rattle.sheet.proofs.push.Statement.{statement}
 use Rattle.sheet.proofs.push.Tie as tie

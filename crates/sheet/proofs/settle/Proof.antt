@@ -3,8 +3,8 @@ use lib.ListN.{length}
 use native.Mathlib.Omega.{arith}
 use Rattle.sheet.proofs.Effects.{settle-value, settle-silent, settle-refused}
 use Rattle.sheet.specs.Code.{Pushes}
-use Rattle.table.specs.declared.answer.Answer.the-variants.{Value}
-use Rattle.table.specs.declared.answer.Answer.{Answer}
+use Rattle.answer.specs.declared.Answer.the-variants.{Value}
+use Rattle.answer.specs.declared.Answer.{Answer}
 use borrow.Author.Needs.{needs}
 use Rattle.sheet.proofs.settle.Statement.{statement}
 use Rattle.sheet.proofs.settle.Tie as tie

@@ -1,7 +1,7 @@
 use mathlib.Core.Path.{refl}
 use Rattle.sheet.proofs.MemoLaws.{stepped}
 use Rattle.sheet.proofs.Effects.{refusing}
-use Rattle.table.specs.declared.answer.Reason.the-variants.{Framing}
+use Rattle.answer.specs.declared.Reason.the-variants.{Framing}
 use Rattle.sheet.specs.Code.{stateOf, effectBy, Counted}
 use Rattle.sheet.specs.Machine.{effectOf}
 use borrow.Author.Needs.{needs}

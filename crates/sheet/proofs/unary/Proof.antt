@@ -1,7 +1,7 @@
 use native.Mathlib.Omega.{arith}
 use Rattle.sheet.proofs.Items.{unary-under, unary-pushes, unary-does}
 use Rattle.sheet.proofs.Effects.{refusing, unary-short}
-use Rattle.table.specs.declared.answer.Reason.the-variants.{Stack}
+use Rattle.answer.specs.declared.Reason.the-variants.{Stack}
 use borrow.Author.Needs.{needs}
 use Rattle.sheet.proofs.unary.Statement.{statement}
 use Rattle.sheet.proofs.unary.Tie as tie

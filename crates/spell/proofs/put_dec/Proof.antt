@@ -1,5 +1,4 @@
 -- `spell::put_dec` meets its contract: a word's number is put. Assumes nothing.
-use mathlib.Core.Path.{_≡_}
 use borrow.Author.Needs.{needs}
 use Rattle.spell.proofs.put_dec.Statement.{statement}
 use Rattle.spell.proofs.put_dec.Tie as tie

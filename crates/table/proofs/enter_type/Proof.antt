@@ -4,7 +4,7 @@ use mathlib.Core.Bool.{true, false}
 use borrow.Author.Tests.{not-true, not-false}
 use Rattle.table.specs.Table.{soundb, allowedb}
 use Rattle.table.proofs.SoundLaws.{sound-of}
-use Rattle.table.proofs.EnterCases.{host-unsound, host-forbidden, host-full, host-there}
+use Rattle.table.proofs.EnterCases.{host-unsound, host-forbidden, host-entered}
 use borrow.Author.Needs.{needs}
 use Rattle.table.proofs.enter_type.Statement.{statement}
 use Rattle.table.proofs.enter_type.Tie as tie
@@ -45,37 +45,18 @@ enter-requires c κs =
     let a = c .before .before .before .before .before .before .before .before .args in
     sound-of (a .words .now) (a .n) (sym (c .before .before .before .before .before .sound .ensures) ∙ not-false _ (c .before .before .before .before .if1 .left))
 
-enum-known-r : tie.Need-enum-known-r
-enum-known-r c = search needs
-
-accepted-requires : tie.Need-accepted-requires
-accepted-requires c κs = search needs
-
-enum-told : tie.Need-enum-told
-enum-told c = search needs
-
-refused-requires-3 : tie.Need-refused-requires-3
-refused-requires-3 c κs = search needs
+answer-of-requires : tie.Need-answer-of-requires
+answer-of-requires c κs = search needs
 
 same-length-3 : tie.Need-same-length-3
 same-length-3 c = search needs
 
 returns-3 : tie.Need-returns-3
 returns-3 c =
-    let a = c .before .before .before .before .before .before .before .before .before .before .before .before .before .before .before .args in
-    rw (c .accepted .ensures .made)
-    (host-there (a .words .now) (a .n) (a .e) (sym (c .before .before .before .before .before .before .before .before .before .before .before .before .sound .ensures) ∙ not-false _ (c .before .before .before .before .before .before .before .before .before .before .before .if1 .left)) (sym (c .before .before .before .before .before .before .before .before .before .allowed .ensures) ∙ not-false _ (c .before .before .before .before .before .before .before .before .if2 .left)) _ _ _
-    (rw (c .before .before .r .given .1) at (c .before .before .before .before .before .before .enter .ensures)))
-
-same-length-4 : tie.Need-same-length-4
-same-length-4 c = search needs
-
-returns-4 : tie.Need-returns-4
-returns-4 c =
-    let a = c .before .before .before .before .before .before .before .before .before .before .before .before .before .before .args in
-    rw (c .refused3 .ensures .made)
-    (host-full (a .words .now) (a .n) (a .e) (sym (c .before .before .before .before .before .before .before .before .before .before .before .sound .ensures) ∙ not-false _ (c .before .before .before .before .before .before .before .before .before .before .if1 .left)) (sym (c .before .before .before .before .before .before .before .before .allowed .ensures) ∙ not-false _ (c .before .before .before .before .before .before .before .if2 .left)) _
-    (rw (c .before .enum-told .given .1) at (c .before .before .before .before .before .enter .ensures)))
+    let a = c .before .before .before .before .before .before .before .before .before .before .before .before .args in
+    rw (c .answer-of .ensures)
+    (host-entered (a .words .now) (a .n) (a .e) (sym (c .before .before .before .before .before .before .before .before .before .sound .ensures) ∙ not-false _ (c .before .before .before .before .before .before .before .before .if1 .left)) (sym (c .before .before .before .before .before .before .allowed .ensures) ∙ not-false _ (c .before .before .before .before .before .if2 .left)) _ _
+    (c .before .before .before .enter .ensures))
 
 pub enter-type-spec : {M : Type 1} → statement M
 enter-type-spec =
@@ -90,11 +71,6 @@ enter-type-spec =
     same-length-2
     returns-2
     enter-requires
-    enum-known-r
-    accepted-requires
-    enum-told
-    refused-requires-3
+    answer-of-requires
     same-length-3
-    returns-3
-    same-length-4
-    returns-4)
+    returns-3)

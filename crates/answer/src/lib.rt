@@ -1,0 +1,83 @@
+// The one answer that every call gives, built and numbered here alone.
+ghost use mathlib.Core.Path.{_≡_};
+ghost use Rattle.answer.specs.Answer.{reasonNo, Accepted, WithoutValue, Turned};
+
+// The number of a table entry.
+pub struct TypeNo(pub usize);
+
+// An offset in a sheet.
+pub struct Place(pub usize);
+
+// Why a call is refused, in the order of the refusal numbers 1 to 13.
+pub enum Reason {
+    Unsound,
+    NoSuchType,
+    Reference,
+    Unknown,
+    Template,
+    Count,
+    Operands,
+    NoOverload,
+    NoRoom,
+    Framing,
+    Stack,
+    TooLong,
+    NonePreferred,
+}
+
+// A refusal: why, at which place, and the used count as it stands.
+pub struct Refusal {
+    pub reason: Reason,
+    pub place: Place,
+    pub used: usize,
+}
+
+// What a call answers: a type or no value, each with the used count, or a refusal.
+pub enum Answer {
+    Value(TypeNo, usize),
+    NoValue(usize),
+    Refused(Refusal),
+}
+
+pub fn accepted(t: TypeNo, used: usize) -> Answer
+    ensures { λ r. ⌜ Accepted t used r ⌝ }
+{
+    Answer::Value(t, used)
+}
+
+pub fn no_value(used: usize) -> Answer
+    ensures { λ r. ⌜ WithoutValue used r ⌝ }
+{
+    Answer::NoValue(used)
+}
+
+pub fn refused(reason: Reason, place: Place, used: usize) -> Answer
+    ensures { λ r. ⌜ Turned reason place used r ⌝ }
+{
+    Answer::Refused(Refusal {
+        reason,
+        place,
+        used,
+    })
+}
+
+// The refusal number of a reason.
+pub fn reason_no(r: Reason) -> u8
+    ensures { λ k. ⌜ k ≡ reasonNo r ⌝ }
+{
+    match r {
+        Reason::Unsound => 1,
+        Reason::NoSuchType => 2,
+        Reason::Reference => 3,
+        Reason::Unknown => 4,
+        Reason::Template => 5,
+        Reason::Count => 6,
+        Reason::Operands => 7,
+        Reason::NoOverload => 8,
+        Reason::NoRoom => 9,
+        Reason::Framing => 10,
+        Reason::Stack => 11,
+        Reason::TooLong => 12,
+        Reason::NonePreferred => 13,
+    }
+}

@@ -1,0 +1,75 @@
+-- The character of an answer on the table of the 55 types. Assumes nothing.
+use Prim.Native.Nat.{ℕ, _+_, _*_, _/_, _%_}
+use mathlib.Core.Bool.{Bool, _&&_, _||_, not, cond}
+use mathlib.Core.List.{List}
+use lib.ListN.{length}
+use lib.Dec.{ltb, leb, eqb}
+use Rattle.conv.specs.Types.{abstractFloat, f32, f16}
+use Rattle.answer.specs.Answer.{reasonNo}
+use Rattle.answer.specs.declared.Refusal.{Refusal}
+use Rattle.answer.specs.declared.Answer.{Answer}
+use Rattle.answer.specs.declared.Answer.the-variants.{Value, NoValue, Refused}
+use Rattle.table.specs.Table.{entryAt, kindFrexp, kindModf}
+use Rattle.table.specs.declared.Entry.{Entry}
+
+-- `0` for type 0, `.` for refusal 8, `!` for an answer that no row expects
+abbrev pub firstChar : ℕ
+firstChar = 48
+
+abbrev pub refusedChar : ℕ
+refusedChar = 46
+
+abbrev pub otherChar : ℕ
+otherChar = 33
+
+-- how many types there are, and the words of one entry more
+abbrev pub types : ℕ
+types = 55
+
+abbrev pub wordsOfMore : ℕ
+wordsOfMore = 224
+
+-- the numbers of the first result of frexp and of the first of modf
+abbrev pub frexps : ℕ
+frexps = 55
+
+abbrev pub modfs : ℕ
+modfs = 67
+
+-- the place of a float's width among the results, and then of the float; a type that is no float scalar or vector has none
+abbrev pub floatPlace : ℕ → ℕ
+floatPlace t =
+    cond (leb 4 (t / 7)) otherChar
+    (cond (eqb (t % 7) abstractFloat) (t / 7 * 3)
+    (cond (eqb (t % 7) f32) (t / 7 * 3 + 1)
+    (cond (eqb (t % 7) f16) (t / 7 * 3 + 2) otherChar)))
+
+-- of the twelve results, the one at a place
+abbrev pub resultChar : ℕ → ℕ → ℕ
+resultChar first place = cond (leb 12 place) otherChar (firstChar + first + place)
+
+-- an entry that is a result of frexp or of modf
+abbrev pub entryChar : Entry → ℕ
+entryChar e =
+    cond (not (eqb (e .p) 0) || not (eqb (e .q) 0)) otherChar
+    (cond (eqb (e .kind) kindFrexp) (resultChar frexps (floatPlace (e .elem)))
+    (cond (eqb (e .kind) kindModf) (resultChar modfs (floatPlace (e .elem))) otherChar))
+
+-- the entry after the 55
+unfoldable pub newChar : List ℕ → ℕ
+newChar w = cond (ltb (length w) wordsOfMore) otherChar (entryChar (entryAt w types))
+
+-- one of the 55, and nothing entered; or the entry after them, and it alone entered
+abbrev pub valueChar : List ℕ → ℕ → ℕ → ℕ
+valueChar w t used =
+    cond (ltb t types) (cond (eqb used types) (firstChar + t) otherChar)
+    (cond (eqb t types && eqb used (types + 1)) (newChar w) otherChar)
+
+-- refusal 8 at place 0, and nothing entered
+abbrev pub refusalChar : Refusal → ℕ
+refusalChar r = cond (eqb (reasonNo (r .reason)) 8 && eqb (r .place .0) 0 && eqb (r .used) types) refusedChar otherChar
+
+unfoldable pub answerChar : List ℕ → Answer → ℕ
+answerChar w (Value t used) = valueChar w (t .0) used
+answerChar w (NoValue used) = otherChar
+answerChar w (Refused r) = refusalChar r
