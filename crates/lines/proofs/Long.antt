@@ -1,39 +1,29 @@
 -- What follows the first 60,004 bytes of an input changes no answer: such an input has no right header. So the program reads 65,536 bytes at most.
 -- Assumes nothing.
-use Prim.Native.Nat.{ℕ, _+_, _≤_, _<_}
+use Prim.Native.Nat.{ℕ, _+_, _<_}
 use mathlib.Core.Path.{_≡_, refl, sym, _∙_, ap}
-use mathlib.Core.Bool.{Bool, true, false, _&&_}
+use mathlib.Core.Bool.{Bool, true, false}
 use mathlib.Core.List.{List, _++_}
 use native.Mathlib.Omega.{arith}
-use lib.Dec.{leb, eqb, ltb}
-use lib.ListN.{length, getD, take, length-take}
+use lib.Dec.{ltb}
+use lib.ListN.{length, take, length-take}
 use lib.Seq.{take-all}
-use borrow.Author.Tests.{leb-true, eqb-true, ltb-true, ltb-false}
+use borrow.Author.Tests.{ltb-true, ltb-false}
 use Rattle.table.specs.Table.{scalars}
-use Rattle.table.specs.Placing.{Outcome, turnedDown}
-use Rattle.table.proofs.SoundLaws.{and-left, and-right}
-use Rattle.answer.specs.declared.Reason.the-variants.{Framing}
+use Rattle.table.specs.Placing.{Outcome}
 use Rattle.spell.specs.Spell.{ascii, decimalBy, decimal}
-use Rattle.frame.specs.Frame.{version, headerSize, longest, lengthOf, headerOk}
+use Rattle.frame.specs.Frame.{version, headerSize, longest, headerOk}
+use Rattle.frame.proofs.FrameLaws.{headed}
 use Rattle.sheet.proofs.Demand1.{sheet-header}
-use Rattle.lines.specs.Lines.{refusedLine, firstLine, secondLine, lineEnd, linesOf, start, outcome, report}
+use Rattle.lines.specs.Lines.{refusedLine, firstLine, secondLine, lineEnd, linesOf, start, report}
 use Rattle.lines.proofs.Valued.{start-sound}
 
 -- under a right header there are at most 60,003 bytes
-headed : (s : List ℕ) → headerOk version s ≡ true → length s ≤ headerSize + longest
-unfolding headerOk
-headed s h =
-    let version-on = and-right (leb headerSize (length s)) _ h in
-    let length-on = and-right (eqb (getD s 0 0) version) _ version-on in
-    let few = leb-true (lengthOf s) longest (and-left (leb (lengthOf s) longest) _ length-on) in
-    let all = eqb-true (length s) (headerSize + lengthOf s) (and-right (leb (lengthOf s) longest) _ length-on) in
-    omega arith
-
 no-header : (s : List ℕ) → headerSize + longest < length s → headerOk version s ≡ false
-no-header s h = go (headerOk version s) refl
+no-header s l = go (headerOk version s) refl
   where
     go : (b : Bool) → headerOk version s ≡ b → headerOk version s ≡ false
-    go true e = absurd (omega (arith, headed s e))
+    go true e = let h = headed version s e in absurd (omega arith)
     go false e = e
 
 -- the lines of every longer input

@@ -1,3 +1,4 @@
 pub mod Apart
 pub mod Visits
+pub mod Runs
 pub mod OneReply

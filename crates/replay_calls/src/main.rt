@@ -137,15 +137,22 @@ fn single_agrees(words: &mut [u32], used: usize, line: &[u8]) -> bool {
         return false;
     }
     let name = &line[SINGLE_NAME_AT..];
+    let count = line[COUNT_AT];
     let a = type_no(line[OPERANDS_AT]);
     let b = type_no(line[OPERANDS_AT + 1]);
     let c = type_no(line[OPERANDS_AT + 2]);
-    if line[COUNT_AT] == b'3' {
-        let three = [a, b, c];
-        return answered(words, used, name, &three) == line[1];
+    let d = type_no(line[OPERANDS_AT + 3]);
+    let operands = [a, b, c, d];
+    if count == b'1' {
+        return answered(words, used, name, &operands[0..1]) == line[1];
     }
-    let four = [a, b, c, type_no(line[OPERANDS_AT + 3])];
-    answered(words, used, name, &four) == line[1]
+    if count == b'2' {
+        return answered(words, used, name, &operands[0..2]) == line[1];
+    }
+    if count == b'3' {
+        return answered(words, used, name, &operands[0..3]) == line[1];
+    }
+    answered(words, used, name, &operands) == line[1]
 }
 
 // After a single row.

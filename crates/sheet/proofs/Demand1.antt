@@ -78,12 +78,12 @@ pub record Ran (s : List ℕ) (xs : List Placed) (st : State) : Type 0 where
   pub good : Good (reached s xs st)
   pub grew : Grew (st .words) (st .used) (reached s xs st .words) (reached s xs st .used)
 
-run-on : (s : List ℕ) (x : Placed) (xs : List Placed) (st st' : State) → turnOf s x st ≡ more st'
+pub run-on : (s : List ℕ) (x : Placed) (xs : List Placed) (st st' : State) → turnOf s x st ≡ more st'
     → (runItems s (x ∷ xs) st ≡ runItems s xs st') × (reached s (x ∷ xs) st ≡ reached s xs st')
 unfolding runItems onward reached further
 run-on s x xs st st' h = (rw h, rw h)
 
-run-over : (s : List ℕ) (x : Placed) (xs : List Placed) (st : State) (o : Outcome) → turnOf s x st ≡ done o
+pub run-over : (s : List ℕ) (x : Placed) (xs : List Placed) (st : State) (o : Outcome) → turnOf s x st ≡ done o
     → (runItems s (x ∷ xs) st ≡ o) × (reached s (x ∷ xs) st ≡ st)
 unfolding runItems onward reached further
 run-over s x xs st o h = (rw h, rw h)

@@ -1,4 +1,4 @@
--- What a sheet keeps of the table, and the state that its accepted items reach. Assumes nothing.
+-- What a sheet keeps of the table, the state that its accepted items reach, and the items that a run looks at. Assumes nothing.
 use Prim.Native.Nat.{ℕ, _*_, _≤_}
 use mathlib.Core.Path.{_≡_}
 use mathlib.Core.List.{List, [], _∷_}
@@ -31,3 +31,12 @@ further (done o) st go = st
 unfoldable pub reached : List ℕ → List Placed → State → State
 reached s [] st = st
 reached s (x ∷ xs) st = further (turnOf s x st) st (reached s xs)
+
+-- what a run looks at: what stands first, and, after an item that is accepted, what it looks at of the rest
+unfoldable pub beyond : Turned → (State → List Placed) → List Placed
+beyond (more st') go = go st'
+beyond (done o) go = []
+
+unfoldable pub visited : List ℕ → List Placed → State → List Placed
+visited s [] st = []
+visited s (x ∷ xs) st = x ∷ beyond (turnOf s x st) (visited s xs)

@@ -2,3 +2,4 @@ pub mod Machine
 pub mod Code
 pub mod Kept
 pub mod Memo
+pub mod Single

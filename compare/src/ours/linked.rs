@@ -1,0 +1,204 @@
+//! The calls themselves.
+
+use crate::case::{Answer, Argument, Case, Operation};
+use crate::ours::table::{ENTRIES, Table};
+
+pub const NO_VALUE: u32 = 0xFFFF_FFFF;
+
+/// `swartabelk_reply` of the header.
+#[repr(C)]
+#[derive(Clone, Copy, Debug)]
+pub struct Reply {
+    pub refusal: u32,
+    pub ty: u32,
+    pub place: u32,
+    pub used: u32,
+}
+
+/// `swartabelk_spelled` of the header.
+#[repr(C)]
+#[derive(Clone, Copy, Debug)]
+pub struct Spelled {
+    pub refusal: u32,
+    pub length: u32,
+    pub place: u32,
+    pub used: u32,
+}
+
+unsafe extern "C" {
+    pub fn swartabelk_check(words: *const u32, words_len: usize, used: u32) -> Reply;
+    pub fn swartabelk_unary(words: *mut u32, words_len: usize, used: u32, op: u32, a: u32)
+    -> Reply;
+    pub fn swartabelk_binary(
+        words: *mut u32,
+        words_len: usize,
+        used: u32,
+        op: u32,
+        a: u32,
+        b: u32,
+    ) -> Reply;
+    pub fn swartabelk_call(
+        words: *mut u32,
+        words_len: usize,
+        used: u32,
+        name: *const u8,
+        name_len: usize,
+        tplt: *const u32,
+        tplt_len: usize,
+        args: *const u32,
+        args_len: usize,
+    ) -> Reply;
+    pub fn swartabelk_template(
+        words: *mut u32,
+        words_len: usize,
+        used: u32,
+        head: *const u8,
+        head_len: usize,
+        args: *const i64,
+        args_len: usize,
+    ) -> Reply;
+    pub fn swartabelk_sheet(
+        words: *mut u32,
+        words_len: usize,
+        used: u32,
+        sheet: *const u8,
+        sheet_len: usize,
+    ) -> Reply;
+    pub fn swartabelk_spell(
+        words: *const u32,
+        words_len: usize,
+        used: u32,
+        ty: u32,
+        out: *mut u8,
+        out_len: usize,
+    ) -> Spelled;
+}
+
+pub fn unary(table: &mut Table, op: u32, a: u32) -> Reply {
+    let (words, len) = (table.words.as_mut_ptr(), table.words.len());
+    // SAFETY: the words are lent for the call, with their length.
+    unsafe { swartabelk_unary(words, len, table.used, op, a) }
+}
+
+pub fn binary(table: &mut Table, op: u32, a: u32, b: u32) -> Reply {
+    let (words, len) = (table.words.as_mut_ptr(), table.words.len());
+    // SAFETY: the words are lent for the call, with their length.
+    unsafe { swartabelk_binary(words, len, table.used, op, a, b) }
+}
+
+pub fn call(table: &mut Table, name: &str, tplt: &[u32], args: &[u32]) -> Reply {
+    let (words, len) = (table.words.as_mut_ptr(), table.words.len());
+    // SAFETY: words, name and lists are lent for the call, each with its length.
+    unsafe {
+        swartabelk_call(
+            words,
+            len,
+            table.used,
+            name.as_ptr(),
+            name.len(),
+            tplt.as_ptr(),
+            tplt.len(),
+            args.as_ptr(),
+            args.len(),
+        )
+    }
+}
+
+pub fn template(table: &mut Table, head: &str, args: &[i64]) -> Reply {
+    let (words, len) = (table.words.as_mut_ptr(), table.words.len());
+    // SAFETY: words, head and list are lent for the call, each with its length.
+    unsafe {
+        swartabelk_template(
+            words,
+            len,
+            table.used,
+            head.as_ptr(),
+            head.len(),
+            args.as_ptr(),
+            args.len(),
+        )
+    }
+}
+
+pub fn sheet(table: &mut Table, sheet: &[u8]) -> Reply {
+    let (words, len) = (table.words.as_mut_ptr(), table.words.len());
+    // SAFETY: words and sheet are lent for the call, each with its length.
+    unsafe { swartabelk_sheet(words, len, table.used, sheet.as_ptr(), sheet.len()) }
+}
+
+/// The spelling of a number, by the library.
+pub fn spell(table: &Table, number: u32) -> Result<String, u32> {
+    let mut out = [0u8; 256];
+    let (words, len) = (table.words.as_ptr(), table.words.len());
+    // SAFETY: the words are lent for reading and the output for writing, each with its length.
+    let spelled =
+        unsafe { swartabelk_spell(words, len, table.used, number, out.as_mut_ptr(), out.len()) };
+    match spelled.refusal {
+        0 => Ok(String::from_utf8_lossy(&out[..spelled.length as usize]).into_owned()),
+        refusal => Err(refusal),
+    }
+}
+
+/// A case asked over a table that holds its types and nothing else beside the scalars.
+pub fn answer(case: &Case) -> Result<Answer, String> {
+    let mut table = Table::new(ENTRIES);
+    let operands: Vec<u32> = case.operands.iter().map(|ty| table.number(ty)).collect();
+    let list: Vec<i64> = case
+        .template
+        .iter()
+        .flat_map(|argument| match argument {
+            Argument::Type(ty) => [0, i64::from(table.number(ty))],
+            Argument::AbstractInt(n) => [1, *n],
+            Argument::I32(n) => [2, i64::from(*n)],
+            Argument::U32(n) => [3, i64::from(*n)],
+            Argument::Bool(b) => [4, i64::from(*b)],
+            Argument::F32(bits) => [5, i64::from(*bits)],
+        })
+        .collect();
+    let before = table.clone();
+    let reply = match case.operation {
+        Operation::Unary(op) => unary(&mut table, op as u32, operands[0]),
+        Operation::Binary(op) => binary(&mut table, op as u32, operands[0], operands[1]),
+        Operation::Call(name) => {
+            let types: Vec<u32> = list.chunks(2).map(|pair| pair[1] as u32).collect();
+            call(&mut table, name, &types, &operands)
+        }
+        Operation::Template(head) => template(&mut table, head, &list),
+    };
+    read(&before, &mut table, reply)
+}
+
+/// The answer of a reply, once the words are as the header promises.
+fn read(before: &Table, table: &mut Table, reply: Reply) -> Result<Answer, String> {
+    let held = 4 * before.used as usize;
+    if reply.place != 0 {
+        return Err(format!("place {} of a single call", reply.place));
+    }
+    if reply.refusal != 0 {
+        let kept = table.words == before.words && reply.used == before.used;
+        if !kept || reply.ty != NO_VALUE {
+            return Err(format!("a refusal that changed something: {reply:?}"));
+        }
+        return Ok(Answer::Refused(reply.refusal));
+    }
+    if table.words[..held] != before.words[..held] {
+        return Err("an earlier entry was changed".to_string());
+    }
+    if reply.used < before.used || 4 * reply.used as usize > table.words.len() {
+        return Err(format!("a count out of range: {reply:?}"));
+    }
+    let now = 4 * reply.used as usize;
+    if table.words[now..] != before.words[now..] {
+        return Err("a word behind the count was changed".to_string());
+    }
+    table.used = reply.used;
+    if reply.ty == NO_VALUE {
+        return Ok(Answer::NoValue);
+    }
+    let ty = table.read(reply.ty)?;
+    let spelled = spell(table, reply.ty);
+    if spelled != Ok(ty.to_string()) {
+        return Err(format!("{ty} was spelled {spelled:?}"));
+    }
+    Ok(Answer::Type(ty))
+}

@@ -1,0 +1,284 @@
+//! Sheets: made for the benchmark, and typed by the crate's functions over a plain stack.
+//!
+//! The machine is ours, for the crate has none. It is the plainest there is: a `Vec` of the crate's types, and a call into the crate for each item.
+
+use crate::call_ty::type_builtin_fn;
+use crate::ops_ty::{type_binary_op, type_unary_op};
+use crate::oracle::{binary_operator, to_rust, unary_operator};
+use crate::ours::table::Table;
+use crate::tplt::TpltParam;
+use crate::ty::Type;
+use crate::types::WType;
+use std::collections::BTreeSet;
+
+/// Kinds of items.
+mod item {
+    pub const PUSH: u8 = 1;
+    pub const UNARY: u8 = 2;
+    pub const BINARY: u8 = 3;
+    pub const CALL: u8 = 4;
+    pub const CALL_WITH_TEMPLATE: u8 = 5;
+}
+
+/// The longest sheet, without its header.
+pub const MOST_BYTES: usize = 60_000;
+
+/// A sheet under way: its bytes after the header, and how many items they are.
+#[derive(Default)]
+pub struct Sheet {
+    bytes: Vec<u8>,
+    pub items: usize,
+}
+
+impl Sheet {
+    fn item(&mut self, kind: u8, payload: &[u8]) {
+        self.bytes.push(1 + payload.len() as u8);
+        self.bytes.push(kind);
+        self.bytes.extend_from_slice(payload);
+        self.items += 1;
+    }
+    pub fn push(&mut self, number: u32) {
+        self.item(item::PUSH, &[number as u8]);
+    }
+    pub fn unary(&mut self, op: u8) {
+        self.item(item::UNARY, &[op]);
+    }
+    pub fn binary(&mut self, op: u8) {
+        self.item(item::BINARY, &[op]);
+    }
+    pub fn call(&mut self, name: &str, operands: u8) {
+        self.item(item::CALL, &[&[operands], name.as_bytes()].concat());
+    }
+    /// How many bytes the items have.
+    pub fn length(&self) -> usize {
+        self.bytes.len()
+    }
+    /// The whole sheet, with its header.
+    pub fn bytes(&self) -> Vec<u8> {
+        assert!(self.length() <= MOST_BYTES);
+        let length = (self.length() as u16).to_be_bytes();
+        [&[1], &length[..], &self.bytes].concat()
+    }
+}
+
+/// Why a sheet has no type; what is wrong with it is not told.
+#[derive(Debug)]
+pub struct Refused;
+
+/// The type of a sheet by the crate's functions, over a table of the crate's types.
+pub fn type_sheet(table: &[Type], sheet: &[u8]) -> Result<Option<Type>, Refused> {
+    let [1, high, low, items @ ..] = sheet else {
+        return Err(Refused);
+    };
+    let mut items = items;
+    if items.len() != usize::from(u16::from_be_bytes([*high, *low])) {
+        return Err(Refused);
+    }
+    let mut stack: Vec<Type> = Vec::new();
+    while let [length, rest @ ..] = items {
+        let length = usize::from(*length);
+        if rest.len() < length {
+            return Err(Refused);
+        }
+        let (payload, next) = rest.split_at(length);
+        items = next;
+        match payload {
+            [item::PUSH, number] => {
+                if stack.len() == 64 {
+                    return Err(Refused);
+                }
+                let ty = table.get(usize::from(*number)).ok_or(Refused)?;
+                stack.push(ty.clone());
+            }
+            [item::UNARY, op @ 0..=4] => {
+                let a = stack.pop().ok_or(Refused)?;
+                let made = type_unary_op(unary_operator(usize::from(*op)), &a);
+                stack.push(made.map_err(|_| Refused)?);
+            }
+            [item::BINARY, op @ 0..=17] => {
+                let b = stack.pop().ok_or(Refused)?;
+                let a = stack.pop().ok_or(Refused)?;
+                let made = type_binary_op(binary_operator(usize::from(*op)), &a, &b);
+                stack.push(made.map_err(|_| Refused)?);
+            }
+            [item::CALL, count, name @ ..] => {
+                if !called(&mut stack, None, usize::from(*count), name)? {
+                    return end(items, &stack);
+                }
+            }
+            [item::CALL_WITH_TEMPLATE, number, count, name @ ..] => {
+                let ty = table.get(usize::from(*number)).ok_or(Refused)?;
+                let list = [TpltParam::Type(ty.clone())];
+                if !called(&mut stack, Some(&list), usize::from(*count), name)? {
+                    return end(items, &stack);
+                }
+            }
+            _ => return Err(Refused),
+        }
+    }
+    match &stack[..] {
+        [_] => Ok(stack.pop()),
+        _ => Err(Refused),
+    }
+}
+
+/// A call without value ends the sheet on an empty stack.
+fn end(items: &[u8], stack: &[Type]) -> Result<Option<Type>, Refused> {
+    match (items, stack) {
+        ([], []) => Ok(None),
+        _ => Err(Refused),
+    }
+}
+
+/// Calls a builtin with the values on top of the stack; false where it has no value.
+fn called(
+    stack: &mut Vec<Type>,
+    list: Option<&[TpltParam]>,
+    count: usize,
+    name: &[u8],
+) -> Result<bool, Refused> {
+    let name = std::str::from_utf8(name).map_err(|_| Refused)?;
+    let from = stack.len().checked_sub(count).ok_or(Refused)?;
+    let made = type_builtin_fn(name, list, &stack[from..]).map_err(|_| Refused)?;
+    stack.truncate(from);
+    let has_value = made.is_some();
+    stack.extend(made);
+    Ok(has_value)
+}
+
+/// A table of `entries` entries with some types last, as the header wants it and as the crate has it, and the numbers of those types.
+pub fn table_with(types: &[WType], entries: usize) -> (Table, Vec<Type>, Vec<u32>) {
+    const SPARE: usize = 8;
+    let mut table = Table::new((entries + SPARE).min(256));
+    let absent: BTreeSet<&WType> = types
+        .iter()
+        .filter(|ty| !matches!(ty, WType::Scalar(_)))
+        .collect();
+    let fillers = crate::domain::whole();
+    let holds = |ty: &WType| match ty {
+        WType::Array(elem, _) | WType::Pointer(_, elem, _) => types.contains(elem),
+        ty => types.contains(ty),
+    };
+    let mut fillers = fillers.iter().filter(|ty| !holds(ty));
+    while (table.used as usize) < entries.saturating_sub(absent.len()) {
+        let filler = fillers.next().expect("types enough");
+        table.number(filler);
+    }
+    let numbers: Vec<u32> = types.iter().map(|ty| table.number(ty)).collect();
+    let rust = (0..table.used)
+        .map(|number| to_rust(&table.read(number).expect("a sound table")))
+        .collect();
+    (table, rust, numbers)
+}
+
+/// The sheets of the benchmark.
+#[derive(Clone, Copy, Debug, PartialEq, Eq)]
+pub enum Pattern {
+    /// Operators on scalars.
+    Scalars,
+    /// Operators on vectors of three and scalars.
+    Vectors,
+    /// clamp, mix and sqrt on scalars.
+    Calls,
+}
+
+pub const PATTERNS: [Pattern; 3] = [Pattern::Scalars, Pattern::Vectors, Pattern::Calls];
+
+impl Pattern {
+    pub fn name(self) -> &'static str {
+        match self {
+            Pattern::Scalars => "scalars",
+            Pattern::Vectors => "vectors",
+            Pattern::Calls => "calls",
+        }
+    }
+
+    /// The types that its items push.
+    pub fn types(self) -> Vec<WType> {
+        use crate::types::Scalar::{AbstractInt, F32};
+        match self {
+            Pattern::Scalars | Pattern::Calls => [AbstractInt, F32].map(WType::Scalar).to_vec(),
+            Pattern::Vectors => vec![WType::Scalar(F32), WType::Vector(3, F32)],
+        }
+    }
+
+    /// A sheet of so many items, or as many as 60,000 bytes hold; `numbers` are those of its types.
+    pub fn sheet(self, items: usize, numbers: &[u32]) -> Sheet {
+        const OPERATORS: [u8; 4] = [2, 3, 4, 5];
+        let mut sheet = Sheet::default();
+        let (small, large) = (numbers[0], numbers[1]);
+        sheet.push(large);
+        let mut turn = 0;
+        match self {
+            Pattern::Scalars | Pattern::Vectors => {
+                // Two items a turn, and at the end three: `large == ..`, then `!`.
+                while sheet.items + 2 <= items.saturating_sub(3) {
+                    sheet.push(if turn % 3 == 0 { small } else { large });
+                    sheet.binary(OPERATORS[turn % 4]);
+                    turn += 1;
+                }
+                sheet.push(large);
+                sheet.binary(7);
+                sheet.unary(0);
+            }
+            Pattern::Calls => {
+                let mut next = Sheet::default();
+                loop {
+                    match turn % 3 {
+                        0 => {
+                            next.push(small);
+                            next.push(large);
+                            next.call("clamp", 3);
+                        }
+                        1 => {
+                            next.push(large);
+                            next.push(small);
+                            next.call("mix", 3);
+                        }
+                        _ => next.call("sqrt", 1),
+                    }
+                    let full = sheet.items + next.items > items
+                        || sheet.length() + next.length() > MOST_BYTES;
+                    if full {
+                        break;
+                    }
+                    sheet.bytes.append(&mut next.bytes);
+                    sheet.items += std::mem::take(&mut next.items);
+                    turn += 1;
+                }
+            }
+        }
+        sheet
+    }
+}
+
+#[cfg(test)]
+mod tests {
+    use super::*;
+    use crate::oracle::from_rust;
+
+    #[test]
+    fn the_page_example() {
+        let sheet = [1, 0, 9, 2, 1, 1, 2, 1, 5, 2, 3, 2];
+        let (_, rust, _) = table_with(&[], 7);
+        let ty = type_sheet(&rust, &sheet).unwrap().unwrap();
+        assert_eq!(from_rust(&ty).to_string(), "f32");
+    }
+
+    #[test]
+    fn every_pattern_has_a_type() {
+        for (pattern, ty) in PATTERNS.into_iter().zip(["bool", "vec3<bool>", "f32"]) {
+            let missing = usize::from(pattern == Pattern::Vectors);
+            for items in [20, 2_000, 20_000] {
+                for entries in [7, 20, 200] {
+                    let (table, rust, numbers) = table_with(&pattern.types(), entries);
+                    assert!(table.used as usize == entries.max(7 + missing));
+                    let sheet = pattern.sheet(items, &numbers);
+                    assert!(sheet.items <= items && sheet.length() <= MOST_BYTES);
+                    let made = type_sheet(&rust, &sheet.bytes()).unwrap().unwrap();
+                    assert_eq!(from_rust(&made).to_string(), ty);
+                }
+            }
+        }
+    }
+}

@@ -1,0 +1,342 @@
+//! Document 01 read as plainly as can be: every overload of every row is listed, and a call is judged by a search through them all.
+//!
+//! It shares no line with the crate's files, with their stand-ins or with Swartabelk. It is slow, and a third opinion.
+
+use crate::case::{Answer, Argument, Case, Operation};
+use crate::types::Scalar::{self, *};
+use crate::types::{Space, WType};
+use rows::{binary, ruled, scalar, unary};
+use std::collections::HashMap;
+
+mod rows;
+pub use rows::{DERIVATIVES, FLOAT_ONE};
+
+/// Refusals by document 01's numbers.
+pub mod refusal {
+    pub const REFERENCE: u32 = 3;
+    pub const UNKNOWN: u32 = 4;
+    pub const TEMPLATE: u32 = 5;
+    pub const COUNT: u32 = 6;
+    pub const OPERANDS: u32 = 7;
+    pub const NONE_FITS: u32 = 8;
+    pub const NONE_PREFERRED: u32 = 13;
+}
+
+/// The 94 builtin names, sorted by their bytes.
+#[rustfmt::skip]
+pub const NAMES: [&str; 94] = [
+    "abs", "acos", "acosh", "all", "any", "arrayLength", "asin", "asinh", "atan", "atan2", "atanh", "bitcast", "ceil", "clamp", "cos", "cosh",
+    "countLeadingZeros", "countOneBits", "countTrailingZeros", "cross", "degrees", "determinant", "distance", "dot", "dot4I8Packed",
+    "dot4U8Packed", "dpdx", "dpdxCoarse", "dpdxFine", "dpdy", "dpdyCoarse", "dpdyFine", "exp", "exp2", "extractBits", "faceForward",
+    "firstLeadingBit", "firstTrailingBit", "floor", "fma", "fract", "frexp", "fwidth", "fwidthCoarse", "fwidthFine", "insertBits", "inverseSqrt",
+    "ldexp", "length", "log", "log2", "max", "min", "mix", "modf", "normalize", "pack2x16float", "pack2x16snorm", "pack2x16unorm",
+    "pack4x8snorm", "pack4x8unorm", "pack4xI8", "pack4xI8Clamp", "pack4xU8", "pack4xU8Clamp", "pow", "quantizeToF16", "radians", "reflect",
+    "refract", "reverseBits", "round", "saturate", "select", "sign", "sin", "sinh", "smoothstep", "sqrt", "step", "storageBarrier", "tan",
+    "tanh", "textureBarrier", "transpose", "trunc", "unpack2x16float", "unpack2x16snorm", "unpack2x16unorm", "unpack4x8snorm",
+    "unpack4x8unorm", "unpack4xI8", "unpack4xU8", "workgroupBarrier",
+];
+
+/// One overload: the parameters and the result.
+#[derive(Clone, Debug)]
+pub struct Overload {
+    pub parameters: Vec<WType>,
+    pub result: WType,
+}
+
+fn overload(parameters: &[WType], result: WType) -> Overload {
+    Overload {
+        parameters: parameters.to_vec(),
+        result,
+    }
+}
+
+/// The board of ranks, between scalars.
+pub fn scalar_rank(from: Scalar, to: Scalar) -> Option<u32> {
+    match (from, to) {
+        _ if from == to => Some(0),
+        (AbstractFloat, F32) => Some(1),
+        (AbstractFloat, F16) => Some(2),
+        (AbstractInt, I32) => Some(3),
+        (AbstractInt, U32) => Some(4),
+        (AbstractInt, AbstractFloat) => Some(5),
+        (AbstractInt, F32) => Some(6),
+        (AbstractInt, F16) => Some(7),
+        _ => None,
+    }
+}
+
+/// The rank of a conversion, or none.
+pub fn rank(from: &WType, to: &WType) -> Option<u32> {
+    match (from, to) {
+        (WType::Scalar(a), WType::Scalar(b)) => scalar_rank(*a, *b),
+        (WType::Vector(m, a), WType::Vector(n, b)) if m == n => scalar_rank(*a, *b),
+        (WType::Matrix(c, r, a), WType::Matrix(d, s, b)) if (c, r) == (d, s) => scalar_rank(*a, *b),
+        _ if from == to => Some(0),
+        _ => None,
+    }
+}
+
+/// That one of two scalars to which the other converts.
+pub fn common(a: Scalar, b: Scalar) -> Option<Scalar> {
+    if scalar_rank(a, b).is_some() {
+        Some(b)
+    } else {
+        scalar_rank(b, a).map(|_| a)
+    }
+}
+
+/// The result of the fitting overload that is preferred to every other.
+pub fn resolve(overloads: &[Overload], operands: &[&WType]) -> Answer {
+    let ranks_of = |overload: &Overload| -> Option<Vec<u32>> {
+        let pairs = overload.parameters.iter().zip(operands);
+        if pairs.clone().any(|(to, from)| rank(from, to).is_none()) {
+            return None;
+        }
+        pairs.map(|(to, from)| rank(from, to)).collect()
+    };
+    let with_count = |overload: &&Overload| overload.parameters.len() == operands.len();
+    if !overloads.iter().any(|overload| with_count(&overload)) {
+        return Answer::Refused(refusal::OPERANDS);
+    }
+    if operands.iter().any(|ty| matches!(ty, WType::Reference(..))) {
+        return Answer::Refused(refusal::REFERENCE);
+    }
+    let fitting: Vec<(Vec<u32>, &Overload)> = overloads
+        .iter()
+        .filter(with_count)
+        .filter_map(|overload| ranks_of(overload).map(|ranks| (ranks, overload)))
+        .collect();
+    if fitting.is_empty() {
+        return Answer::Refused(refusal::NONE_FITS);
+    }
+    let preferred = |a: &[u32], b: &[u32]| a.iter().zip(b).all(|(x, y)| x <= y) && a != b;
+    let best = fitting.iter().enumerate().find(|(i, (ranks, _))| {
+        let mut others = fitting.iter().enumerate().filter(|(j, _)| i != j);
+        others.all(|(_, (other, _))| preferred(ranks, other))
+    });
+    match best {
+        Some((_, (_, overload))) => Answer::Type(overload.result.clone()),
+        None => Answer::Refused(refusal::NONE_PREFERRED),
+    }
+}
+
+/// Every list, made once.
+pub struct Standard {
+    unary: Vec<Vec<Overload>>,
+    binary: Vec<Vec<Overload>>,
+    calls: HashMap<&'static str, Vec<Overload>>,
+}
+
+impl Default for Standard {
+    fn default() -> Self {
+        Standard {
+            unary: (0..3).map(unary).collect(),
+            binary: (0..18).map(binary).collect(),
+            calls: NAMES.map(|name| (name, ruled(name))).into_iter().collect(),
+        }
+    }
+}
+
+impl Standard {
+    /// The answer, for a sound table with room and numbers that stand in it.
+    pub fn answer(&self, case: &Case) -> Answer {
+        match (case.operation, case.operands) {
+            (Operation::Unary(3), [a]) => match a {
+                WType::Reference(space, elem, access) if *space != Space::Handle => {
+                    Answer::Type(WType::Pointer(*space, elem.clone(), *access))
+                }
+                _ => Answer::Refused(refusal::NONE_FITS),
+            },
+            (Operation::Unary(4), [a]) => match a {
+                WType::Pointer(space, elem, access) => {
+                    Answer::Type(WType::Reference(*space, elem.clone(), *access))
+                }
+                WType::Reference(..) => Answer::Refused(refusal::REFERENCE),
+                _ => Answer::Refused(refusal::NONE_FITS),
+            },
+            (Operation::Unary(op), _) => resolve(&self.unary[op], case.operands),
+            (Operation::Binary(op), _) => resolve(&self.binary[op], case.operands),
+            (Operation::Call(name), operands) => self.call(name, case.template, operands),
+            (Operation::Template(head), _) => template(head, case.template),
+        }
+    }
+
+    fn call(&self, name: &str, list: &[Argument], operands: &[&WType]) -> Answer {
+        let Some(overloads) = self.calls.get(name) else {
+            return Answer::Refused(refusal::UNKNOWN);
+        };
+        let wanted = match list {
+            [] => name != "bitcast",
+            [Argument::Type(ty)] => {
+                name == "bitcast" && ty.as_wide().is_some_and(|(_, of)| of != Bool)
+            }
+            _ => false,
+        };
+        if !wanted {
+            return Answer::Refused(refusal::TEMPLATE);
+        }
+        if overloads.is_empty() {
+            crate_rule(name, list, operands)
+        } else {
+            resolve(overloads, operands)
+        }
+    }
+}
+
+/// "Crate rules, 6", after the template list was judged.
+fn crate_rule(name: &str, list: &[Argument], operands: &[&WType]) -> Answer {
+    let wanted = match name {
+        "bitcast" | "arrayLength" => 1,
+        "ldexp" => 2,
+        _ => 0,
+    };
+    if operands.len() != wanted {
+        return Answer::Refused(refusal::OPERANDS);
+    }
+    if operands.iter().any(|ty| matches!(ty, WType::Reference(..))) {
+        return Answer::Refused(refusal::REFERENCE);
+    }
+    match (name, list, operands) {
+        ("bitcast", [Argument::Type(ty)], _) => Answer::Type(ty.clone()),
+        ("arrayLength", _, _) => Answer::Type(scalar(U32)),
+        ("ldexp", _, [a, b]) => ldexp(a, b),
+        _ => Answer::NoValue,
+    }
+}
+
+/// "a float with AbstractInt or i32, or a float vector with such a vector of any width, both concrete or both abstract".
+fn ldexp(a: &WType, b: &WType) -> Answer {
+    let (Some((m, float)), Some((n, int))) = (a.as_wide(), b.as_wide()) else {
+        return Answer::Refused(refusal::NONE_FITS);
+    };
+    let alike = (m == 1) == (n == 1) && float.is_abstract() == int.is_abstract();
+    if alike && float.is_float() && matches!(int, AbstractInt | I32) {
+        Answer::Type(a.clone())
+    } else {
+        Answer::Refused(refusal::NONE_FITS)
+    }
+}
+
+/// The heads of template types, but `array` and `atomic`, with the sizes they name.
+#[rustfmt::skip]
+pub const SIZED_HEADS: [(&str, u8, u8); 12] = [
+    ("vec2", 2, 0), ("vec3", 3, 0), ("vec4", 4, 0),
+    ("mat2x2", 2, 2), ("mat2x3", 2, 3), ("mat2x4", 2, 4),
+    ("mat3x2", 3, 2), ("mat3x3", 3, 3), ("mat3x4", 3, 4),
+    ("mat4x2", 4, 2), ("mat4x3", 4, 3), ("mat4x4", 4, 4),
+];
+
+/// "Template types".
+fn template(head: &str, list: &[Argument]) -> Answer {
+    let one_scalar = |allowed: &[Scalar]| match list {
+        [Argument::Type(WType::Scalar(of))] if allowed.contains(of) => Some(*of),
+        _ => None,
+    };
+    let sized = SIZED_HEADS.into_iter().find(|(name, _, _)| *name == head);
+    let made = match (head, sized) {
+        (_, Some((_, n, 0))) => {
+            one_scalar(&[Bool, I32, U32, F32, F16]).map(|of| WType::Vector(n, of))
+        }
+        (_, Some((_, c, r))) => one_scalar(&[F32, F16]).map(|of| WType::Matrix(c, r, of)),
+        ("atomic", _) => one_scalar(&[I32, U32]).map(WType::Atomic),
+        ("array", _) => return array(list),
+        _ => return Answer::Refused(refusal::UNKNOWN),
+    };
+    made.map_or(Answer::Refused(refusal::TEMPLATE), Answer::Type)
+}
+
+fn array(list: &[Argument]) -> Answer {
+    let (elem, count) = match list {
+        [Argument::Type(elem)] => (elem, None),
+        [Argument::Type(_), Argument::Type(_)] => return Answer::Refused(refusal::TEMPLATE),
+        [Argument::Type(elem), count] => (elem, Some(count)),
+        _ => return Answer::Refused(refusal::TEMPLATE),
+    };
+    if elem.is_no_element() {
+        return Answer::Refused(refusal::TEMPLATE);
+    }
+    let made = |count| Answer::Type(WType::Array(Box::new(elem.clone()), count));
+    let Some(count) = count else {
+        return made(None);
+    };
+    let count = match *count {
+        Argument::AbstractInt(n) => n,
+        Argument::I32(n) => i64::from(n),
+        Argument::U32(n) => i64::from(n),
+        _ => 0,
+    };
+    if (1..=i64::from(u32::MAX)).contains(&count) {
+        made(Some(count as u64))
+    } else {
+        Answer::Refused(refusal::COUNT)
+    }
+}
+
+#[cfg(test)]
+mod tests {
+    use super::*;
+    use crate::domain::simples;
+
+    fn named(name: &str) -> WType {
+        let found = simples().into_iter().find(|ty| ty.to_string() == name);
+        found.unwrap()
+    }
+
+    /// An operator, its operands and the answer, as the sixteen cases of document 01 have them.
+    fn check(operation: Operation, operands: &[&str], answer: &str) {
+        let operands: Vec<WType> = operands.iter().map(|name| named(name)).collect();
+        let operands: Vec<&WType> = operands.iter().collect();
+        let case = Case {
+            operation,
+            template: &[],
+            operands: &operands,
+        };
+        let given = Standard::default().answer(&case);
+        assert_eq!(given.to_string(), answer, "{case}");
+    }
+
+    #[test]
+    fn sixteen_cases() {
+        use Operation::{Binary, Call};
+        check(Binary(2), &["AbstractInt", "f32"], "f32");
+        check(Binary(4), &["vec3<AbstractInt>", "f32"], "vec3<f32>");
+        check(Binary(2), &["mat4x3<f32>", "mat4x3<f32>"], "mat4x3<f32>");
+        check(Binary(4), &["mat4x3<f32>", "vec4<f32>"], "vec3<f32>");
+        check(Binary(4), &["vec3<f32>", "mat4x3<f32>"], "vec4<f32>");
+        check(Binary(4), &["mat4x3<f32>", "mat2x4<f32>"], "mat2x3<f32>");
+        check(Binary(9), &["bool", "bool"], "refused 8");
+        check(Binary(9), &["vec2<AbstractInt>", "vec2<f16>"], "vec2<bool>");
+        check(Binary(7), &["i32", "u32"], "refused 8");
+        check(Binary(13), &["AbstractInt", "u32"], "u32");
+        check(Call("sqrt"), &["AbstractInt"], "AbstractFloat");
+        check(Call("reverseBits"), &["AbstractInt"], "i32");
+        check(
+            Call("frexp"),
+            &["vec2<AbstractFloat>"],
+            "__frexp_result_vec2_abstract",
+        );
+        check(
+            Call("clamp"),
+            &["AbstractInt", "AbstractFloat", "f16"],
+            "f16",
+        );
+        check(Call("dpdx"), &["f16"], "refused 8");
+        check(Call("sign"), &["u32"], "refused 8");
+    }
+
+    #[test]
+    fn names_are_sorted_and_all_but_six_are_ruled() {
+        assert!(NAMES.is_sorted_by(|a, b| a.as_bytes() < b.as_bytes()));
+        let ruled_names = NAMES.iter().filter(|name| !ruled(name).is_empty());
+        assert_eq!(ruled_names.count(), 88);
+    }
+
+    #[test]
+    fn no_overload_is_listed_twice() {
+        for list in NAMES.map(ruled).into_iter().chain((0..18).map(binary)) {
+            for (i, a) in list.iter().enumerate() {
+                assert!(list[..i].iter().all(|b| a.parameters != b.parameters));
+            }
+        }
+    }
+}

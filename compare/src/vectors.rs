@@ -1,0 +1,131 @@
+//! Stored answers of a WGSL compiler, as rows of three columns; they judge `standard`, and Swartabelk where it is linked.
+
+use crate::case::{Answer, BINARY, Case, Operation, UNARY};
+use crate::domain::{PLAINS, simples};
+use crate::ours;
+use crate::parts::{THREE, TWO};
+use crate::standard::{NAMES, Standard};
+use crate::types::WType;
+use std::collections::{BTreeSet, HashMap};
+
+/// Crate rules, which no compiler was asked for.
+const NOT_RULED: [&str; 6] = [
+    "arrayLength",
+    "bitcast",
+    "ldexp",
+    "storageBarrier",
+    "textureBarrier",
+    "workgroupBarrier",
+];
+
+/// Holds every row of the files' domain to them. A row that no file lists was refused. True where all agree.
+pub fn check(files: &[String]) -> bool {
+    let mut listed: HashMap<(String, String), String> = HashMap::new();
+    for file in files {
+        let text = std::fs::read_to_string(file).unwrap_or_else(|why| panic!("{file}: {why}"));
+        for line in text.lines().filter(|line| !line.starts_with('#')) {
+            let [sign, operands, result] = line.split('\t').collect::<Vec<_>>()[..] else {
+                panic!("{file}: no three columns: {line}");
+            };
+            listed.insert((sign.to_string(), operands.to_string()), result.to_string());
+        }
+    }
+    // The names of three operands for which rows are at hand; only these were asked for.
+    let three: BTreeSet<&str> = listed
+        .keys()
+        .filter_map(|(sign, _)| THREE.into_iter().find(|name| name == sign))
+        .collect();
+    let mut held = Held {
+        standard: Standard::default(),
+        rows: 0,
+        accepted: 0,
+        wrong: 0,
+        listed,
+    };
+    let types = simples();
+    for (op, sign) in UNARY.into_iter().enumerate().take(3) {
+        held.one(Operation::Unary(op), sign, &types);
+    }
+    for (op, sign) in BINARY.into_iter().enumerate() {
+        held.two(Operation::Binary(op), sign, &types);
+    }
+    for name in NAMES.into_iter().filter(|name| !NOT_RULED.contains(name)) {
+        match name {
+            name if TWO.contains(&name) => held.two(Operation::Call(name), name, &types),
+            name if THREE.contains(&name) || name == "insertBits" => {}
+            name => held.one(Operation::Call(name), name, &types),
+        }
+    }
+    for name in three {
+        held.three(name, &types[..PLAINS]);
+    }
+    let unread = held.listed.len();
+    println!(
+        "{} rows, {} accepted, {} wrong; {unread} listed rows outside of the domain",
+        held.rows, held.accepted, held.wrong
+    );
+    held.wrong == 0 && unread == 0
+}
+
+struct Held {
+    standard: Standard,
+    rows: u64,
+    accepted: u64,
+    wrong: u64,
+    listed: HashMap<(String, String), String>,
+}
+
+impl Held {
+    fn ask(&mut self, operation: Operation, sign: &str, operands: &[&WType]) {
+        let spelled: Vec<String> = operands.iter().map(|ty| ty.to_string()).collect();
+        let expected = self.listed.remove(&(sign.to_string(), spelled.join(" ")));
+        let case = Case {
+            operation,
+            template: &[],
+            operands,
+        };
+        self.rows += 1;
+        self.accepted += u64::from(expected.is_some());
+        let mut hold = |whose: &str, answer: Answer| {
+            let as_listed = match (&answer, &expected) {
+                (Answer::Type(ty), Some(listed)) => ty.to_string() == *listed,
+                (Answer::Refused(8), None) => true,
+                _ => false,
+            };
+            if !as_listed {
+                println!("WRONG {whose} {case}: {answer}, listed {expected:?}");
+                self.wrong += 1;
+            }
+        };
+        hold("standard", self.standard.answer(&case));
+        match ours::answer(&case) {
+            None => {}
+            Some(Ok(answer)) => hold("ours", answer),
+            Some(Err(why)) => panic!("{case}: {why}"),
+        }
+    }
+
+    fn one(&mut self, operation: Operation, sign: &str, types: &[WType]) {
+        for a in types {
+            self.ask(operation, sign, &[a]);
+        }
+    }
+
+    fn two(&mut self, operation: Operation, sign: &str, types: &[WType]) {
+        for a in types {
+            for b in types {
+                self.ask(operation, sign, &[a, b]);
+            }
+        }
+    }
+
+    fn three(&mut self, name: &'static str, types: &[WType]) {
+        for a in types {
+            for b in types {
+                for c in types {
+                    self.ask(Operation::Call(name), name, &[a, b, c]);
+                }
+            }
+        }
+    }
+}

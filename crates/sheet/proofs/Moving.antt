@@ -1,0 +1,67 @@
+-- What the place does: the outcome of a call at a place is that at place 0, with the place in its refusal. Assumes nothing.
+use Prim.Native.Nat.{ℕ, _-_}
+use mathlib.Core.Path.{_≡_, refl}
+use mathlib.Core.Bool.{Bool, true, false, cond}
+use mathlib.Core.List.{List, [], _∷_}
+use lib.Dec.{eqb, ltb, leb}
+use lib.ListN.{length}
+use Rattle.conv.specs.Types.{Ty}
+use Rattle.conv.specs.Rank.{isReference}
+use Rattle.overload.specs.Overload.{Judged}
+use Rattle.overload.specs.Overload.Judged.{gives, noneFits, nonePreferred}
+use Rattle.overload.specs.Rows.{judgeRow, judgeAddress, judgeIndirection}
+use Rattle.names.specs.Names.{Known, ruleOf}
+use Rattle.names.specs.Names.Known.{known, unknown}
+use Rattle.table.specs.Enter.{free}
+use Rattle.table.specs.Placing.{Outcome, placed, entering}
+use Rattle.ruled.specs.Call.{anyReference, judgedOutcome, ruledOutcome}
+use Rattle.ops_ty.specs.Ops.{unaryOps, addressOp, indirectionOp, binaryOps, binaryRow, unaryOutcome, binaryOutcome}
+use Rattle.call_ty.specs.Calls.{templateRight, operandsOf, Given, givenBy, givenOutcome, byRule, callOutcome}
+use Rattle.call_ty.specs.Calls.Given.{judgment, nothing}
+use Rattle.sheet.specs.Single.{moved}
+
+module _ (place : ℕ) (w : List ℕ) (n : ℕ) where
+  -- the two sides of a test
+  either : (b : Bool) (x y x₀ y₀ : Outcome) → x ≡ moved place x₀ → y ≡ moved place y₀ → cond b x y ≡ moved place (cond b x₀ y₀)
+  either true x y x₀ y₀ p q = p
+  either false x y x₀ y₀ p q = q
+
+  pub entering-moved : (R : Ty) → entering place w n R ≡ moved place (entering 0 w n R)
+  unfolding entering
+  entering-moved R = either (leb (placed w n R .used - n) (free w n)) _ _ _ _ refl refl
+
+  judged-moved : (j : Judged) → judgedOutcome place w n j ≡ moved place (judgedOutcome 0 w n j)
+  unfolding judgedOutcome
+  judged-moved (gives R) = entering-moved R
+  judged-moved noneFits = refl
+  judged-moved nonePreferred = refl
+
+  pub unary-moved : (op : ℕ) (t : Ty) → unaryOutcome place w n op t ≡ moved place (unaryOutcome 0 w n op t)
+  unfolding unaryOutcome
+  unary-moved op t =
+      either (ltb op unaryOps) _ _ _ _
+      (either (eqb op addressOp) _ _ _ _ (judged-moved (judgeAddress t))
+      (either (isReference t) _ _ _ _ refl
+      (either (eqb op indirectionOp) _ _ _ _ (judged-moved (judgeIndirection t)) (judged-moved (judgeRow op (t ∷ []))))))
+      refl
+
+  pub binary-moved : (op : ℕ) (t u : Ty) → binaryOutcome place w n op t u ≡ moved place (binaryOutcome 0 w n op t u)
+  unfolding binaryOutcome ruledOutcome
+  binary-moved op t u =
+      either (ltb op binaryOps) _ _ _ _ (either (anyReference (t ∷ u ∷ [])) _ _ _ _ refl (judged-moved (judgeRow (binaryRow op) (t ∷ u ∷ [])))) refl
+
+  given-moved : (g : Given) → givenOutcome place w n g ≡ moved place (givenOutcome 0 w n g)
+  unfolding givenOutcome
+  given-moved (judgment j) = judged-moved j
+  given-moved nothing = refl
+
+  rule-moved : (r : Known) (ts us : List Ty) → byRule place w n r ts us ≡ moved place (byRule 0 w n r ts us)
+  unfolding byRule
+  rule-moved unknown ts us = refl
+  rule-moved (known k) ts us =
+      either (templateRight k ts) _ _ _ _
+      (either (eqb (length us) (operandsOf k)) _ _ _ _ (either (anyReference us) _ _ _ _ refl (given-moved (givenBy k ts us))) refl)
+      refl
+
+  pub call-moved : (name : List ℕ) (ts us : List Ty) → callOutcome place w n name ts us ≡ moved place (callOutcome 0 w n name ts us)
+  call-moved name ts us = rule-moved (ruleOf name) ts us
