@@ -1,0 +1,92 @@
+-- The numbers of every answer to a single call fit into 32 bits: a type is below the used count, which is at most 256; a refusal has the place 0 and the
+-- count that was given. Assumes nothing.
+use Prim.Native.Nat.{ℕ, _<_, _≤_, _^_}
+use mathlib.Core.Path.{_≡_, refl, sym, _∙_, ap}
+use mathlib.Core.Bool.{true, false}
+use mathlib.Core.List.{List}
+use native.Mathlib.Omega.{arith}
+use lib.IntN.{ℤ}
+use Rattle.answer.specs.Answer.{refuse}
+use Rattle.table.specs.Table.{soundb}
+use Rattle.table.specs.Placing.{Outcome, Gave}
+use Rattle.answer.specs.declared.TypeNo.{TypeNo}
+use Rattle.answer.specs.declared.Reason.the-variants.{Unsound}
+use Rattle.answer.specs.declared.Answer.{Answer}
+use Rattle.answer.specs.declared.Answer.the-variants.{Value, NoValue, Refused}
+use Rattle.ruled.proofs.Demands.{Kept}
+use Rattle.ops_ty.specs.Ops.{typeUnaryOp, typeBinaryOp}
+use Rattle.ops_ty.proofs.Demand1.{unary-kept, binary-kept}
+use Rattle.call_ty.specs.Calls.{typeBuiltinFn}
+use Rattle.call_ty.proofs.Demand1.{single-accepted, single-silent}
+use Rattle.tplt.specs.Templates.{templateOutcome, TemplateDone}
+use Rattle.tplt.proofs.Demand1.{accepted-grows, refused-keeps, always-valued}
+use Rattle.swartabelk.specs.Reply.{replyOf, Replied, checkAnswer}
+use Rattle.swartabelk.specs.Code.{Fits}
+use Rattle.swartabelk.specs.declared.Reply.{Reply}
+use Rattle.swartabelk.proofs.Places.{At, type-unary-at, type-binary-at, type-builtin-at}
+
+-- a type of a sound table
+value-fits : (t : TypeNo) (m : ℕ) → t .0 < m → m ≤ 256 → Fits (Value t m)
+unfolding Fits
+value-fits t m h k = (omega arith, omega arith)
+
+-- the three cases of an answer: a type below the count of a table, which is at most 256; no value, with the count that was given; a refusal
+pub case-fits : (place n : ℕ) → place < 2 ^ 32 → n < 2 ^ 32 → (a : Answer)
+    → ((t : TypeNo) (m : ℕ) → a ≡ Value t m → (t .0 < m) × (m ≤ 256)) → ((m : ℕ) → a ≡ NoValue m → m ≡ n) → At place n a → Fits a
+unfolding Fits
+case-fits place n p l (Value t m) v e at = let s = v t m refl in value-fits t m (s .0) (s .1)
+case-fits place n p l (NoValue m) v e at = let q = e m refl in omega arith
+case-fits place n p l (Refused r) v e at = (omega (arith, at .0), omega (arith, at .1))
+
+-- an operator's call keeps what `Kept` says
+kept-fits : (w : List ℕ) (n : ℕ) (o : Outcome) → n < 2 ^ 32 → Kept w n o → At 0 n (o .answer) → (a : Answer) → a ≡ o .answer → Fits a
+kept-fits w n o l k at a e =
+    case-fits 0 n (omega arith) l a
+    (λ t m q. let s = k .accepted t m (sym e ∙ q) .1 in (s .below, s .sound .high)) (λ m q. k .without m (sym e ∙ q) .1)
+    (rw e at)
+
+module _ (w : List ℕ) (n : ℕ) (l : n < 2 ^ 32) (r : Answer) (v : List ℕ) where
+  pub unary-fits : (op a : ℕ) → Gave (typeUnaryOp w n op a) r v → Fits r
+  unary-fits op a g = kept-fits w n _ l (unary-kept w n op a) (type-unary-at w n op a) r (g .reply)
+
+  pub binary-fits : (op a b : ℕ) → Gave (typeBinaryOp w n op a b) r v → Fits r
+  binary-fits op a b g = kept-fits w n _ l (binary-kept w n op a b) (type-binary-at w n op a b) r (g .reply)
+
+  pub call-fits : (name tplt args : List ℕ) → Gave (typeBuiltinFn w n name tplt args) r v → Fits r
+  call-fits name tplt args g =
+      case-fits 0 n (omega arith) l r
+      (λ t m q. let s = single-accepted w n name tplt args t m v (rw q at g) .1 .1 .stands in (s .below, s .sound .high))
+      (λ m q. single-silent w n name tplt args m v (rw q at g) .0)
+      (rw (g .reply) (type-builtin-at w n name tplt args))
+
+pub template-fits : (w : List ℕ) (n : ℕ) → n < 2 ^ 32 → (head : List ℕ) (args : List ℤ) (r : Answer) (v : List ℕ) → TemplateDone w n head args r v → Fits r
+unfolding Fits
+template-fits w n l head args (Value t m) v d = let s = accepted-grows w n head args t m v d .stands in value-fits t m (s .below) (s .sound .high)
+template-fits w n l head args (NoValue m) v d = absurd (always-valued w n head args m v d)
+template-fits w n l head args (Refused r) v d = let u = refused-keeps w n head args r v d in (omega (arith, u .1), omega (arith, u .2))
+
+-- an outcome's answer, told in numbers, is the reply of the same outcome
+pub replied : {o p : Outcome} {a : Answer} {r : Reply} {v : List ℕ} → o ≡ p → Gave o a v → r ≡ replyOf a → Replied p r v
+replied q g e =
+    record { reply = e ∙ ap replyOf (g .reply ∙ ap (λ (x : Outcome). x .answer) q); words = g .words ∙ ap (λ (x : Outcome). x .words) q }
+
+pub template-gave : {w : List ℕ} {n : ℕ} {head : List ℕ} {args : List ℤ} {a : Answer} {v : List ℕ} → TemplateDone w n head args a v → Gave (templateOutcome w n head args) a v
+template-gave d = record { reply = ap (λ (o : Outcome). o .answer) (d .outcome); words = ap (λ (o : Outcome). o .words) (d .outcome) }
+
+-- the answer of a check: no value, or refusal 1
+module _ (w : List ℕ) (n m : ℕ) (same : m ≡ n) (a : Answer) where
+  pub sound-fits : n < 2 ^ 32 → a ≡ NoValue m → Fits a
+  unfolding Fits
+  sound-fits l e = rw (e, same) l
+
+  pub unsound-fits : n < 2 ^ 32 → a ≡ refuse Unsound 0 m → Fits a
+  unfolding Fits
+  unsound-fits l e = rw (e, same) (omega arith, l)
+
+  pub sound-check : soundb w m ≡ true → a ≡ NoValue m → a ≡ checkAnswer w n
+  unfolding checkAnswer
+  sound-check h e = let k : soundb w n ≡ true = rw same at h in rw k (e ∙ ap NoValue same)
+
+  pub unsound-check : soundb w m ≡ false → a ≡ refuse Unsound 0 m → a ≡ checkAnswer w n
+  unfolding checkAnswer
+  unsound-check h e = let k : soundb w n ≡ false = rw same at h in rw k (e ∙ ap (refuse Unsound 0) same)

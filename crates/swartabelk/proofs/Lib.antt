@@ -1,0 +1,6 @@
+pub mod Telling
+pub mod Places
+pub mod Fitting
+pub mod Sheets
+pub mod Short
+pub mod OneReply

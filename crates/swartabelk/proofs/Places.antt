@@ -1,0 +1,100 @@
+-- The place and the used count of a refusal are those of the call. Assumes nothing.
+use Prim.Native.Nat.{ℕ, _-_}
+use mathlib.Core.Path.{_≡_, refl}
+use mathlib.Core.Bool.{Bool, true, false, cond}
+use mathlib.Core.List.{List, [], _∷_, map}
+use lib.Dec.{eqb, ltb, leb}
+use lib.ListN.{length}
+use Rattle.conv.specs.Types.{Ty}
+use Rattle.conv.specs.Rank.{isReference}
+use Rattle.overload.specs.Overload.{Judged}
+use Rattle.overload.specs.Overload.Judged.{gives, noneFits, nonePreferred}
+use Rattle.overload.specs.Rows.{judgeRow, judgeAddress, judgeIndirection}
+use Rattle.names.specs.Names.{Known, ruleOf}
+use Rattle.names.specs.Names.Known.{known, unknown}
+use Rattle.table.specs.Table.{soundb}
+use Rattle.table.specs.Denote.{typeAt}
+use Rattle.table.specs.Enter.{free}
+use Rattle.table.specs.Placing.{Outcome, placed, entering}
+use Rattle.answer.specs.declared.Answer.{Answer}
+use Rattle.answer.specs.declared.Answer.the-variants.{Value, NoValue, Refused}
+use Rattle.ruled.specs.Call.{anyReference, judgedOutcome, ruledOutcome}
+use Rattle.ops_ty.specs.Ops.{unaryOps, addressOp, indirectionOp, binaryOps, binaryRow, unaryOutcome, binaryOutcome, typeUnaryOp, typeBinaryOp}
+use Rattle.call_ty.specs.Calls.{Given, templateRight, operandsOf, givenBy, givenOutcome, byRule, callOutcome, allUnder, typeBuiltinFn}
+use Rattle.call_ty.specs.Calls.Given.{judgment, nothing}
+
+-- an answer is no refusal, or one at this place with this count
+abbrev pub At : ℕ → ℕ → Answer → Type 0
+At place n (Value t m) = Unit {0}
+At place n (NoValue m) = Unit {0}
+At place n (Refused r) = (r .place .0 ≡ place) × (r .used ≡ n)
+
+module _ (place : ℕ) (w : List ℕ) (n : ℕ) where
+  pub at-by : (b : Bool) (x y : Outcome) → At place n (x .answer) → At place n (y .answer) → At place n (cond b x y .answer)
+  at-by true x y p q = p
+  at-by false x y p q = q
+
+  pub entering-at : (R : Ty) → At place n (entering place w n R .answer)
+  unfolding entering
+  entering-at R = at-by (leb (placed w n R .used - n) (free w n)) _ _ tt (refl, refl)
+
+  judged-at : (j : Judged) → At place n (judgedOutcome place w n j .answer)
+  unfolding judgedOutcome
+  judged-at (gives R) = entering-at R
+  judged-at noneFits = (refl, refl)
+  judged-at nonePreferred = (refl, refl)
+
+  ruled-at : (row : ℕ) (ts : List Ty) → At place n (ruledOutcome place w n row ts .answer)
+  unfolding ruledOutcome
+  ruled-at row ts = at-by (anyReference ts) _ _ (refl, refl) (judged-at (judgeRow row ts))
+
+  pub unary-at : (op : ℕ) (t : Ty) → At place n (unaryOutcome place w n op t .answer)
+  unfolding unaryOutcome
+  unary-at op t =
+      at-by (ltb op unaryOps) _ _
+      (at-by (eqb op addressOp) _ _ (judged-at (judgeAddress t))
+      (at-by (isReference t) _ _ (refl, refl)
+      (at-by (eqb op indirectionOp) _ _ (judged-at (judgeIndirection t)) (judged-at (judgeRow op (t ∷ []))))))
+      (refl, refl)
+
+  pub binary-at : (op : ℕ) (t u : Ty) → At place n (binaryOutcome place w n op t u .answer)
+  unfolding binaryOutcome
+  binary-at op t u = at-by (ltb op binaryOps) _ _ (ruled-at (binaryRow op) (t ∷ u ∷ [])) (refl, refl)
+
+  given-at : (g : Given) → At place n (givenOutcome place w n g .answer)
+  unfolding givenOutcome
+  given-at (judgment j) = judged-at j
+  given-at nothing = tt
+
+  rule-at : (k : Known) (ts us : List Ty) → At place n (byRule place w n k ts us .answer)
+  unfolding byRule
+  rule-at unknown ts us = (refl, refl)
+  rule-at (known rule) ts us =
+      at-by (templateRight rule ts) _ _
+      (at-by (eqb (length us) (operandsOf rule)) _ _ (at-by (anyReference us) _ _ (refl, refl) (given-at (givenBy rule ts us))) (refl, refl))
+      (refl, refl)
+
+  pub call-at : (name : List ℕ) (ts us : List Ty) → At place n (callOutcome place w n name ts us .answer)
+  call-at name ts us = rule-at (ruleOf name) ts us
+
+-- a single call is at place 0
+module _ (w : List ℕ) (n : ℕ) where
+  pub type-unary-at : (op a : ℕ) → At 0 n (typeUnaryOp w n op a .answer)
+  unfolding typeUnaryOp
+  type-unary-at op a = at-by 0 w n (soundb w n) _ _ (at-by 0 w n (ltb a n) _ _ (unary-at 0 w n op (typeAt w a)) (refl, refl)) (refl, refl)
+
+  pub type-binary-at : (op a b : ℕ) → At 0 n (typeBinaryOp w n op a b .answer)
+  unfolding typeBinaryOp
+  type-binary-at op a b =
+      at-by 0 w n (soundb w n) _ _
+      (at-by 0 w n (ltb a n) _ _ (at-by 0 w n (ltb b n) _ _ (binary-at 0 w n op (typeAt w a) (typeAt w b)) (refl, refl)) (refl, refl))
+      (refl, refl)
+
+  pub type-builtin-at : (name tplt args : List ℕ) → At 0 n (typeBuiltinFn w n name tplt args .answer)
+  unfolding typeBuiltinFn
+  type-builtin-at name tplt args =
+      at-by 0 w n (soundb w n) _ _
+      (at-by 0 w n (allUnder n tplt) _ _
+      (at-by 0 w n (allUnder n args) _ _ (call-at 0 w n name (map (typeAt w) tplt) (map (typeAt w) args)) (refl, refl))
+      (refl, refl))
+      (refl, refl)

@@ -1,0 +1,164 @@
+-- The numbers of a sheet's answer fit: the place of an item lies within the sheet, which has at most 60,003 bytes, and the count is that of a sound
+-- table. Assumes nothing.
+use Prim.Native.Nat.{ℕ, zero, suc, _≤_, _<_, _^_}
+use mathlib.Core.Path.{_≡_, refl, ap}
+use mathlib.Core.Bool.{Bool, true, false, _&&_, cond}
+use mathlib.Core.List.{List, [], _∷_, map}
+use native.Mathlib.Omega.{arith}
+use lib.Dec.{ltb, leb, eqb}
+use lib.ListN.{length, getD}
+use borrow.Author.Tests.{eqb-true}
+use Rattle.conv.specs.Types.{Ty}
+use Rattle.answer.specs.Answer.{accept, refuse}
+use Rattle.table.specs.Table.{soundb, allowedb}
+use Rattle.table.specs.Denote.{typeAt, tyOf}
+use Rattle.table.specs.Placing.{Outcome, Gave}
+use Rattle.answer.specs.declared.Reason.the-variants.{Stack}
+use Rattle.answer.specs.declared.Answer.{Answer}
+use Rattle.answer.specs.declared.Answer.the-variants.{Value, NoValue, Refused}
+use Rattle.table.proofs.SoundLaws.{sound-of}
+use Rattle.table.proofs.KindLaws.{split}
+use Rattle.frame.specs.Frame.{version, headerSize, headerOk, itemAt, itemsWithin, itemsFrom}
+use Rattle.frame.specs.declared.Item.{Item}
+use Rattle.frame.specs.declared.Item.the-variants.{Push, Unary, Binary, Call, CallTemplate, Take, End, Bad}
+use Rattle.frame.proofs.FrameLaws.{framed, own-place, headed}
+use Rattle.sheet.specs.Machine.{State, height, operands, below, typeOf, Effect, goes, silent, ends, stops, onto, having, holding, calling, pushEffect, unaryEffect, binaryEffect, callEffect, templateEffect, takeEffect, effectOf, entryOf, bytesOf, endAnswer, leftAnswer, after, Turned, more, done, turnOf, onward, runItems, begun, typeSheet}
+use Rattle.sheet.specs.Code.{Good}
+use Rattle.sheet.proofs.Keeping.{EffectKept, item-kept}
+use Rattle.sheet.proofs.Running.{turn-item, turn-kept, sheet-unsound, sheet-unheaded, sheet-runs}
+use Rattle.swartabelk.specs.Code.{Fits}
+use Rattle.swartabelk.proofs.Places.{At, entering-at, unary-at, binary-at, call-at}
+
+-- AN ITEM refuses at its own place
+
+abbrev EffectAt : ℕ → Effect → Type 0
+EffectAt place (goes st) = Unit {0}
+EffectAt place (silent st) = Unit {0}
+EffectAt place (ends st) = Unit {0}
+EffectAt place (stops r w) = r .place .0 ≡ place
+
+module _ (place : ℕ) (st : State) where
+  either : (b : Bool) (x y : Effect) → EffectAt place x → EffectAt place y → EffectAt place (cond b x y)
+  either true x y p q = p
+  either false x y p q = q
+
+  onto-at : (vs : List ℕ) (n : ℕ) (o : Outcome) → At place n (o .answer) → EffectAt place (onto vs o)
+  unfolding onto
+  onto-at vs n o at = go (o .answer) refl
+    where
+      go : (a : Answer) → o .answer ≡ a → EffectAt place (onto vs o)
+      go (Value t m) e = rw e tt
+      go (NoValue m) e = rw e tt
+      go (Refused r) e = let z = rw e at at in rw e (z .0)
+
+  calling-at : (name : List ℕ) (ts : List Ty) (k : ℕ) → EffectAt place (calling place st name ts k)
+  calling-at name ts k = onto-at (below k st) (st .used) _ (call-at place (st .words) (st .used) name ts (map (typeOf st) (operands k st)))
+
+  having-at : (k : ℕ) (e : Effect) → EffectAt place e → EffectAt place (having place st k e)
+  having-at k e p = either (leb k (height st)) e _ p refl
+
+  holding-at : (e : Effect) → EffectAt place e → EffectAt place (holding place st e)
+  holding-at e p = either (ltb (height st) 64) e _ p refl
+
+  item-at : (s : List ℕ) (i : Item) → EffectAt place (effectOf place st s i)
+  unfolding effectOf pushEffect unaryEffect binaryEffect callEffect templateEffect takeEffect
+  item-at s (Push t) = either (ltb (t .0) (st .used)) _ _ (holding-at _ tt) refl
+  item-at s (Unary op) = having-at 1 _ (onto-at (below 1 st) (st .used) _ (unary-at place (st .words) (st .used) op (typeOf st (getD (operands 1 st) 0 0))))
+  item-at s (Binary op) =
+      having-at 2 _
+      (onto-at (below 2 st) (st .used) _ (binary-at place (st .words) (st .used) op (typeOf st (getD (operands 2 st) 0 0)) (typeOf st (getD (operands 2 st) 1 0))))
+  item-at s (Call k name) = having-at k _ (calling-at (bytesOf s name) [] k)
+  item-at s (CallTemplate t k name) =
+      having-at k _ (either (ltb (t .0) (st .used)) _ _ (calling-at (bytesOf s name) (typeAt (st .words) (t .0) ∷ []) k) refl)
+  item-at s (Take kind p q elem) =
+      either (allowedb (st .words) (st .used) (entryOf kind p q elem)) _ _
+      (holding-at _ (onto-at (st .stack) (st .used) _ (entering-at place (st .words) (st .used) (tyOf (st .words) (entryOf kind p q elem))))) refl
+  item-at s End = tt
+  item-at s Bad = refl
+
+-- AN ANSWER of a run over a sheet of so many bytes
+
+abbrev Told : ℕ → Answer → Type 0
+Told size (Value t m) = (t .0 < m) × (m ≤ 256)
+Told size (NoValue m) = m ≤ 256
+Told size (Refused r) = (r .place .0 ≤ size) × (r .used ≤ 256)
+
+told-fits : (size : ℕ) → size ≤ 60003 → (a : Answer) → Told size a → Fits a
+unfolding Fits
+told-fits size h (Value t m) k = (omega (arith, k .0, k .1), omega (arith, k .1))
+told-fits size h (NoValue m) k = omega arith
+told-fits size h (Refused r) k = (omega (arith, k .0), omega (arith, k .1))
+
+end-told : (size : ℕ) (st : State) → Good st → Told size (endAnswer size (st .stack) (st .used))
+end-told size st g = go (eqb (length (st .stack)) 1) refl
+  where
+    go : (b : Bool) → eqb (length (st .stack)) 1 ≡ b → Told size (cond b (accept (getD (st .stack) 0 0) (st .used)) (refuse Stack size (st .used)))
+    go true e = (g .under 0 (omega (arith, eqb-true (length (st .stack)) 1 e)), g .sound .high)
+    go false e = (omega arith, g .sound .high)
+
+left-told : (size place next high used : ℕ) → place ≤ size → used ≤ 256 → Told size (leftAnswer size place next high used)
+left-told size place next high used p h = go (eqb high 0 && eqb next size)
+  where
+    go : (b : Bool) → Told size (cond b (NoValue used) (refuse Stack place used))
+    go true = h
+    go false = (p, h)
+
+-- what a turn answers
+abbrev Over : ℕ → Turned → Type 0
+Over size (more st) = Unit {0}
+Over size (done o) = Told size (o .answer)
+
+after-told : (s : List ℕ) (place next : ℕ) (st : State) → Good st → place ≤ length s → (e : Effect) → EffectKept st e → EffectAt place e → Over (length s) (after s place next e)
+unfolding after
+after-told s place next st g p (goes st') k at = tt
+after-told s place next st g p (silent st') k at = left-told (length s) place next (height st') (st' .used) p (k .0 .sound .high)
+after-told s place next st g p (ends st') k at = end-told (length s) st' (rw k g)
+after-told s place next st g p (stops r w) k at = (omega arith, omega (arith, k .1, g .sound .high))
+
+turn-told : (s : List ℕ) (at : ℕ) (st : State) → Good st → at ≤ length s → Over (length s) (turnOf s (itemAt s at) st)
+unfolding turnOf
+turn-told s at st g p =
+    let x = itemAt s at in
+    let own : x .at .0 ≡ at = ap (λ (q : _). q .0) (own-place s at) in
+    after-told s (x .at .0) (x .next .0) st g (omega arith) (effectOf (x .at .0) st s (x .item)) (item-kept (x .at .0) st g s (x .item)) (item-at (x .at .0) st s (x .item))
+
+-- A RUN, in so many steps and no more
+
+run-told : (n : ℕ) (s : List ℕ) (at : ℕ) (st : State) → Good st → at ≤ length s → Told (length s) (runItems s (itemsWithin n s at) st .answer)
+unfolding runItems itemsWithin onward
+run-told zero s at st g p = go (turnOf s (itemAt s at) st) refl (turn-told s at st g p)
+  where
+    go : (t : Turned) → turnOf s (itemAt s at) st ≡ t → Over (length s) t → Told (length s) (onward (turnOf s (itemAt s at) st) (runItems s []) .answer)
+    go (more st') e k = rw e (end-told (length s) st' (turn-kept s (itemAt s at) st st' e g .0))
+    go (done o) e k = rw e k
+run-told (suc n) s at st g p = go (turnOf s (itemAt s at) st) refl (turn-told s at st g p) (λ at' st' h l. run-told n s at' st' h l)
+  where
+    go : (t : Turned) → turnOf s (itemAt s at) st ≡ t → Over (length s) t
+        → ((at' : ℕ) (st' : State) → Good st' → at' ≤ length s → Told (length s) (runItems s (itemsWithin n s at') st' .answer))
+        → Told (length s) (runItems s (itemsWithin (suc n) s at) st .answer)
+    go (more st') e k ih =
+        let i = turn-item s (itemAt s at) st st' e in
+        rw (e, i) (ih (itemAt s at .next .0) st' (turn-kept s (itemAt s at) st st' e g .0) (framed s at i .within))
+    go (done o) e k ih = rw e k
+
+-- A SHEET
+
+begun-good : (w : List ℕ) (n : ℕ) → soundb w n ≡ true → Good (begun w n)
+begun-good w n h = record { sound = sound-of w n h; under = λ i k. absurd (omega arith); high = omega arith }
+
+from-told : (s : List ℕ) (st : State) → Good st → headerSize ≤ length s → Told (length s) (runItems s (itemsFrom s headerSize) st .answer)
+unfolding itemsFrom
+from-told s st g h = run-told (length s) s headerSize st g h
+
+pub sheet-fits : (w : List ℕ) (n : ℕ) (s : List ℕ) → n < 2 ^ 32 → (a : Answer) (v : List ℕ) → Gave (typeSheet w n s) a v → Fits a
+unfolding Fits
+sheet-fits w n s l a v g =
+    rw (g .reply)
+    (split (soundb w n)
+    (λ h.
+    split (headerOk version s)
+    (λ k.
+    let z = headed version s k in
+    rw (← sheet-runs w n s h k) (told-fits (length s) (omega (arith, z .whole, z .short)) (runItems s (itemsFrom s headerSize) (begun w n) .answer) (from-told s (begun w n) (begun-good w n h) (omega (arith, z .whole)))))
+    (λ k. rw (← sheet-unheaded w n s h k) (omega arith, l)))
+    (λ h. rw (← sheet-unsound w n s h) (omega arith, l)))

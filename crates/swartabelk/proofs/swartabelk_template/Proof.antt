@@ -1,0 +1,27 @@
+-- `swartabelk::swartabelk_template` meets its contract: the answer of `type_template` fits and is told in numbers. Assumes nothing.
+use Rattle.tplt.specs.Templates.{templateOutcome}
+use Rattle.swartabelk.proofs.Fitting.{template-fits, template-gave, replied}
+use native.Mathlib.Omega.{arith}
+use borrow.Author.Needs.{needs}
+use Rattle.swartabelk.proofs.swartabelk_template.Statement.{statement}
+use Rattle.swartabelk.proofs.swartabelk_template.Tie as tie
+
+wide-requires : tie.Need-wide-requires
+wide-requires c κs = search needs
+
+type-template-requires : tie.Need-type-template-requires
+type-template-requires c κs = search needs
+
+reply-of-requires : tie.Need-reply-of-requires
+reply-of-requires c κs = template-fits _ (c .before .before .before .before .wide .result) (omega (arith, c .before .before .before .before .wide .ensures, c .before .before .before .before .before .before .before .fits .used)) _ _ _ _ (c .before .before .type-template .ensures)
+
+same-length : tie.Need-same-length
+same-length c = search needs
+
+returns : tie.Need-returns
+returns c = let a = c .before .before .before .before .before .before .before .before .args in
+    replied (λ i. templateOutcome (a .words .now) (c .before .before .before .before .before .wide .ensures i) (a .head .now) (a .args .now)) (template-gave (c .before .before .before .type-template .ensures)) (c .reply-of .ensures)
+
+pub swartabelk-template-spec : {M : Type 1} → statement M
+swartabelk-template-spec =
+    tie.close (tie.spec wide-requires type-template-requires reply-of-requires same-length returns)

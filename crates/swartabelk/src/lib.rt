@@ -1,0 +1,219 @@
+// The static library for hosts in C and in Rust: include/swartabelk.h declares it. Each function answers in a struct of numbers what the function below it
+// answers in an enum, which C does not know.
+use spell::Spelled;
+use table::Answer;
+use table::Place;
+use table::Reason;
+use table::TypeNo;
+ghost use mathlib.Core.Path.{_≡_};
+ghost use Prim.Native.Nat.{_<_, _^_};
+ghost use Rattle.frame.specs.Frame.{namePart};
+ghost use Rattle.ops_ty.specs.Ops.{typeUnaryOp, typeBinaryOp};
+ghost use Rattle.call_ty.specs.Calls.{typeBuiltinFn};
+ghost use Rattle.tplt.specs.Templates.{templateOutcome};
+ghost use Rattle.sheet.specs.Machine.{typeSheet};
+ghost use Rattle.swartabelk.specs.Reply.{tell, replyOf, Replied, checkAnswer, spelledOf, SpelledOut, partOf};
+ghost use Rattle.swartabelk.specs.Code.{Fits, SpelledFits};
+
+// The type of a reply that has no value, or is a refusal.
+pub const NO_VALUE: u32 = 0xFFFF_FFFF;
+
+// A reply in numbers: the refusal, 0 for none; the type, or NO_VALUE; the place of a refusal; the used count.
+#[repr(C)]
+pub struct Reply {
+    pub refusal: u32,
+    pub ty: u32,
+    pub place: u32,
+    pub used: u32,
+}
+
+// The same of a spelling: its length stands where a type would.
+#[repr(C)]
+pub struct SpelledReply {
+    pub refusal: u32,
+    pub length: u32,
+    pub place: u32,
+    pub used: u32,
+}
+
+// A part of the lent sheet.
+#[repr(C)]
+pub struct NamePart {
+    pub start: usize,
+    pub length: usize,
+}
+
+fn wide(x: u8) -> u32
+    ensures { λ r. ⌜ r ≡ x ⌝ }
+{
+    x as u32
+}
+
+// A number that fits, as it is.
+fn narrow(x: usize) -> u32
+    requires { ⌜ x < 2 ^ 32 ⌝ }
+    ensures { λ r. ⌜ r ≡ x ⌝ }
+{
+    x as u32
+}
+
+// The numbers of a reply.
+fn told(refusal: u32, ty: u32, place: usize, used: usize) -> Reply
+    requires { ⌜ (place < 2 ^ 32) × (used < 2 ^ 32) ⌝ }
+    ensures { λ r. ⌜ r ≡ tell refusal ty place used ⌝ }
+{
+    Reply {
+        refusal,
+        ty,
+        place: narrow(place),
+        used: narrow(used),
+    }
+}
+
+// An answer in numbers.
+fn reply_of(a: Answer) -> Reply
+    requires { ⌜ Fits a ⌝ }
+    ensures { λ r. ⌜ r ≡ replyOf a ⌝ }
+{
+    match a {
+        Answer::Value(t, n) => told(0, narrow(t.0), 0, n),
+        Answer::NoValue(n) => told(0, NO_VALUE, 0, n),
+        Answer::Refused(r) => {
+            let reason = r.reason;
+            let place = r.place;
+            told(wide(table::reason_no(reason)), NO_VALUE, place.0, r.used)
+        }
+    }
+}
+
+// A spelling's reply in numbers, over a table of n entries.
+fn spelled_of(n: u32, s: Spelled) -> SpelledReply
+    requires { ⌜ SpelledFits s ⌝ }
+    ensures { λ r. ⌜ r ≡ spelledOf n s ⌝ }
+{
+    match s {
+        Spelled::Length(k) => SpelledReply {
+            refusal: 0,
+            length: narrow(k),
+            place: 0,
+            used: n,
+        },
+        Spelled::Refused(r) => {
+            let reason = r.reason;
+            let place = r.place;
+            SpelledReply {
+                refusal: wide(table::reason_no(reason)),
+                length: 0,
+                place: narrow(place.0),
+                used: narrow(r.used),
+            }
+        }
+    }
+}
+
+// Whether the words hold a sound table of `used` entries: no value, or refusal 1.
+#[no_mangle]
+pub extern "C" fn swartabelk_check(words: &[u32], used: u32) -> Reply
+    ensures { λ r. ⌜ r ≡ replyOf (checkAnswer (now (words .entry)) used) ⌝ }
+{
+    let n = table::wide(used);
+    if table::sound(words, n) {
+        return reply_of(table::no_value(n));
+    }
+    reply_of(table::refused(Reason::Unsound, Place(0), n))
+}
+
+// The type of a unary operator on the type a.
+#[no_mangle]
+pub extern "C" fn swartabelk_unary(words: &mut [u32], used: u32, op: u32, a: u32) -> Reply
+    ensures { λ r. ⌜ Replied (typeUnaryOp (now (words .entry)) used op a) r (now (words .exit)) ⌝ }
+{
+    let n = table::wide(used);
+    let o = table::wide(op);
+    let t = TypeNo(table::wide(a));
+    let answer = ops_ty::type_unary_op(words, n, o, t);
+    reply_of(answer)
+}
+
+// The type of a binary operator on the types a and b.
+#[no_mangle]
+pub extern "C" fn swartabelk_binary(words: &mut [u32], used: u32, op: u32, a: u32, b: u32) -> Reply
+    ensures { λ r. ⌜ Replied (typeBinaryOp (now (words .entry)) used op a b) r (now (words .exit)) ⌝ }
+{
+    let n = table::wide(used);
+    let o = table::wide(op);
+    let t = TypeNo(table::wide(a));
+    let u = TypeNo(table::wide(b));
+    let answer = ops_ty::type_binary_op(words, n, o, t, u);
+    reply_of(answer)
+}
+
+// The type of a call of the builtin with that name, on those operands; the template list is empty where there is none.
+#[no_mangle]
+pub extern "C" fn swartabelk_call(
+    words: &mut [u32],
+    used: u32,
+    name: &[u8],
+    tplt: &[u32],
+    args: &[u32],
+) -> Reply
+    ensures { λ r. ⌜ Replied (typeBuiltinFn (now (words .entry)) used (now (name .entry)) (now (tplt .entry)) (now (args .entry))) r (now (words .exit)) ⌝ }
+{
+    let n = table::wide(used);
+    let answer = call_ty::type_builtin_fn(words, n, name, tplt, args);
+    reply_of(answer)
+}
+
+// The type of a template: a head, and its arguments as pairs of a tag and a value.
+#[no_mangle]
+pub extern "C" fn swartabelk_template(
+    words: &mut [u32],
+    used: u32,
+    head: &[u8],
+    args: &[i64],
+) -> Reply
+    ensures { λ r. ⌜ Replied (templateOutcome (now (words .entry)) used (now (head .entry)) (now (args .entry))) r (now (words .exit)) ⌝ }
+{
+    let n = table::wide(used);
+    let answer = tplt::type_template(words, n, head, args);
+    reply_of(answer)
+}
+
+// The type of a whole sheet.
+#[no_mangle]
+pub extern "C" fn swartabelk_sheet(words: &mut [u32], used: u32, sheet: &[u8]) -> Reply
+    ensures { λ r. ⌜ Replied (typeSheet (now (words .entry)) used (now (sheet .entry))) r (now (words .exit)) ⌝ }
+{
+    let n = table::wide(used);
+    let answer = sheet::type_sheet(words, n, sheet);
+    reply_of(answer)
+}
+
+// The spelling of a type, into `out`.
+#[no_mangle]
+pub extern "C" fn swartabelk_spell(
+    words: &[u32],
+    used: u32,
+    ty: u32,
+    out: &mut [u8],
+) -> SpelledReply
+    ensures { λ r. ⌜ SpelledOut (now (words .entry)) used ty (now (out .entry)) r (now (out .exit)) ⌝ }
+{
+    let n = table::wide(used);
+    let t = TypeNo(table::wide(ty));
+    let s = spell::spell(words, n, t, out);
+    spelled_of(used, s)
+}
+
+// The part of the sheet that is the name of the call at a place; the empty part where no well-framed call begins.
+#[no_mangle]
+pub extern "C" fn swartabelk_call_name(sheet: &[u8], place: usize) -> NamePart
+    ensures { λ r. ⌜ r ≡ partOf (namePart (now (sheet .entry)) place) ⌝ }
+{
+    let part = frame::call_part(sheet, Place(place));
+    let start = part.start;
+    NamePart {
+        start: start.0,
+        length: part.length,
+    }
+}

@@ -1,0 +1,318 @@
+//! The typing rules of WGSL, proved: safe functions over `libswartabelk.a`.
+//!
+//! A table is a slice of words: `used` entries of four words each, kind, p, q and elem. The entries 0 to 6 are the scalars that [`SCALARS`] lists, and a
+//! type is the number of its entry. A result that is absent is entered where the slice has room; the answer says the count afterwards, which the next call
+//! is given. No entry that was there moves or changes.
+//!
+//! Every function answers for any words, numbers and bytes: what is wrong is refused.
+//!
+//! ```
+//! use swartabelk::{binary, Answer, BinaryOp, SCALARS};
+//!
+//! let mut words = [0; 1024];
+//! words[..28].copy_from_slice(&SCALARS);
+//! // AbstractInt + f32 is f32.
+//! assert_eq!(binary(&mut words, 7, BinaryOp::Plus as u32, 1, 5), Answer::Type { number: 5, used: 7 });
+//! ```
+#![warn(missing_docs)]
+
+mod raw;
+
+/// The seven scalars, as a table begins: bool, AbstractInt, AbstractFloat, i32, u32, f32, f16.
+pub const SCALARS: [u32; 28] = [
+    0, 0, 0, 0, 1, 0, 0, 0, 2, 0, 0, 0, 3, 0, 0, 0, 4, 0, 0, 0, 5, 0, 0, 0, 6, 0, 0, 0,
+];
+
+/// The unary operators, by their numbers.
+#[derive(Clone, Copy, Debug, PartialEq, Eq)]
+#[repr(u32)]
+pub enum UnaryOp {
+    /// `!`
+    Not = 0,
+    /// `-`
+    Negate = 1,
+    /// `~`
+    Complement = 2,
+    /// `&`
+    AddressOf = 3,
+    /// `*`
+    Indirection = 4,
+}
+
+/// The binary operators, by their numbers.
+#[derive(Clone, Copy, Debug, PartialEq, Eq)]
+#[repr(u32)]
+pub enum BinaryOp {
+    /// `||`
+    Or = 0,
+    /// `&&`
+    And = 1,
+    /// `+`
+    Plus = 2,
+    /// `-`
+    Minus = 3,
+    /// `*`
+    Times = 4,
+    /// `/`
+    Over = 5,
+    /// `%`
+    Remainder = 6,
+    /// `==`
+    Equal = 7,
+    /// `!=`
+    Unequal = 8,
+    /// `<`
+    Less = 9,
+    /// `<=`
+    LessEqual = 10,
+    /// `>`
+    Greater = 11,
+    /// `>=`
+    GreaterEqual = 12,
+    /// `|`
+    BitOr = 13,
+    /// `&`
+    BitAnd = 14,
+    /// `^`
+    BitXor = 15,
+    /// `<<`
+    ShiftLeft = 16,
+    /// `>>`
+    ShiftRight = 17,
+}
+
+/// Why a call is refused, by its number.
+#[derive(Clone, Copy, Debug, PartialEq, Eq)]
+#[repr(u32)]
+pub enum Reason {
+    /// The table is not sound, or the slice is shorter than four times the count.
+    Unsound = 1,
+    /// A type number that is not below the count.
+    NoSuchType = 2,
+    /// A reference offered, but to unary `&`.
+    Reference = 3,
+    /// An unknown operator, builtin or head.
+    Unknown = 4,
+    /// A template list or an entry that is wrong, missing or not wanted.
+    Template = 5,
+    /// An array's count.
+    Count = 6,
+    /// A wrong number of operands.
+    Operands = 7,
+    /// No overload fits.
+    NoOverload = 8,
+    /// The result is absent, and the slice or 256 leaves too little room.
+    NoRoom = 9,
+    /// A sheet's header, framing, kind or payload length.
+    Framing = 10,
+    /// The stack is short, a 65th value, or a wrong end.
+    Stack = 11,
+    /// The spelling is longer than the output.
+    TooLong = 12,
+    /// Overloads fit, and none is preferred. Never given.
+    NonePreferred = 13,
+}
+
+impl Reason {
+    /// The reason of a refusal's number.
+    pub fn of(number: u32) -> Option<Reason> {
+        Some(match number {
+            1 => Reason::Unsound,
+            2 => Reason::NoSuchType,
+            3 => Reason::Reference,
+            4 => Reason::Unknown,
+            5 => Reason::Template,
+            6 => Reason::Count,
+            7 => Reason::Operands,
+            8 => Reason::NoOverload,
+            9 => Reason::NoRoom,
+            10 => Reason::Framing,
+            11 => Reason::Stack,
+            12 => Reason::TooLong,
+            13 => Reason::NonePreferred,
+            _ => return None,
+        })
+    }
+}
+
+/// A refusal: why, at which place of a sheet, and the count of entries as it stands.
+#[derive(Clone, Copy, Debug, PartialEq, Eq)]
+pub struct Refusal {
+    /// Why.
+    pub reason: Reason,
+    /// The item's length byte; 0 for a single call, for [`Reason::Unsound`] and for a wrong header; the sheet's length for a wrong end.
+    pub place: u32,
+    /// The count of entries; for [`Reason::Unsound`] the one that was given.
+    pub used: u32,
+}
+
+/// What a call answers.
+#[derive(Clone, Copy, Debug, PartialEq, Eq)]
+pub enum Answer {
+    /// Accepted, with a type.
+    Type {
+        /// The type's number.
+        number: u32,
+        /// The count of entries afterwards.
+        used: u32,
+    },
+    /// Accepted, without a value.
+    NoValue {
+        /// The count of entries.
+        used: u32,
+    },
+    /// Refused.
+    Refused(Refusal),
+}
+
+/// A template's argument.
+#[derive(Clone, Copy, Debug, PartialEq, Eq)]
+pub enum Argument {
+    /// A type, by its number.
+    Type(u32),
+    /// A literal of AbstractInt.
+    AbstractInt(i64),
+    /// A literal of i32.
+    I32(i32),
+    /// A literal of u32.
+    U32(u32),
+    /// Another literal.
+    Other,
+}
+
+impl Argument {
+    /// The tag and the value, as [`template`] takes them.
+    pub const fn pair(self) -> [i64; 2] {
+        match self {
+            Argument::Type(number) => [0, number as i64],
+            Argument::AbstractInt(value) => [1, value],
+            Argument::I32(value) => [2, value as i64],
+            Argument::U32(value) => [3, value as i64],
+            Argument::Other => [4, 0],
+        }
+    }
+}
+
+fn refusal(number: u32, place: u32, used: u32) -> Refusal {
+    let reason = Reason::of(number).expect("the library's refusals are 1 to 13");
+    Refusal {
+        reason,
+        place,
+        used,
+    }
+}
+
+fn answer(r: raw::Reply) -> Answer {
+    match r {
+        raw::Reply {
+            refusal: 0,
+            ty: raw::NO_VALUE,
+            used,
+            ..
+        } => Answer::NoValue { used },
+        raw::Reply {
+            refusal: 0,
+            ty,
+            used,
+            ..
+        } => Answer::Type { number: ty, used },
+        raw::Reply {
+            refusal: number,
+            place,
+            used,
+            ..
+        } => Answer::Refused(refusal(number, place, used)),
+    }
+}
+
+/// Whether the words hold a sound table of `used` entries: no value, or [`Reason::Unsound`].
+pub fn check(words: &[u32], used: u32) -> Answer {
+    // SAFETY: the pointer and the length are those of a slice that is lent for the call.
+    answer(unsafe { raw::swartabelk_check(words.as_ptr(), words.len(), used) })
+}
+
+/// The type of a unary operator, by its number, on the type `a`.
+pub fn unary(words: &mut [u32], used: u32, op: u32, a: u32) -> Answer {
+    // SAFETY: as above, and the slice is lent for writing.
+    answer(unsafe { raw::swartabelk_unary(words.as_mut_ptr(), words.len(), used, op, a) })
+}
+
+/// The type of a binary operator, by its number, on the types `a` and `b`.
+pub fn binary(words: &mut [u32], used: u32, op: u32, a: u32, b: u32) -> Answer {
+    // SAFETY: as above.
+    answer(unsafe { raw::swartabelk_binary(words.as_mut_ptr(), words.len(), used, op, a, b) })
+}
+
+/// The type of a call of the builtin `name` on the types `args`. `tplt` is its template list: one type for `bitcast`, none for every other.
+pub fn call(words: &mut [u32], used: u32, name: &[u8], tplt: &[u32], args: &[u32]) -> Answer {
+    // SAFETY: as above; what is lent for writing lies apart from the rest.
+    answer(unsafe {
+        raw::swartabelk_call(
+            words.as_mut_ptr(),
+            words.len(),
+            used,
+            name.as_ptr(),
+            name.len(),
+            tplt.as_ptr(),
+            tplt.len(),
+            args.as_ptr(),
+            args.len(),
+        )
+    })
+}
+
+/// The type of a head with template arguments, entered if absent. `args` are pairs of a tag and a value: [`Argument::pair`] makes one.
+pub fn template(words: &mut [u32], used: u32, head: &[u8], args: &[i64]) -> Answer {
+    // SAFETY: as above.
+    answer(unsafe {
+        raw::swartabelk_template(
+            words.as_mut_ptr(),
+            words.len(),
+            used,
+            head.as_ptr(),
+            head.len(),
+            args.as_ptr(),
+            args.len(),
+        )
+    })
+}
+
+/// The type of a whole sheet. What its accepted items entered stays, also where a later item is refused.
+pub fn sheet(words: &mut [u32], used: u32, sheet: &[u8]) -> Answer {
+    // SAFETY: as above.
+    answer(unsafe {
+        raw::swartabelk_sheet(
+            words.as_mut_ptr(),
+            words.len(),
+            used,
+            sheet.as_ptr(),
+            sheet.len(),
+        )
+    })
+}
+
+/// Writes the spelling of a type to the front of `out` and gives its length. Later bytes stay unchanged, and all of them where it is refused.
+pub fn spell(words: &[u32], used: u32, number: u32, out: &mut [u8]) -> Result<usize, Refusal> {
+    // SAFETY: as above.
+    let r = unsafe {
+        raw::swartabelk_spell(
+            words.as_ptr(),
+            words.len(),
+            used,
+            number,
+            out.as_mut_ptr(),
+            out.len(),
+        )
+    };
+    match r.refusal {
+        0 => Ok(r.length as usize),
+        number => Err(refusal(number, r.place, r.used)),
+    }
+}
+
+/// The name of the call whose item begins at a place of the sheet, as that part of it; empty where no well-framed call begins there.
+pub fn call_name(sheet: &[u8], place: usize) -> &[u8] {
+    // SAFETY: as above.
+    let part = unsafe { raw::swartabelk_call_name(sheet.as_ptr(), sheet.len(), place) };
+    &sheet[part.start..part.start + part.length]
+}

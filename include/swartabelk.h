@@ -1,0 +1,95 @@
+/* Swartabelk: the typing rules of WGSL, proved. The result types of operators, builtins, template types and sheets over a table of types that the host lends.
+ *
+ * The table: `words` holds `used` entries of four words each, kind, p, q and elem; the entries 0 to 6 are bool, AbstractInt, AbstractFloat, i32, u32, f32
+ * and f16. `used` is 7 to 256. A type is the number of its entry. A result that is absent is entered where the slice has room: the reply's `used` is the
+ * count afterwards, and the next call is given that. No entry that was there moves or changes. A refused call changes no word; a refused sheet keeps what
+ * its accepted items entered.
+ *
+ * Each function answers for any numbers and any bytes: what is wrong is refused. It allocates nothing, keeps nothing and calls nothing.
+ *
+ * What the host owes: each pointer with its length names memory that may be read, and written where the pointer is not to const. Memory that is written
+ * lies apart from all other memory that is lent to the same call. A pointer is not NULL, even where its length is 0: any other pointer will do then.
+ * A length in bytes is below 2 to the 63.
+ */
+#ifndef SWARTABELK_H
+#define SWARTABELK_H
+
+#include <stddef.h>
+#include <stdint.h>
+
+#ifdef __cplusplus
+extern "C" {
+#endif
+
+#define SWARTABELK_VERSION 1
+
+/* The type of a reply that has no value or is a refusal. */
+#define SWARTABELK_NO_VALUE 0xFFFFFFFFu
+
+/* Why a call is refused:
+ *
+ *    1  the table is not sound, or the slice is shorter than 4 times `used`
+ *    2  a type number not below `used`
+ *    3  a reference offered, but to unary &
+ *    4  an unknown operator, builtin or head
+ *    5  a template list or an entry that is wrong, missing or not wanted
+ *    6  an array's count
+ *    7  a wrong number of operands
+ *    8  no overload fits
+ *    9  the result is absent, and the slice or 256 leaves too little room
+ *   10  a sheet's header, framing, kind or payload length
+ *   11  the stack is short, a 65th value, or a wrong end
+ *   12  the spelling is longer than the output
+ *   13  overloads fit, and none is preferred: never given
+ */
+
+/* The reply of a call. refusal: 0 where it is accepted, else why not. type: the type's number, or SWARTABELK_NO_VALUE where there is no value or the call is
+ * refused. place: of a refused sheet the item's length byte, 0 for 1 and a wrong header, the length of the sheet for a wrong end; else 0.
+ * used: the count of entries afterwards; with refusal 1 the one that was given. */
+typedef struct {
+    uint32_t refusal, type, place, used;
+} swartabelk_reply;
+
+/* The reply of a spelling. length: the bytes that the spelling has, 0 where it is refused. place: 0. used: the one that was given. */
+typedef struct {
+    uint32_t refusal, length, place, used;
+} swartabelk_spelled;
+
+/* A part of a sheet: its first byte and how many bytes it has. */
+typedef struct {
+    size_t start, length;
+} swartabelk_part;
+
+/* Whether the words hold a sound table of `used` entries: no value, or refusal 1. */
+swartabelk_reply swartabelk_check(const uint32_t *words, size_t words_len, uint32_t used);
+
+/* The type of a unary operator on the type a. Operators 0 to 4: ! - ~ & * */
+swartabelk_reply swartabelk_unary(uint32_t *words, size_t words_len, uint32_t used, uint32_t op, uint32_t a);
+
+/* The type of a binary operator on the types a and b. Operators 0 to 17: || && + - * / % == != < <= > >= | & ^ << >> */
+swartabelk_reply swartabelk_binary(uint32_t *words, size_t words_len, uint32_t used, uint32_t op, uint32_t a, uint32_t b);
+
+/* The type of a call of the builtin with that name on the types of `args`. `tplt` is its template list: one type for bitcast, none for every other. */
+swartabelk_reply swartabelk_call(uint32_t *words, size_t words_len, uint32_t used, const uint8_t *name, size_t name_len,
+                                 const uint32_t *tplt, size_t tplt_len, const uint32_t *args, size_t args_len);
+
+/* The type of a head with template arguments, entered if absent. head: vec2 to vec4, mat2x2 to mat4x4, atomic, array. args: pairs (tag, value); tag 0 a type
+ * number, 1 a literal of AbstractInt, 2 of i32, 3 of u32, any other tag another literal; a type number that is negative or too large is refusal 2, a literal
+ * outside its tag's type is another literal; an odd length is a wrong list: 5, after 2 and 4. */
+swartabelk_reply swartabelk_template(uint32_t *words, size_t words_len, uint32_t used, const uint8_t *head, size_t head_len,
+                                     const int64_t *args, size_t args_len);
+
+/* The type of a whole sheet. */
+swartabelk_reply swartabelk_sheet(uint32_t *words, size_t words_len, uint32_t used, const uint8_t *sheet, size_t sheet_len);
+
+/* Writes the spelling of a type to the front of `out`. Later bytes stay unchanged, and all of them where it is refused. */
+swartabelk_spelled swartabelk_spell(const uint32_t *words, size_t words_len, uint32_t used, uint32_t type, uint8_t *out, size_t out_len);
+
+/* The name of the call whose item begins at a place of the sheet; the part { 0, 0 } where no well-framed call begins there. */
+swartabelk_part swartabelk_call_name(const uint8_t *sheet, size_t sheet_len, size_t place);
+
+#ifdef __cplusplus
+}
+#endif
+
+#endif
