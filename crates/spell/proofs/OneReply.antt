@@ -1,5 +1,5 @@
--- No second reply, and no other bytes afterwards, meet the promise of `spell` and `spell_in`; and document 01's numbers tell
--- replies apart. Assumes nothing.
+-- No second reply, and no other bytes afterwards, meet the promise of `spell` and `spell_in`, or of `put_byte`, `put_number` and `spell_type`; and
+-- document 01's numbers tell replies apart. Assumes nothing.
 use Prim.Native.Nat.{ℕ}
 use mathlib.Core.Path.{_≡_, sym, _∙_, ap}
 use mathlib.Core.List.{List, [], _∷_}
@@ -8,11 +8,15 @@ use Rattle.answer.specs.declared.TypeNo.{TypeNo}
 use Rattle.answer.proofs.AnswerLaws.{reason-injective}
 use Rattle.spell.specs.declared.Spelled.{Spelled}
 use Rattle.spell.specs.declared.Spelled.the-variants.{Length, Refused}
+use Rattle.spell.specs.Parts.{Put}
 use Rattle.spell.specs.Reply.{Numbers, spelledNumbers, SpellDone}
 
 pub one-reply : {w : List ℕ} {n : ℕ} {t : TypeNo} {out : List ℕ} {r s : Spelled} {u v : List ℕ} →
     SpellDone w n t out r u → SpellDone w n t out s v → (r ≡ s) × (u ≡ v)
 one-reply a b = (a .reply ∙ sym (b .reply), a .bytes ∙ sym (b .bytes))
+
+pub one-put : {d : List ℕ} {at : ℕ} {s : List ℕ} {r q : ℕ} {u v : List ℕ} → Put d at s r u → Put d at s q v → (r ≡ q) × (u ≡ v)
+one-put a b = (a .place ∙ sym (b .place), a .bytes ∙ sym (b .bytes))
 
 one-two : {P : Type 0} (a b c : ℕ) → a ∷ [] ≡ b ∷ c ∷ [] → P
 one-two a b c h = let z : _≡_ {A = ℕ} 0 1 = cc in absurd (omega arith)

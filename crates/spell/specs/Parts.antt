@@ -1,4 +1,4 @@
--- What the parts of the speller put, by the words of an entry; no public promise names these. Assumes nothing.
+-- What the parts of the speller put, by the words of an entry. Of these only `Put` and the bounds on places stand in public promises. Assumes nothing.
 use Prim.Native.Nat.{ℕ, _+_, _^_}
 use Prim.Native.String.{String}
 use mathlib.Core.Path.{_≡_}

@@ -56,7 +56,7 @@ const TEXT_ACCESSES: usize = 22;
 const TEXT_ABSTRACT: usize = 25;
 
 // The byte of the digit 0.
-const DIGIT_ZERO: u32 = 48;
+const DIGIT_ZERO: usize = 48;
 
 // What asking for a spelling gives: its length, or a refusal.
 pub enum Spelled {
@@ -73,7 +73,7 @@ fn text_byte(k: usize, j: usize) -> u8
 }
 
 // A byte at a place, or nothing past the end of the output; the place after it.
-fn put_byte(out: &mut [u8], at: usize, b: u8) -> usize
+pub fn put_byte(out: &mut [u8], at: usize, b: u8) -> usize
     requires { ⌜ at < far * 4 ⌝ }
     ensures { λ r. ⌜ Put (now (out .entry)) at (b ∷ []) r (now (out .exit)) ⌝ }
 {
@@ -105,16 +105,24 @@ fn put_text(out: &mut [u8], at: usize, k: usize) -> usize
 }
 
 // n in decimal.
-fn put_dec(out: &mut [u8], at: usize, n: u32) -> usize
-    requires { ⌜ at + n < far * 2 ⌝ }
+pub fn put_number(out: &mut [u8], at: usize, n: usize) -> usize
+    requires { ⌜ at < far * 2 ⌝ }
     ensures { λ r. ⌜ Put (now (out .entry)) at (decimal n) r (now (out .exit)) ⌝ }
 {
     let last = (DIGIT_ZERO + n % 10) as u8;
     if n < 10 {
         return put_byte(out, at, last);
     }
-    let next = put_dec(out, at, n / 10);
+    let next = put_number(out, at, n / 10);
     put_byte(out, next, last)
+}
+
+// A word of an entry in decimal.
+fn put_dec(out: &mut [u8], at: usize, n: u32) -> usize
+    requires { ⌜ at + n < far * 2 ⌝ }
+    ensures { λ r. ⌜ Put (now (out .entry)) at (decimal n) r (now (out .exit)) ⌝ }
+{
+    put_number(out, at, table::wide(n))
 }
 
 // A head: its name, then a vector's width or a matrix's columns and rows.
@@ -190,7 +198,7 @@ fn put_fract(out: &mut [u8], at: usize, e: Entry) -> usize
 }
 
 // A type: its head, then its arguments. A scalar and a result type have none: their names are whole.
-fn spell_type(words: &[u32], n: usize, i: usize, out: &mut [u8], at: usize) -> usize
+pub fn spell_type(words: &[u32], n: usize, i: usize, out: &mut [u8], at: usize) -> usize
     requires { ⌜ Sound (now words) n ⌝ }
     requires { ⌜ i < n ⌝ }
     requires { ⌜ at + (i + 1) * span ≤ far ⌝ }

@@ -1,0 +1,5 @@
+pub mod Lengths
+pub mod Valued
+pub mod Long
+pub mod Examples
+pub mod OneReply

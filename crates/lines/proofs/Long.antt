@@ -1,0 +1,42 @@
+-- What follows the first 60,004 bytes of an input changes no answer: such an input has no right header. So the program reads 65,536 bytes at most.
+-- Assumes nothing.
+use Prim.Native.Nat.{ℕ, _+_, _<_}
+use mathlib.Core.Path.{_≡_, refl, sym, _∙_, ap}
+use mathlib.Core.Bool.{Bool, true, false}
+use mathlib.Core.List.{List, _++_}
+use native.Mathlib.Omega.{arith}
+use lib.Dec.{ltb}
+use lib.ListN.{length, take, length-take}
+use lib.Seq.{take-all}
+use borrow.Author.Tests.{ltb-true, ltb-false}
+use Rattle.table.specs.Table.{scalars}
+use Rattle.table.specs.Placing.{Outcome}
+use Rattle.spell.specs.Spell.{ascii, decimalBy, decimal}
+use Rattle.frame.specs.Frame.{version, headerSize, longest, headerOk}
+use Rattle.frame.proofs.FrameLaws.{headed}
+use Rattle.sheet.proofs.Demand1.{sheet-header}
+use Rattle.lines.specs.Lines.{refusedLine, firstLine, secondLine, lineEnd, linesOf, start, report}
+use Rattle.lines.proofs.Valued.{start-sound}
+
+-- under a right header there are at most 60,003 bytes
+no-header : (s : List ℕ) → headerSize + longest < length s → headerOk version s ≡ false
+no-header s l = go (headerOk version s) refl
+  where
+    go : (b : Bool) → headerOk version s ≡ b → headerOk version s ≡ false
+    go true e = let h = headed version s e in absurd (omega arith)
+    go false e = e
+
+-- the lines of every longer input
+pub too-long : (s : List ℕ) → headerSize + longest < length s → report s ≡ ascii "refused 10 at 0" ++ lineEnd ++ ascii "entries 7" ++ lineEnd
+unfolding report ascii decimalBy decimal refusedLine firstLine secondLine linesOf
+too-long s h = ap (λ (o : Outcome). linesOf (o .words) (o .answer)) (sheet-header start scalars s start-sound (no-header s h))
+
+-- so what is cut off behind more than 60,003 bytes is not missed
+pub report-cut : (n : ℕ) (s : List ℕ) → headerSize + longest < n → report (take n s) ≡ report s
+report-cut n s h = go (ltb n (length s)) refl
+  where
+    go : (b : Bool) → ltb n (length s) ≡ b → report (take n s) ≡ report s
+    go true e =
+        let l = ltb-true n (length s) e in
+        too-long (take n s) (omega (arith, length-take n s)) ∙ sym (too-long s (omega arith))
+    go false e = ap report (take-all n s (ltb-false n (length s) e))

@@ -1,0 +1,47 @@
+-- `lines::answer_sheet` meets its contract: what `type_sheet` answers over the seven scalars can be spelled. Assumes nothing.
+use borrow.Author.Needs.{needs}
+use Rattle.table.specs.Placing.{Gave}
+use Rattle.lines.specs.Lines.{outcome, report}
+use Rattle.lines.proofs.Valued.{spellable}
+use Rattle.lines.proofs.answer_sheet.Statement.{statement}
+use Rattle.lines.proofs.answer_sheet.Tie as tie
+
+scalars-requires : tie.Need-scalars-requires
+scalars-requires c κs = search needs
+
+slice-aggregate-type-sheet : tie.Need-slice-aggregate-type-sheet
+slice-aggregate-type-sheet c = search needs
+
+type-sheet-requires : tie.Need-type-sheet-requires
+type-sheet-requires c κs = search needs
+
+slice-aggregate-write : tie.Need-slice-aggregate-write
+slice-aggregate-write c = search needs
+
+write-requires : tie.Need-write-requires
+write-requires c κs =
+    let s = c .before .before .before .before .before .before .before .before .args .bytes .now in
+    let g : Gave (outcome s) (c .before .before .before .type-sheet .result) (c .before .before .before .type-sheet .last .0) = rw (c .before .before .before .before .before .scalars .ensures) at (c .before .before .before .type-sheet .ensures) in
+    rw (g .reply, g .words) (spellable s)
+
+same-length : tie.Need-same-length
+same-length c = search needs
+
+returns : tie.Need-returns
+unfolding report
+returns c =
+    let s = c .before .before .before .before .before .before .before .before .before .before .before .args .bytes .now in
+    let g : Gave (outcome s) (c .before .before .before .before .before .before .type-sheet .result) (c .before .before .before .before .before .before .type-sheet .last .0) = rw (c .before .before .before .before .before .before .before .before .scalars .ensures) at (c .before .before .before .before .before .before .type-sheet .ensures) in
+    rw (g .reply, g .words) at (c .before .before .write .ensures)
+
+pub answer-sheet-spec : {M : Type 1} → statement M
+answer-sheet-spec =
+    tie.close
+    (tie.spec
+    scalars-requires
+    slice-aggregate-type-sheet
+    type-sheet-requires
+    slice-aggregate-write
+    write-requires
+    same-length
+    returns)
