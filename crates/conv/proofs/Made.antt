@@ -113,7 +113,8 @@ pick-yes : (x : Bool) (a b : ℕ) → T x → pick x a b ≡ a
 pick-yes true a b h = refl
 pick-yes false a b h = absurd h
 
-rank-self : (s : ℕ) → s < 7 → rankOf s s ≡ 0
+-- a scalar to itself: rank 0
+pub rank-self : (s : ℕ) → s < 7 → rankOf s s ≡ 0
 unfolding rankOf both
 rank-self s h = rw (lt-ltb s 7 h, eq-eqb s s refl)
 

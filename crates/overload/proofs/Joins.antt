@@ -10,15 +10,17 @@ use lib.Dec.{T, eqb, ltb, eqb-refl}
 use lib.ListN.{length, getD, drop, drop-of-length-le}
 use lib.Seq.{drop-cons}
 use Rattle.conv.specs.Rank.{pick, both, none, rankOf, converts, accepts}
-use Rattle.conv.proofs.Ranks.{order}
+use Rattle.conv.proofs.Finite.{both-right}
+use Rattle.conv.proofs.Ranks.{order, rank-to}
 use Rattle.overload.specs.Overload.{fits}
 use Rattle.overload.specs.Rows.{Size, Pattern, Component, typeAt, N}
 use Rattle.overload.specs.Rows.Component.{ofT, just}
 use Rattle.overload.specs.Code.{operand, sizeOfNo, patternOfNo, formNo, componentNo, askedOf, familyOf, wordOf, fitsAt, firstParam, member, firstOf, liftOf, preference}
 use Rattle.overload.proofs.Preference.{isT, or-left, or-right}
 use Rattle.overload.proofs.Slots.{both-true, plain-accepts, slot-apart, slot-T}
+use Rattle.overload.proofs.Places.{size-small, size-proper, pattern-shape}
 use Rattle.overload.proofs.Families.{Good, good, param-is, param-word, param-below}
-use Rattle.overload.proofs.Demand3.{takes, preference-small}
+use Rattle.overload.proofs.Demand3.{takes, preference-small, first-some}
 
 -- do the operands from i on fit the parameters from i on?
 abbrev pub restAt : ℕ → ℕ → ℕ → List ℕ → ℕ → Bool
@@ -57,14 +59,13 @@ first-is-T ofT h = refl
 first-is-T (just s) h = absurd h
 
 -- what the loop carries
-pub record Joining (f n : ℕ) (xs : List ℕ) (base j i : ℕ) : Type 0 where
+pub record Joining (f n : ℕ) (xs : List ℕ) (j i : ℕ) : Type 0 where
   pub some : 1 ≤ i
   pub within : i ≤ length xs
-  pub plain : j < 28
-  pub wide : j / 7 * 7 ≡ base
+  pub scalar : j < 7
   pub rest : (t : ℕ) → t < 7 → both (accepts j t) (restAt f n t xs i) ≡ fitsAt f n t xs
 
-module _ (f n : ℕ) (xs : List ℕ) (hf : f < 61) (hn : n < 41) (h13 : n ≢ 13) (count : length xs ≡ length (familyOf f .params)) where
+module _ (f n : ℕ) (xs : List ℕ) (hf : f < 61) (low : wordOf f 8 ≤ n) (high : n ≤ wordOf f 9) (count : length xs ≡ length (familyOf f .params)) where
   pub count-some : 1 ≤ length xs
   count-some = let g = good f hf .some in omega arith
 
@@ -73,6 +74,9 @@ module _ (f n : ℕ) (xs : List ℕ) (hf : f < 61) (hn : n < 41) (h13 : n ≢ 13
 
   pub word-below : (i : ℕ) → i < length xs → (wordOf f (i + 1) < 64) × (i + 1 < 10)
   word-below i h = let k = count-few in (param-below f i hf (omega arith), omega arith)
+
+  pub word-shape : (i : ℕ) → i < length xs → askedOf (wordOf f (i + 1) / 8) n < 13
+  word-shape i h = let k = count-few in pattern-shape f n hf low high i (omega arith)
 
   -- the first parameter
 
@@ -89,35 +93,33 @@ module _ (f n : ℕ) (xs : List ℕ) (hf : f < 61) (hn : n < 41) (h13 : n ≢ 13
         let some = count-some in
         sym
         (rest-step f n t xs 0 hf (omega arith) (omega arith)
-        ∙ ap (λ (b : Bool). both b (restAt f n t xs 1)) (slot-apart (getD xs 0 0) n t (wordOf f 1) hx hn h13 ht (word-below 0 (omega arith) .0) h))
+        ∙ ap (λ (b : Bool). both b (restAt f n t xs 1)) (slot-apart (getD xs 0 0) n t (wordOf f 1) hx (size-small f n hf low high) (size-proper f n hf low high) ht (word-below 0 (omega arith) .0) h))
 
-    pub joining-start : (base : ℕ) → base < 22 → base / 7 * 7 ≡ base → getD xs 0 0 / 7 ≡ askedOf (wordOf f 1 / 8) n → Joining f n xs base (base + getD xs 0 0 % 7) 1
-    joining-start base hb wb h =
+    pub joining-start : (s : ℕ) → getD xs 0 0 / 7 ≡ askedOf (wordOf f 1 / 8) n → s ≡ getD xs 0 0 % 7 → Joining f n xs s 1
+    joining-start s h e =
         let some = count-some in
         record {
           some = omega arith;
           within = omega arith;
-          plain = omega arith;
-          wide = omega arith;
+          scalar = omega arith;
           rest = λ t ht.
               ap (λ (b : Bool). both b (restAt f n t xs 1))
-              (plain-accepts (base + getD xs 0 0 % 7) (getD xs 0 0 % 7) t (omega arith) (omega arith)
-              ∙ sym (slot-T (getD xs 0 0) n t (wordOf f 1) hx hn h13 ht (word-below 0 (omega arith) .0) h first-T))
+              (plain-accepts s (getD xs 0 0 % 7) t (omega arith) (omega arith)
+              ∙ sym (slot-T (getD xs 0 0) n t (wordOf f 1) hx (size-small f n hf low high) (size-proper f n hf low high) ht (word-below 0 (omega arith) .0) h first-T))
               ∙ sym (rest-step f n t xs 0 hf (omega arith) (omega arith));
         }
 
-  module _ (base j i : ℕ) (g : Joining f n xs base j i) where
+  module _ (j i : ℕ) (g : Joining f n xs j i) where
     -- the step of a join at i
     abbrev Stepped : ℕ → Type 0
     Stepped r = (t : ℕ) → t < 7 → accepts r t ≡ both (accepts j t) (converts (operand (getD xs i 0)) (typeAt (sizeOfNo n) t (patternOfNo (wordOf f (i + 1)))))
 
-    pub joining-next : (r : ℕ) → i < length xs → r < 28 → r / 7 * 7 ≡ base → Stepped r → Joining f n xs base r (i + 1)
-    joining-next r hi hr w e =
+    pub joining-next : (r : ℕ) → i < length xs → r < 7 → Stepped r → Joining f n xs r (i + 1)
+    joining-next r hi hr e =
         record {
           some = omega arith;
           within = omega arith;
-          plain = hr;
-          wide = w;
+          scalar = hr;
           rest = λ t ht. join-step f n t xs i hf (omega arith) hi j r (e t ht) ∙ g .rest t ht;
         }
 
@@ -137,8 +139,16 @@ first-same g h [] e = refl
 first-same g h (t ∷ ts) e =
     ap₂ (λ (b : Bool) (r : ℕ). pick b t r) (e t (or-left (eqb t t) (member t ts) (eqb-refl t))) (first-same g h ts (λ u m. e u (or-right (eqb u t) (member u ts) m)))
 
-pub lift-first : (f n : ℕ) (xs : List ℕ) (j : ℕ) → j < 28 → ((t : ℕ) → t < 7 → accepts j t ≡ fitsAt f n t xs) → liftOf (familyOf f .set) (j % 7) ≡ firstOf preference (takes f n xs)
+pub lift-first : (f n : ℕ) (xs : List ℕ) (j : ℕ) → j < 7 → ((t : ℕ) → t < 7 → accepts j t ≡ fitsAt f n t xs) → liftOf (familyOf f .set) j ≡ firstOf preference (takes f n xs)
 unfolding liftOf
 lift-first f n xs j hj h =
     first-same _ _ preference
-    (λ t m. ap (both (member t (familyOf f .set))) (sym (plain-accepts j (j % 7) t hj refl) ∙ h t (preference-small t m)))
+    (λ t m. ap (both (member t (familyOf f .set))) (sym (plain-accepts j j t (omega arith) (omega arith)) ∙ h t (preference-small t m)))
+
+-- what is lifted is a scalar, or none
+pub lift-scalar : (set : List ℕ) (s : ℕ) → liftOf set s ≢ 7
+unfolding liftOf both
+lift-scalar set s e =
+    let g : ℕ → Bool = λ t. both (member t set) (ltb (rankOf s t) none) in
+    let h = both-right (member 7 set) _ (subst (λ (t : ℕ). T (g t)) e (first-some g preference (λ q. let w = sym e ∙ q in omega arith))) in
+    subst (λ (k : ℕ). T (ltb k none)) (rank-to s 7 (omega arith)) h

@@ -1,5 +1,6 @@
 pub mod Preference
 pub mod Slots
+pub mod Lines
 pub mod Families
 pub mod Listing
 pub mod Places

@@ -14,7 +14,7 @@ use borrow.Author.Tests.{eq-eqb, ne-eqb, lt-ltb, le-ltb, ltb-true, ltb-false, eq
 use Rattle.conv.specs.Types.{Ty}
 use Rattle.conv.specs.Rank.{both, none, Shape, formOf, columnsOf, rowsOf, shapeOf, sameShape, converts, made}
 use Rattle.conv.specs.Rank.Shape.{one, vector, matrix, other}
-use Rattle.conv.proofs.Finite.{both-left, both-right, both-pair, implies, modus, below, below₂}
+use Rattle.conv.proofs.Finite.{both-left, both-right, both-pair, implies, modus, all, below, below₂}
 use Rattle.conv.proofs.Made.{shape-made}
 use Rattle.overload.specs.Overload.{Overload, or, fits}
 use Rattle.overload.specs.Rows.{Size, Family, Pattern, formAt, typeAt, overload, N, operators, builtins, rows, overloadsOf}
@@ -183,6 +183,14 @@ range-tests : (f : ℕ) → f < 61 → T (rangeTest f)
 unfolding rangeTest both or operators builtins formAt shapeOfNo shapeNo sizeOfNo sizeNo code.formNo code.componentNo code.wrapNo code.joined code.families code.familyOf code.pivotNo code.encode
 range-tests f hf = below 61 rangeTest tt f hf
 
+-- at them every parameter and the result has a shape
+shapesTest : ℕ → ℕ → Bool
+shapesTest f n = implies (both (leb (wordOf f 8) n) (leb n (wordOf f 9))) (all 5 (λ i. ltb (askedOf (wordOf f (i + 1) / 8) n) 13))
+
+shapes-tests : (f n : ℕ) → f < 61 → n < 41 → T (shapesTest f n)
+unfolding shapesTest implies both or operators builtins formAt shapeOfNo shapeNo sizeOfNo sizeNo code.formNo code.formOfNo code.componentNo code.wrapNo code.joined code.families code.familyOf code.pivotNo code.encode askedOf
+shapes-tests f n hf hn = below₂ 61 41 shapesTest tt f n hf hn
+
 yes-then : (b : Bool) → T b → T (implies true b)
 unfolding implies
 yes-then b h = h
@@ -201,6 +209,12 @@ module _ (f n : ℕ) (hf : f < 61) (low : wordOf f 8 ≤ n) (high : n ≤ wordOf
   size-proper =
       ⊎-elim (λ a. let l = ltb→lt (wordOf f 9) 13 a in omega arith) (λ b. let l = ltb→lt 13 (wordOf f 8) b in omega arith)
       (or-cases (ltb (wordOf f 9) 13) (ltb 13 (wordOf f 8)) (both-right (ltb (wordOf f 9) 41) _ (range-tests f hf)))
+
+  pub pattern-shape : (i : ℕ) → i < 5 → askedOf (wordOf f (i + 1) / 8) n < 13
+  unfolding shapesTest
+  pattern-shape i h =
+      ltb→lt _ 13
+      (below 5 (λ i. ltb (askedOf (wordOf f (i + 1) / 8) n) 13) (modus _ _ (shapes-tests f n hf size-small) (both-pair _ _ (le→leb (wordOf f 8) n low) (le→leb n (wordOf f 9) high))) i h)
 
   pub size-listed : (pivotNo (familyOf f) ≡ 0 → shapeNo (formAt (firstParam (familyOf f) .form) (sizeOfNo n)) ≡ n) → List·Memᴰ (sizeOfNo n) (familyOf f .sizes)
   unfolding sizesTest

@@ -2,45 +2,38 @@
 use Prim.Native.Nat.{ℕ, _+_, _-_, _*_, _/_, _%_, _<_, _≤_}
 use native.Mathlib.Omega.{arith}
 use mathlib.Core.Path.{_≡_, refl, sym, _∙_, ap, subst}
-use mathlib.Core.Logic.{_≢_}
+use mathlib.Core.Logic.{_≢_, ⊎-elim}
 use mathlib.Core.Bool.{Bool, true, false}
 use mathlib.Core.List.{List, [], _∷_, map}
-use lib.Dec.{T, eqb, leb, ltb, eqb→eq, ltb→lt, le→leb}
+use lib.Dec.{T, eqb}
 use lib.ListN.{length, getD}
-use borrow.Author.Tests.{eq-eqb, ne-eqb}
+use borrow.Author.Tests.{eq-eqb, ne-eqb, le-ltb}
 use Rattle.conv.specs.Types.{Ty}
 use Rattle.conv.specs.Types.Ty.{frexp, modf}
-use Rattle.conv.specs.Rank.{pick, both, none, Shape, formOf, sameShape, made, accepts}
-use Rattle.conv.proofs.Finite.{both-left, both-right, both-pair, implies, modus, below₂}
-use Rattle.overload.specs.Overload.{Overload, or, Judged, Resolved}
+use Rattle.conv.specs.Rank.{pick, none, Shape, formOf, sameShape, made, accepts}
+use Rattle.conv.proofs.Finite.{both-left, both-right}
+use Rattle.overload.specs.Overload.{Overload, Judged, Resolved}
 use Rattle.overload.specs.Overload.Judged.{gives, noneFits}
 use Rattle.overload.specs.Rows.{Size, Wrap, Family, formAt, componentAt, typeAt, overload, wrapped, operators, builtins, rows, ofRow}
 use Rattle.overload.specs.Rows.Wrap.{bare, inFrexp, inModf}
 use Rattle.overload.specs.Code as code
-use Rattle.overload.specs.Code.{shapeOfNo, operand, sizeOfNo, formOfNo, componentOfNo, patternNo, patternOfNo, wrapNo, askedOf, familyOf, familyAt, pivotNo, sizeAt, encode, wordOf, member, firstOf, preference, liftOf, fitsAt, firstX, lastX, formsOf, outOf, judgedOf}
+use Rattle.overload.specs.Code.{shapeOfNo, operand, sizeOfNo, formOfNo, componentOfNo, patternNo, patternOfNo, wrapNo, askedOf, familyOf, familyAt, sizeAt, encode, wordOf, member, firstOf, preference, liftOf, fitsAt, firstX, lastX, formsOf, orNone, outOf, judgedOf}
 use Rattle.overload.specs.declared.Out.{Out}
 use Rattle.overload.specs.declared.Resolution.the-variants.{Gives, NoneFits}
 use Rattle.overload.proofs.Slots.{shape-test, component-no, none-accepts}
+use Rattle.overload.proofs.Lines.{entry-cases}
 use Rattle.overload.proofs.Families.{good, pattern-back, pattern-below}
-use Rattle.overload.proofs.Places.{shape-eq, Inside, inside}
+use Rattle.overload.proofs.Places.{shape-eq, size-small, pattern-shape, Inside, inside}
 use Rattle.overload.proofs.Found.{Found, complete}
 use Rattle.overload.proofs.Demand3.{At, takes, of-here, none-takes, first-preferred, first-preferred-takes}
 use Rattle.overload.proofs.Joins.{lift-first}
 
 -- THE RESULT
 
-resultTest : ℕ → ℕ → Bool
-resultTest f n = implies (both (leb (wordOf f 8) n) (leb n (wordOf f 9))) (ltb (askedOf (wordOf f 5 / 8) n) 13)
-
-result-tests : (f n : ℕ) → f < 61 → n < 41 → T (resultTest f n)
-unfolding resultTest implies both or operators builtins formAt shapeOfNo code.shapeNo sizeOfNo code.sizeNo code.formNo formOfNo code.componentNo wrapNo code.joined code.families familyOf pivotNo encode askedOf
-result-tests f n hf hn = below₂ 61 41 resultTest tt f n hf hn
-
-module _ (f n : ℕ) (hf : f < 61) (hn : n < 41) (low : wordOf f 8 ≤ n) (high : n ≤ wordOf f 9) where
+module _ (f n : ℕ) (hf : f < 61) (low : wordOf f 8 ≤ n) (high : n ≤ wordOf f 9) where
   -- the shape of the result
   pub result-shape : askedOf (wordOf f 5 / 8) n < 13
-  unfolding resultTest
-  result-shape = ltb→lt _ 13 (modus _ _ (result-tests f n hf hn) (both-pair _ _ (le→leb (wordOf f 8) n low) (le→leb n (wordOf f 9) high)))
+  result-shape = pattern-shape f n hf low high 4 (omega arith)
 
   result-word : wordOf f 5 ≡ patternNo (familyOf f .result)
   unfolding encode
@@ -55,7 +48,7 @@ module _ (f n : ℕ) (hf : f < 61) (hn : n < 41) (low : wordOf f 8 ≤ n) (high 
       let b = result-below in
       let l = result-shape in
       shape-eq (shapeOfNo k) (formAt (formOfNo (wordOf f 5 / 8)) (sizeOfNo n))
-      (rw (shape-test (wordOf f 5 / 8) n k (omega arith) hn (omega arith), eq-eqb k k refl) tt)
+      (rw (shape-test (wordOf f 5 / 8) n k (omega arith) (size-small f n hf low high) (omega arith), eq-eqb k k refl) tt)
 
   -- a number of that shape is the type by the pattern
   pub result-is : (t s : ℕ) → s < 7 → s ≡ pick (eqb (wordOf f 5 % 8) 7) t (wordOf f 5 % 8)
@@ -77,29 +70,51 @@ unfolding encode
 count-word f = refl
 
 module _ (t : Ty) where
+  pub wrapped-bare : (w : Wrap) → wrapNo w ≡ 0 → t ≡ wrapped w t
+  unfolding wrapNo wrapped
+  wrapped-bare bare e = refl
+  wrapped-bare inFrexp e = absurd (omega arith)
+  wrapped-bare inModf e = absurd (omega arith)
+
   pub wrapped-frexp : (w : Wrap) → wrapNo w ≡ 1 → frexp t ≡ wrapped w t
   unfolding wrapNo wrapped
   wrapped-frexp bare e = absurd (omega arith)
   wrapped-frexp inFrexp e = refl
   wrapped-frexp inModf e = absurd (omega arith)
 
-  pub wrapped-modf : (w : Wrap) → wrapNo w ≡ 2 → modf t ≡ wrapped w t
+  pub wrapped-modf : (w : Wrap) → wrapNo w ≢ 0 → wrapNo w ≢ 1 → modf t ≡ wrapped w t
   unfolding wrapNo wrapped
-  wrapped-modf bare e = absurd (omega arith)
-  wrapped-modf inFrexp e = absurd (omega arith)
-  wrapped-modf inModf e = refl
-
-  pub wrapped-bare : (w : Wrap) → wrapNo w ≢ 1 → wrapNo w ≢ 2 → t ≡ wrapped w t
-  unfolding wrapNo wrapped
-  wrapped-bare bare e d = refl
-  wrapped-bare inFrexp e d = absurd (e refl)
-  wrapped-bare inModf e d = absurd (d refl)
+  wrapped-modf bare e d = absurd (e refl)
+  wrapped-modf inFrexp e d = absurd (d refl)
+  wrapped-modf inModf e d = refl
 
 -- NO OVERLOAD FITS
 
 pub not-found : (row : ℕ) (xs : List ℕ) → ((p : Overload) → Found row xs p → ⊥) → Resolved (ofRow row) (map operand xs) (judgedOf NoneFits)
 unfolding Resolved judgedOf
 not-found row xs k = λ p m h. k p (complete row xs p h m)
+
+-- a shape from 13 on has no form that a family has
+pub other-form : (k : ℕ) → 13 ≤ k → formOf (shapeOfNo k) ≡ 3
+unfolding shapeOfNo
+other-form k h = rw (ne-eqb k 0 (λ e. omega arith), le-ltb k 4 (omega arith), le-ltb k 13 h)
+
+-- 63 is no family
+no-params : wordOf 63 0 ≡ 0
+unfolding operators builtins code.joined code.families familyOf encode
+no-params = refl
+
+-- f is the family that the row has, or 63
+module _ (row : ℕ) (xs : List ℕ) (f : ℕ) (e : f ≡ orNone 63 (familyAt row (formsOf xs))) where
+  pub family-apart : (f ≡ familyAt row (formsOf xs) → Resolved (ofRow row) (map operand xs) (judgedOf NoneFits)) → Resolved (ofRow row) (map operand xs) (judgedOf NoneFits)
+  family-apart k =
+      ⊎-elim (λ a. not-found row xs (λ p c. let l = c .below in let h = sym (c .family) ∙ a .0 in omega arith)) (λ b. k (b .1))
+      (entry-cases 63 (familyAt row (formsOf xs)) f e)
+
+  pub family-found : 1 ≤ wordOf f 0 → (f ≡ familyAt row (formsOf xs)) × (f ≢ none)
+  family-found h =
+      ⊎-elim (λ a. let k = ap (λ (g : ℕ). wordOf g 0) (a .1) ∙ no-params in absurd (omega arith)) (λ b. (b .1, λ q. b .0 (sym (b .1) ∙ q)))
+      (entry-cases 63 (familyAt row (formsOf xs)) f e)
 
 module _ (row : ℕ) (xs : List ℕ) (f : ℕ) (e : f ≡ familyAt row (formsOf xs)) where
   family-is : (p : Overload) (c : Found row xs p) → c .f ≡ f
@@ -138,7 +153,7 @@ module _ (row : ℕ) (xs : List ℕ) (f : ℕ) (e : f ≡ familyAt row (formsOf 
             let o = of-here row xs f n at-place p m d in
             subst T (sym (k (o .0) (o .2)) ∙ ap (λ (i : ℕ). accepts i (o .0)) q ∙ none-accepts (o .0)) (both-right (member (o .0) (familyOf f .set)) _ (o .1))
 
-        module _ (j : ℕ) (hj : j < 28) (k : (t : ℕ) → t < 7 → accepts j t ≡ fitsAt f n t xs) (t : ℕ) (l : t ≡ liftOf (familyOf f .set) (j % 7)) where
+        module _ (j : ℕ) (hj : j < 7) (k : (t : ℕ) → t < 7 → accepts j t ≡ fitsAt f n t xs) (t : ℕ) (l : t ≡ liftOf (familyOf f .set) j) where
           first-is : firstOf preference (takes f n xs) ≡ t
           first-is = sym (lift-first f n xs j hj k) ∙ sym l
 

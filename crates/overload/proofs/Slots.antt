@@ -1,15 +1,16 @@
 -- One parameter in the code's numbers: what an operand's conversion to it comes to. Assumes nothing.
 use Prim.Native.Nat.{ℕ, _+_, _*_, _/_, _%_, _<_, _≤_}
 use native.Mathlib.Omega.{arith}
-use mathlib.Core.Path.{_≡_, refl, sym, _∙_, ap}
+use mathlib.Core.Path.{_≡_, refl, sym, _∙_, ap, ap₂}
 use mathlib.Core.Logic.{_≢_}
 use mathlib.Core.Bool.{Bool, true, false, not, cond}
 use lib.Dec.{T, eqb, ltb, ltb→lt}
-use borrow.Author.Tests.{eq-eqb, ne-eqb, lt-ltb, le-ltb}
+use borrow.Author.Tests.{eqb-true, eq-eqb, ne-eqb, lt-ltb, le-ltb}
 use Rattle.conv.specs.Types.{Ty}
-use Rattle.conv.specs.Rank.{pick, both, none, rankOf, Shape, formOf, shapeOf, componentOf, sameShape, conversionRank, converts, made, accepts}
+use Rattle.conv.specs.Rank.{pick, both, none, rankOf, Shape, formOf, shapeOf, componentOf, sameShape, conversionRank, converts, made, commonOf, accepts}
 use Rattle.conv.specs.Rank.Shape.{one, vector, matrix, other}
 use Rattle.conv.proofs.Finite.{implies, modus, same, same-eq, below, below₃}
+use Rattle.conv.proofs.Ranks.{join}
 use Rattle.conv.proofs.Made.{shape-made}
 use Rattle.overload.specs.Rows.{Size, Form, Component, Pattern, formAt, componentAt, typeAt}
 use Rattle.overload.specs.Rows.Component.{ofT, just}
@@ -84,6 +85,23 @@ module _ (x n t p : ℕ) (hx : x < 256) (hn : n < 41) (h13 : n ≢ 13) (ht : t <
 
 -- THE STEP OF A JOIN: r is the join of j and of the operand x at a parameter
 
+-- the component of an operand of the shape b, or none for one of another shape a
+module _ (a b s r : ℕ) (e : r ≡ pick (eqb a b) s none) where
+  pub other-shape : s < 7 → r ≡ none → a ≢ b
+  other-shape h q k = let w = sym (e ∙ ap (λ (t : Bool). pick t s none) (eq-eqb a b k)) ∙ q in omega arith
+
+  pub same-shape : r ≢ none → (a ≡ b) × (r ≡ s)
+  same-shape h = go (eqb a b) refl
+    where
+      go : (t : Bool) → eqb a b ≡ t → (a ≡ b) × (r ≡ s)
+      go true q = (eqb-true a b q, e ∙ ap (λ (t : Bool). pick t s none) q)
+      go false q = absurd (h (e ∙ ap (λ (t : Bool). pick t s none) q))
+
+pub both-same : (a : Bool) → both a a ≡ a
+unfolding both
+both-same true = refl
+both-same false = refl
+
 pub both-false : (a : Bool) → both a false ≡ false
 unfolding both
 both-false true = refl
@@ -102,3 +120,12 @@ none-accepts t = refl
 pub plain-accepts : (b s t : ℕ) → b < 28 → b % 7 ≡ s → accepts b t ≡ ltb (rankOf s t) none
 unfolding both
 plain-accepts b s t h e = rw (lt-ltb b 28 h, e)
+
+-- the common type of two scalars is that of two of a width
+module _ (base j s t : ℕ) (hb : base < 22) (wb : base / 7 * 7 ≡ base) (hj : j < 7) (hs : s < 7) (ht : t < 7) where
+  at-base : (k : ℕ) → k < 7 → accepts (base + k) t ≡ accepts k t
+  at-base k h = plain-accepts (base + k) k t (omega arith) (omega arith) ∙ sym (plain-accepts k k t (omega arith) (omega arith))
+
+  pub common-accepts : accepts (commonOf (base + j) (base + s)) t ≡ both (accepts j t) (accepts s t)
+  common-accepts =
+      join (base + j) (base + s) (omega arith) (omega arith) (omega arith) t ht ∙ ap₂ both (at-base j hj) (at-base s hs)

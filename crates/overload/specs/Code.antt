@@ -1,16 +1,17 @@
 -- How the code numbers what Rows writes: shapes, operands, sizes, patterns, families. Assumes nothing.
-use Prim.Native.Nat.{ℕ, _+_, _-_, _*_, _/_, _%_}
+use Prim.Native.Nat.{ℕ, _+_, _-_, _*_, _/_, _%_, _^_, _<_}
+use mathlib.Core.Path.{_≡_}
 use mathlib.Core.Bool.{Bool, true, false, cond}
 use mathlib.Core.List.{List, [], _∷_, _++_, map}
 use lib.Dec.{T, eqb, leb, ltb}
 use lib.ListN.{length, getD, take}
-use Rattle.conv.specs.Types.{Ty, isWidth}
+use Rattle.conv.specs.Types.{Ty, isWidth, bool, i32, u32, f32}
 use Rattle.conv.specs.Types.Ty.{frexp, modf}
 use Rattle.conv.specs.Rank.{pick, both, none, rankOf, Shape, formOf, columnsOf, rowsOf, shapeOf, componentOf, isReference, made}
 use Rattle.conv.specs.Rank.Shape.{one, vector, matrix, other}
 use Rattle.overload.specs.Overload.{or, fits, Judged}
 use Rattle.overload.specs.Overload.Judged.{gives, noneFits, nonePreferred}
-use Rattle.overload.specs.Rows.{Size, size, Form, Component, Pattern, Wrap, Family, formAt, typeAt, N, rows}
+use Rattle.overload.specs.Rows.{Size, size, Form, Component, Pattern, Wrap, Family, formAt, typeAt, float, integer, numeric, signed, bits, only, N, rows}
 use Rattle.overload.specs.Rows.Form.{sized, single, vecC, vecR, left, right, turned, square}
 use Rattle.overload.specs.Rows.Component.{ofT, just}
 use Rattle.overload.specs.Rows.Wrap.{bare, inFrexp, inModf}
@@ -189,6 +190,39 @@ lastX xs = getD xs (length xs - 1) 0
 
 abbrev pub formsOf : List ℕ → ℕ
 formsOf xs = 3 * formOf (shapeOfNo (firstX xs / 7)) + formOf (shapeOfNo (lastX xs / 7))
+
+-- THE LINES OF THE TABLES: a line is a number, and its entries are groups of b bits, the first lowest
+
+abbrev pub entry : ℕ → ℕ → ℕ → ℕ
+entry b w i = w / 2 ^ (b * i) % 2 ^ b
+
+-- an entry that may be none: that is the largest number of its bits
+abbrev pub orNone : ℕ → ℕ → ℕ
+orNone top k = pick (eqb k none) top k
+
+-- the sets of T that families have, by number
+abbrev pub sets : List (List ℕ)
+sets = only bool ∷ signed ∷ integer ∷ numeric ∷ float ∷ (bool ∷ numeric) ∷ (bool ∷ integer) ∷ bits ∷ only f32 ∷ only i32 ∷ only u32 ∷ []
+
+abbrev pub setOf : ℕ → List ℕ
+setOf k = getD sets k []
+
+-- w is the line of a row: by the forms of the first and last operand, its family
+pub record Families (row w : ℕ) : Type 0 where
+  pub family : (forms : ℕ) → forms < 9 → entry 6 w forms ≡ orNone 63 (familyAt row forms)
+
+-- w is the line of a family: its words, and above them the number of its set
+pub record Word (f w : ℕ) : Type 0 where
+  pub words : (i : ℕ) → i < 10 → entry 6 w i ≡ wordOf f i
+  pub set : setOf (w / 2 ^ 60) ≡ familyOf f .set
+
+-- w is the line of a size: by form, the first operand of the shape that the form asks, where it asks one
+pub record Starts (n w : ℕ) : Type 0 where
+  pub start : (form : ℕ) → form < 8 → askedOf form n < 13 → entry 8 w form ≡ 7 * askedOf form n
+
+-- w is the line of a set: by scalar, the first T to which the scalar converts
+pub record Lifts (set w : ℕ) : Type 0 where
+  pub lift : (s : ℕ) → s < 7 → entry 3 w s ≡ orNone 7 (liftOf (setOf set) s)
 
 -- WHAT THE ANSWER MEANS
 

@@ -6,12 +6,13 @@ use conv::NONE;
 ghost use mathlib.Core.Path.{_≡_};
 ghost use mathlib.Core.List.{map};
 ghost use mathlib.Core.Logic.{_⊎_, _≢_};
-ghost use Prim.Native.Nat.{ℕ, _+_, _*_, _/_, _<_, _≤_};
+ghost use Prim.Native.Nat.{ℕ, _+_, _*_, _/_, _%_, _<_, _≤_};
 ghost use lib.ListN.{length};
-ghost use Rattle.conv.specs.Rank.{both, converts, formOf, accepts};
+ghost use lib.Dec.{eqb};
+ghost use Rattle.conv.specs.Rank.{pick, both, none, converts, formOf, accepts};
 ghost use Rattle.overload.specs.Overload.{Resolved};
 ghost use Rattle.overload.specs.Rows.{ofRow, typeAt, wrapped, judgeRow};
-ghost use Rattle.overload.specs.Code.{shapeOfNo, operand, sizeOfNo, patternOfNo, familyOf, wordOf, sizeAt, fitsAt, formsOf, familyAt, outOf, judgedOf};
+ghost use Rattle.overload.specs.Code.{shapeOfNo, operand, sizeOfNo, patternOfNo, askedOf, familyOf, wordOf, sizeAt, fitsAt, formsOf, familyAt, orNone, Word, Starts, outOf, judgedOf};
 
 // How many rows there are.
 pub const ROWS: usize = 47;
@@ -35,6 +36,8 @@ const OF_T: u8 = 7;
 const SHAPES: u8 = 13;
 
 const SCALARS: u8 = 7;
+// By shape: its form. An octal digit each, from the right.
+const FORMS: u64 = 0o2222222221110;
 
 // The type of a result: that of an operand's number, or the result type of frexp or of modf over it.
 pub enum Out {
@@ -50,28 +53,27 @@ pub enum Resolution {
     NonePreferred,
 }
 
-// The form of a shape: 0 scalar, 1 vector, 2 matrix, 3 any other.
-fn form_of(shape: u8) -> u8
-    ensures { λ r. ⌜ r ≡ formOf (shapeOfNo shape) ⌝ }
+// The shape of an operand: a seventh of its number, by a product and a shift.
+fn shape_of(x: u8) -> u8
+    ensures { λ r. ⌜ r ≡ x / 7 ⌝ }
 {
-    if shape == 0 {
-        return 0;
-    }
-    if shape < 4 {
-        return 1;
-    }
-    if shape < SHAPES {
-        return 2;
-    }
-    3
+    ((x as u64) * 9363 / 65536) as u8
 }
 
-// The size of a family at the shapes of its first and last operands.
-fn size_at(f: u8, a: u8, b: u8) -> u8
-    requires { ⌜ (f < 61) × (a < 37) × (b < 37) ⌝ }
+// The form of a shape: 0 scalar, 1 vector, 2 matrix.
+fn form_of(shape: u8) -> u8
+    requires { ⌜ shape < 13 ⌝ }
+    ensures { λ r. ⌜ (r ≡ formOf (shapeOfNo shape)) × (r < 3) ⌝ }
+{
+    ((FORMS >> (3 * shape)) % 8) as u8
+}
+
+// The size of a family, whose line in the tables is w, at the shapes of its first and last operands.
+fn size_at(f: u8, w: u64, a: u8, b: u8) -> u8
+    requires { ⌜ Word f w × (a < 37) × (b < 37) ⌝ }
     ensures { λ r. ⌜ r ≡ sizeAt (wordOf f 7) a b ⌝ }
 {
-    let pivot = tables::word(f, PIVOT);
+    let pivot = tables::word(f, w, PIVOT);
     if pivot == 0 {
         return a;
     }
@@ -94,39 +96,68 @@ fn base_of(n: u8) -> u8
     0
 }
 
-// One parameter: the join so far, with the operand x at the pattern p.
-fn join_slot(p: u8, n: u8, base: u8, j: u8, x: u8) -> u8
-    requires { ⌜ (p < 64) × (n < 41) × (n ≢ 13) × (base < 22) × (base / 7 * 7 ≡ base) × ((j < 28) × (j / 7 * 7 ≡ base)) ⌝ }
-    ensures { λ r. ⌜ ((r ≡ 255) ⊎ ((r < 28) × (r / 7 * 7 ≡ base))) × ((t : ℕ) → t < 7 → accepts r t ≡ both (accepts j t) (converts (operand x) (typeAt (sizeOfNo n) t (patternOfNo p)))) ⌝ }
+// The component of an operand of the shape that a pattern asks at a size, or NONE for one of another shape.
+fn component(p: u8, n: u8, starts: u64, x: u8) -> u8
+    requires { ⌜ (p < 64) × Starts n starts × (askedOf (p / 8) n < 13) ⌝ }
+    ensures { λ r. ⌜ r ≡ pick (eqb (x / 7) (askedOf (p / 8) n)) (x % 7) none ⌝ }
 {
-    if x / SCALARS != tables::asked(p / 8, n) {
+    let s = std::num::wrapping_sub_u8(x, tables::start(p, n, starts));
+    if SCALARS <= s {
+        return NONE;
+    }
+    s
+}
+
+// The join of two scalars, by the common type at the size's width, or NONE.
+fn common(n: u8, j: u8, s: u8) -> u8
+    requires { ⌜ (j < 7) × (s < 7) ⌝ }
+    ensures { λ r. ⌜ ((r ≡ 255) ⊎ (r < 7)) × ((t : ℕ) → t < 7 → accepts r t ≡ both (accepts j t) (accepts s t)) ⌝ }
+{
+    let base = base_of(n);
+    let r = conv::convert_ty(base + j, base + s);
+    if r == NONE {
+        return NONE;
+    }
+    r - base
+}
+
+// One parameter: the scalar that is joined so far, with the operand x at the pattern p. Equal scalars need no table.
+fn join_slot(p: u8, n: u8, starts: u64, j: u8, x: u8) -> u8
+    requires { ⌜ (p < 64) × (n < 41) × (n ≢ 13) × Starts n starts × (askedOf (p / 8) n < 13) × (j < 7) ⌝ }
+    ensures { λ r. ⌜ ((r ≡ 255) ⊎ (r < 7)) × ((t : ℕ) → t < 7 → accepts r t ≡ both (accepts j t) (converts (operand x) (typeAt (sizeOfNo n) t (patternOfNo p)))) ⌝ }
+{
+    let s = component(p, n, starts, x);
+    if s == NONE {
         return NONE;
     }
     let want = p % 8;
     if want == OF_T {
-        return conv::convert_ty(j, base + x % SCALARS);
+        if s == j {
+            return j;
+        }
+        return common(n, j, s);
     }
-    if conv::rank(x % SCALARS, want) == NONE {
+    if s == want {
+        return j;
+    }
+    if conv::rank(s, want) == NONE {
         return NONE;
     }
     j
 }
 
-// The join of all operands of a family at a size, or NONE where one does not fit at any T.
-fn join(f: u8, n: u8, xs: &[u8]) -> u8
-    requires { ⌜ (f < 61) × (n < 41) × (n ≢ 13) × (length (now xs) ≡ length (familyOf f .params)) ⌝ }
-    ensures { λ r. ⌜ ((r ≡ 255) ⊎ (r < 28)) × ((t : ℕ) → t < 7 → accepts r t ≡ fitsAt f n t (now (xs .entry))) ⌝ }
+// The scalar of the join of all operands of a family at a size, or NONE where one does not fit at any T.
+fn join(f: u8, w: u64, n: u8, starts: u64, xs: &[u8]) -> u8
+    requires { ⌜ (f < 61) × Word f w × (wordOf f 8 ≤ n) × (n ≤ wordOf f 9) × Starts n starts × (length (now xs) ≡ length (familyOf f .params)) ⌝ }
+    ensures { λ r. ⌜ ((r ≡ 255) ⊎ (r < 7)) × ((t : ℕ) → t < 7 → accepts r t ≡ fitsAt f n t (now (xs .entry))) ⌝ }
 {
-    let base = base_of(n);
-    let p = tables::word(f, PARAM);
-    let x = xs[0];
-    if x / SCALARS != tables::asked(p / 8, n) {
+    let mut j = component(tables::word(f, w, PARAM), n, starts, xs[0]);
+    if j == NONE {
         return NONE;
     }
-    let mut j = base + x % SCALARS;
     let mut i = 1;
     while i < xs.len() {
-        j = join_slot(tables::word(f, i + PARAM), n, base, j, xs[i]);
+        j = join_slot(tables::word(f, w, i + PARAM), n, starts, j, xs[i]);
         if j == NONE {
             return NONE;
         }
@@ -136,12 +167,12 @@ fn join(f: u8, n: u8, xs: &[u8]) -> u8
 }
 
 // The number of a family's result at a size and a T.
-fn result_of(f: u8, n: u8, t: u8) -> u8
-    requires { ⌜ (f < 61) × (n < 41) × (wordOf f 8 ≤ n) × (n ≤ wordOf f 9) × (t < 7) ⌝ }
+fn result_of(f: u8, w: u64, n: u8, starts: u64, t: u8) -> u8
+    requires { ⌜ (f < 61) × Word f w × (wordOf f 8 ≤ n) × (n ≤ wordOf f 9) × Starts n starts × (t < 7) ⌝ }
     ensures { λ r. ⌜ operand r ≡ typeAt (sizeOfNo n) t (familyOf f .result) ⌝ }
 {
-    let p = tables::word(f, RESULT);
-    let start = SCALARS * tables::asked(p / 8, n);
+    let p = tables::word(f, w, RESULT);
+    let start = tables::start(p, n, starts);
     let of = p % 8;
     if of == OF_T {
         return start + t;
@@ -150,46 +181,48 @@ fn result_of(f: u8, n: u8, t: u8) -> u8
 }
 
 // The result type of a family at a size and a T.
-fn out_of(f: u8, n: u8, t: u8) -> Out
-    requires { ⌜ (f < 61) × (n < 41) × (wordOf f 8 ≤ n) × (n ≤ wordOf f 9) × (t < 7) ⌝ }
+fn out_of(f: u8, w: u64, n: u8, starts: u64, t: u8) -> Out
+    requires { ⌜ (f < 61) × Word f w × (wordOf f 8 ≤ n) × (n ≤ wordOf f 9) × Starts n starts × (t < 7) ⌝ }
     ensures { λ r. ⌜ outOf r ≡ wrapped (familyOf f .wrap) (typeAt (sizeOfNo n) t (familyOf f .result)) ⌝ }
 {
-    let x = result_of(f, n, t);
-    let wrap = tables::word(f, WRAP);
+    let x = result_of(f, w, n, starts, t);
+    let wrap = tables::word(f, w, WRAP);
+    if wrap == 0 {
+        return Out::Plain(x);
+    }
     if wrap == 1 {
         return Out::Frexp(x);
     }
-    if wrap == 2 {
-        return Out::Modf(x);
-    }
-    Out::Plain(x)
+    Out::Modf(x)
 }
 
-// The judgment of a row whose one family for the operands' forms is f.
+// The judgment of a row whose one family for the operands' forms is f, or 63 where it has none.
 fn resolve_family(row: usize, f: u8, xs: &[u8]) -> Resolution
-    requires { ⌜ (row < 47) × (1 ≤ length (now xs)) × (formsOf (now xs) < 9) × (f ≡ familyAt row (formsOf (now xs))) × (f ≢ 255) ⌝ }
+    requires { ⌜ (row < 47) × (1 ≤ length (now xs)) × (formsOf (now xs) < 9) × (f ≡ orNone 63 (familyAt row (formsOf (now xs)))) ⌝ }
     ensures { λ r. ⌜ Resolved (ofRow row) (map operand (now (xs .entry))) (judgedOf r) ⌝ }
 {
+    let w = tables::family_word(f);
     let count = xs.len();
-    if wide(tables::word(f, COUNT)) != count {
+    if wide(tables::word(f, w, COUNT)) != count {
         return Resolution::NoneFits;
     }
-    let n = size_at(f, xs[0] / SCALARS, xs[count - 1] / SCALARS);
-    if n < tables::word(f, FIRST_SIZE) {
+    let n = size_at(f, w, shape_of(xs[0]), shape_of(xs[count - 1]));
+    if n < tables::word(f, w, FIRST_SIZE) {
         return Resolution::NoneFits;
     }
-    if tables::word(f, LAST_SIZE) < n {
+    if tables::word(f, w, LAST_SIZE) < n {
         return Resolution::NoneFits;
     }
-    let j = join(f, n, xs);
-    if j == NONE {
+    let starts = tables::starts_at(n);
+    let s = join(f, w, n, starts, xs);
+    if s == NONE {
         return Resolution::NoneFits;
     }
-    let t = tables::lift(f, j % SCALARS);
+    let t = tables::lift(f, w, s);
     if t == NONE {
         return Resolution::NoneFits;
     }
-    Resolution::Gives(out_of(f, n, t))
+    Resolution::Gives(out_of(f, w, n, starts, t))
 }
 
 fn wide(x: u8) -> usize
@@ -209,17 +242,14 @@ pub fn resolve(row: usize, xs: &[u8]) -> Resolution
     if count == 0 {
         return Resolution::NoneFits;
     }
-    let a = form_of(xs[0] / SCALARS);
-    let b = form_of(xs[count - 1] / SCALARS);
-    if 3 <= a {
+    let a = shape_of(xs[0]);
+    if SHAPES <= a {
         return Resolution::NoneFits;
     }
-    if 3 <= b {
+    let b = shape_of(xs[count - 1]);
+    if SHAPES <= b {
         return Resolution::NoneFits;
     }
-    let f = tables::family_at(row, 3 * a + b);
-    if f == NONE {
-        return Resolution::NoneFits;
-    }
+    let f = tables::family_at(row, 3 * form_of(a) + form_of(b));
     resolve_family(row, f, xs)
 }

@@ -1,221 +1,241 @@
-// The rows as numbers, and the functions that read them.
+// The rows as numbers, and the functions that read them. A line of a table is one number, whose entries are digits of it, the first on the right.
+use conv::NONE;
 ghost use mathlib.Core.Path.{_≡_};
-ghost use Prim.Native.Nat.{_<_};
-ghost use Rattle.overload.specs.Code.{familyAt, wordOf, askedOf, liftOf, familyOf};
+ghost use Prim.Native.Nat.{_*_, _/_, _<_};
+ghost use Rattle.overload.specs.Code.{familyAt, familyOf, wordOf, askedOf, liftOf, orNone, Families, Word, Starts, Lifts};
 
-// By row and the forms of the first and last operand (0 scalar, 1 vector, 2 matrix; 3 times the first plus the last): the family, or ff for none. A line for each row.
-const FAMILY_AT: [u8; 423] = *b"\
-        \x00\xff\xff\xff\x00\xff\xff\xff\xff\
-        \x01\xff\xff\xff\x01\xff\xff\xff\xff\
-        \x02\xff\xff\xff\x02\xff\xff\xff\xff\
-        \x03\xff\xff\xff\xff\xff\xff\xff\xff\
-        \x04\x06\xff\x05\x04\xff\xff\xff\x07\
-        \x08\x0a\x0c\x09\x08\x0e\x0b\x0d\x0f\
-        \x10\x12\xff\x11\x10\xff\xff\xff\xff\
-        \x13\xff\xff\xff\x13\xff\xff\xff\xff\
-        \x14\xff\xff\xff\x14\xff\xff\xff\xff\
-        \x15\xff\xff\xff\x15\xff\xff\xff\xff\
-        \x16\xff\xff\xff\x16\xff\xff\xff\xff\
-        \x17\xff\xff\xff\x17\xff\xff\xff\xff\
-        \x18\xff\xff\xff\x18\xff\xff\xff\xff\
-        \x19\xff\xff\xff\x19\xff\xff\xff\xff\
-        \x1a\xff\xff\xff\x1a\xff\xff\xff\xff\
-        \x1b\xff\xff\x1c\x1b\xff\xff\xff\xff\
-        \x1d\xff\xff\xff\x1d\xff\xff\xff\xff\
-        \x1e\xff\xff\xff\x1e\xff\xff\xff\xff\
-        \x1f\xff\xff\xff\x1f\xff\xff\xff\xff\
-        \x20\xff\xff\xff\x20\xff\xff\xff\xff\
-        \x21\xff\xff\x21\xff\xff\xff\xff\xff\
-        \x22\xff\xff\x22\xff\xff\xff\xff\xff\
-        \x23\xff\xff\xff\x23\xff\xff\xff\xff\
-        \x24\xff\xff\xff\x24\xff\xff\xff\xff\
-        \xff\xff\xff\xff\x25\xff\xff\xff\xff\
-        \xff\xff\xff\xff\x26\xff\xff\xff\xff\
-        \xff\xff\xff\xff\x27\xff\xff\xff\xff\
-        \xff\xff\xff\xff\x28\xff\xff\xff\xff\
-        \xff\xff\xff\x29\xff\xff\xff\xff\xff\
-        \xff\xff\xff\xff\x2a\xff\xff\xff\xff\
-        \xff\xff\xff\xff\xff\xff\xff\xff\x2b\
-        \xff\xff\xff\xff\xff\xff\xff\xff\x2c\
-        \x2d\xff\xff\xff\x2d\xff\xff\xff\xff\
-        \x2e\xff\xff\xff\x2e\xff\xff\xff\xff\
-        \x2f\xff\xff\xff\x2f\xff\xff\xff\xff\
-        \xff\xff\xff\xff\x30\xff\xff\xff\xff\
-        \xff\xff\xff\xff\x31\xff\xff\xff\xff\
-        \xff\xff\xff\xff\x32\xff\xff\xff\xff\
-        \xff\xff\xff\xff\x33\xff\xff\xff\xff\
-        \x34\xff\xff\xff\xff\xff\xff\xff\xff\
-        \x35\xff\xff\xff\xff\xff\xff\xff\xff\
-        \x36\xff\xff\xff\xff\xff\xff\xff\xff\
-        \x37\xff\xff\xff\xff\xff\xff\xff\xff\
-        \x38\xff\xff\xff\xff\xff\xff\xff\xff\
-        \x39\xff\xff\xff\xff\xff\xff\xff\xff\
-        \x3a\xff\xff\xff\x3a\xff\xff\xff\xff\
-        \x3b\xff\xff\x3b\x3c\xff\xff\xff\xff";
+// By row, for the forms of the first and last operand (0 scalar, 1 vector, 2 matrix; 3 times the first plus the last): the family, or 77 for none.
+// Two octal digits each.
+fn families_of(row: usize) -> u64
+    requires { ⌜ row < 47 ⌝ }
+    ensures { λ r. ⌜ Families row r ⌝ }
+{
+    match row {
+        0 => 0o77_77_77_77_00_77_77_77_00,
+        1 => 0o77_77_77_77_01_77_77_77_01,
+        2 => 0o77_77_77_77_02_77_77_77_02,
+        3 => 0o77_77_77_77_77_77_77_77_03,
+        4 => 0o07_77_77_77_04_05_77_06_04,
+        5 => 0o17_15_13_16_10_11_14_12_10,
+        6 => 0o77_77_77_77_20_21_77_22_20,
+        7 => 0o77_77_77_77_23_77_77_77_23,
+        8 => 0o77_77_77_77_24_77_77_77_24,
+        9 => 0o77_77_77_77_25_77_77_77_25,
+        10 => 0o77_77_77_77_26_77_77_77_26,
+        11 => 0o77_77_77_77_27_77_77_77_27,
+        12 => 0o77_77_77_77_30_77_77_77_30,
+        13 => 0o77_77_77_77_31_77_77_77_31,
+        14 => 0o77_77_77_77_32_77_77_77_32,
+        15 => 0o77_77_77_77_33_34_77_77_33,
+        16 => 0o77_77_77_77_35_77_77_77_35,
+        17 => 0o77_77_77_77_36_77_77_77_36,
+        18 => 0o77_77_77_77_37_77_77_77_37,
+        19 => 0o77_77_77_77_40_77_77_77_40,
+        20 => 0o77_77_77_77_77_41_77_77_41,
+        21 => 0o77_77_77_77_77_42_77_77_42,
+        22 => 0o77_77_77_77_43_77_77_77_43,
+        23 => 0o77_77_77_77_44_77_77_77_44,
+        24 => 0o77_77_77_77_45_77_77_77_77,
+        25 => 0o77_77_77_77_46_77_77_77_77,
+        26 => 0o77_77_77_77_47_77_77_77_77,
+        27 => 0o77_77_77_77_50_77_77_77_77,
+        28 => 0o77_77_77_77_77_51_77_77_77,
+        29 => 0o77_77_77_77_52_77_77_77_77,
+        30 => 0o53_77_77_77_77_77_77_77_77,
+        31 => 0o54_77_77_77_77_77_77_77_77,
+        32 => 0o77_77_77_77_55_77_77_77_55,
+        33 => 0o77_77_77_77_56_77_77_77_56,
+        34 => 0o77_77_77_77_57_77_77_77_57,
+        35 => 0o77_77_77_77_60_77_77_77_77,
+        36 => 0o77_77_77_77_61_77_77_77_77,
+        37 => 0o77_77_77_77_62_77_77_77_77,
+        38 => 0o77_77_77_77_63_77_77_77_77,
+        39 => 0o77_77_77_77_77_77_77_77_64,
+        40 => 0o77_77_77_77_77_77_77_77_65,
+        41 => 0o77_77_77_77_77_77_77_77_66,
+        42 => 0o77_77_77_77_77_77_77_77_67,
+        43 => 0o77_77_77_77_77_77_77_77_70,
+        44 => 0o77_77_77_77_77_77_77_77_71,
+        45 => 0o77_77_77_77_72_77_77_77_72,
+        46 => 0o77_77_77_77_74_73_77_77_73,
+        _ => 0,
+    }
+}
 
-// By family: the count of its parameters, four parameters, its result and wrapping, its pivot, its first and last size. A line for each family.
-const FAMILY: [u8; 610] = *b"\
-        \x01\x07\x07\x07\x07\x07\x00\x00\x00\x03\
-        \x01\x07\x07\x07\x07\x07\x00\x00\x00\x03\
-        \x01\x07\x07\x07\x07\x07\x00\x00\x00\x03\
-        \x02\x07\x07\x07\x07\x07\x00\x00\x00\x00\
-        \x02\x07\x07\x07\x07\x07\x00\x00\x00\x03\
-        \x02\x07\x0f\x07\x07\x07\x00\x00\x01\x03\
-        \x02\x0f\x07\x07\x07\x07\x00\x01\x01\x03\
-        \x02\x07\x07\x07\x07\x07\x00\x00\x04\x0c\
-        \x02\x07\x07\x07\x07\x07\x00\x00\x00\x03\
-        \x02\x07\x0f\x07\x07\x07\x00\x00\x01\x03\
-        \x02\x0f\x07\x07\x07\x07\x00\x01\x01\x03\
-        \x02\x07\x0f\x07\x07\x07\x00\x00\x04\x0c\
-        \x02\x0f\x07\x07\x07\x07\x00\x01\x04\x0c\
-        \x02\x07\x17\x07\x07\x1f\x00\x00\x04\x0c\
-        \x02\x1f\x07\x07\x07\x17\x00\x01\x04\x0c\
-        \x02\x27\x2f\x07\x07\x07\x00\x02\x0e\x28\
-        \x02\x07\x07\x07\x07\x07\x00\x00\x00\x03\
-        \x02\x07\x0f\x07\x07\x07\x00\x00\x01\x03\
-        \x02\x0f\x07\x07\x07\x07\x00\x01\x01\x03\
-        \x02\x07\x07\x07\x07\x00\x00\x00\x00\x03\
-        \x02\x07\x07\x07\x07\x00\x00\x00\x00\x03\
-        \x02\x07\x07\x07\x07\x07\x00\x00\x00\x03\
-        \x02\x07\x07\x07\x07\x07\x00\x00\x00\x03\
-        \x02\x07\x04\x07\x07\x07\x00\x00\x00\x03\
-        \x01\x07\x07\x07\x07\x07\x00\x00\x00\x03\
-        \x02\x07\x07\x07\x07\x07\x00\x00\x00\x03\
-        \x03\x07\x07\x07\x07\x07\x00\x00\x00\x03\
-        \x03\x07\x07\x07\x07\x07\x00\x00\x00\x03\
-        \x03\x07\x07\x0f\x07\x07\x00\x00\x01\x03\
-        \x01\x07\x07\x07\x07\x07\x00\x00\x00\x03\
-        \x02\x07\x07\x07\x07\x07\x00\x00\x00\x03\
-        \x03\x07\x07\x07\x07\x07\x00\x00\x00\x03\
-        \x01\x07\x07\x07\x07\x07\x00\x00\x00\x03\
-        \x03\x07\x0c\x0c\x07\x07\x00\x00\x00\x03\
-        \x04\x07\x07\x0c\x0c\x07\x00\x00\x00\x03\
-        \x01\x07\x07\x07\x07\x0f\x00\x00\x00\x03\
-        \x02\x07\x07\x07\x07\x0f\x00\x00\x00\x03\
-        \x02\x07\x07\x07\x07\x0f\x00\x00\x01\x03\
-        \x01\x07\x07\x07\x07\x07\x00\x00\x01\x03\
-        \x02\x07\x07\x07\x07\x07\x00\x00\x01\x03\
-        \x03\x07\x07\x07\x07\x07\x00\x00\x01\x03\
-        \x03\x07\x07\x0f\x07\x07\x00\x00\x01\x03\
-        \x02\x07\x07\x07\x07\x07\x00\x00\x02\x02\
-        \x01\x3f\x07\x07\x07\x0f\x00\x00\x04\x0c\
-        \x01\x07\x07\x07\x07\x37\x00\x00\x04\x0c\
-        \x01\x07\x07\x07\x07\x07\x00\x00\x00\x03\
-        \x01\x07\x07\x07\x07\x07\x01\x00\x00\x03\
-        \x01\x07\x07\x07\x07\x07\x02\x00\x00\x03\
-        \x01\x07\x07\x07\x07\x0c\x00\x00\x03\x03\
-        \x01\x07\x07\x07\x07\x0c\x00\x00\x03\x03\
-        \x01\x07\x07\x07\x07\x0c\x00\x00\x03\x03\
-        \x01\x07\x07\x07\x07\x0c\x00\x00\x01\x01\
-        \x01\x0f\x07\x07\x07\x05\x00\x06\x03\x03\
-        \x01\x0f\x07\x07\x07\x03\x00\x06\x03\x03\
-        \x01\x0f\x07\x07\x07\x04\x00\x06\x03\x03\
-        \x01\x0f\x07\x07\x07\x05\x00\x04\x01\x01\
-        \x02\x07\x07\x07\x07\x0c\x00\x00\x00\x00\
-        \x02\x07\x07\x07\x07\x0b\x00\x00\x00\x00\
-        \x01\x07\x07\x07\x07\x08\x00\x00\x00\x03\
-        \x03\x07\x07\x08\x07\x07\x00\x00\x00\x03\
-        \x03\x07\x07\x00\x07\x07\x00\x00\x01\x03";
+// By family: the count of its parameters, four parameters, its result and wrapping, its pivot, its first and last size, and the number of its set of T.
+// Two octal digits each: of a parameter and of the result, its form and its component, 7 for T.
+pub fn family_word(f: u8) -> u64
+    ensures { λ r. ⌜ Word f r ⌝ }
+{
+    match f {
+        0 => 0o00_03_00_00_00_07_07_07_07_07_01,
+        1 => 0o01_03_00_00_00_07_07_07_07_07_01,
+        2 => 0o02_03_00_00_00_07_07_07_07_07_01,
+        3 => 0o00_00_00_00_00_07_07_07_07_07_02,
+        4 => 0o03_03_00_00_00_07_07_07_07_07_02,
+        5 => 0o03_03_01_00_00_07_07_07_17_07_02,
+        6 => 0o03_03_01_01_00_07_07_07_07_17_02,
+        7 => 0o04_14_04_00_00_07_07_07_07_07_02,
+        8 => 0o03_03_00_00_00_07_07_07_07_07_02,
+        9 => 0o03_03_01_00_00_07_07_07_17_07_02,
+        10 => 0o03_03_01_01_00_07_07_07_07_17_02,
+        11 => 0o04_14_04_00_00_07_07_07_17_07_02,
+        12 => 0o04_14_04_01_00_07_07_07_07_17_02,
+        13 => 0o04_14_04_00_00_37_07_07_27_07_02,
+        14 => 0o04_14_04_01_00_27_07_07_07_37_02,
+        15 => 0o04_50_16_02_00_07_07_07_57_47_02,
+        16 => 0o03_03_00_00_00_07_07_07_07_07_02,
+        17 => 0o03_03_01_00_00_07_07_07_17_07_02,
+        18 => 0o03_03_01_01_00_07_07_07_07_17_02,
+        19 => 0o05_03_00_00_00_00_07_07_07_07_02,
+        20 => 0o03_03_00_00_00_00_07_07_07_07_02,
+        21 => 0o06_03_00_00_00_07_07_07_07_07_02,
+        22 => 0o02_03_00_00_00_07_07_07_07_07_02,
+        23 => 0o02_03_00_00_00_07_07_07_04_07_02,
+        24 => 0o04_03_00_00_00_07_07_07_07_07_01,
+        25 => 0o04_03_00_00_00_07_07_07_07_07_02,
+        26 => 0o04_03_00_00_00_07_07_07_07_07_03,
+        27 => 0o04_03_00_00_00_07_07_07_07_07_03,
+        28 => 0o04_03_01_00_00_07_07_17_07_07_03,
+        29 => 0o03_03_00_00_00_07_07_07_07_07_01,
+        30 => 0o03_03_00_00_00_07_07_07_07_07_02,
+        31 => 0o03_03_00_00_00_07_07_07_07_07_03,
+        32 => 0o07_03_00_00_00_07_07_07_07_07_01,
+        33 => 0o07_03_00_00_00_07_07_14_14_07_03,
+        34 => 0o07_03_00_00_00_07_14_14_07_07_04,
+        35 => 0o04_03_00_00_00_17_07_07_07_07_01,
+        36 => 0o04_03_00_00_00_17_07_07_07_07_02,
+        37 => 0o03_03_01_00_00_17_07_07_07_07_02,
+        38 => 0o04_03_01_00_00_07_07_07_07_07_01,
+        39 => 0o04_03_01_00_00_07_07_07_07_07_02,
+        40 => 0o04_03_01_00_00_07_07_07_07_07_03,
+        41 => 0o04_03_01_00_00_07_07_17_07_07_03,
+        42 => 0o04_02_02_00_00_07_07_07_07_07_02,
+        43 => 0o04_14_04_00_00_17_07_07_07_77_01,
+        44 => 0o04_14_04_00_00_67_07_07_07_07_01,
+        45 => 0o10_03_00_00_00_07_07_07_07_07_01,
+        46 => 0o04_03_00_00_01_07_07_07_07_07_01,
+        47 => 0o04_03_00_00_02_07_07_07_07_07_01,
+        48 => 0o10_03_03_00_00_14_07_07_07_07_01,
+        49 => 0o11_03_03_00_00_14_07_07_07_07_01,
+        50 => 0o12_03_03_00_00_14_07_07_07_07_01,
+        51 => 0o10_01_01_00_00_14_07_07_07_07_01,
+        52 => 0o12_03_03_06_00_05_07_07_07_17_01,
+        53 => 0o12_03_03_06_00_03_07_07_07_17_01,
+        54 => 0o12_03_03_06_00_04_07_07_07_17_01,
+        55 => 0o12_01_01_04_00_05_07_07_07_17_01,
+        56 => 0o12_00_00_00_00_14_07_07_07_07_02,
+        57 => 0o12_00_00_00_00_13_07_07_07_07_02,
+        58 => 0o00_03_00_00_00_10_07_07_07_07_01,
+        59 => 0o05_03_00_00_00_07_07_10_07_07_03,
+        60 => 0o05_03_01_00_00_07_07_00_07_07_03,
+        _ => 0o17_00_00_00_00_07_07_07_07_07_00,
+    }
+}
 
-// By form and size: the shape that a parameter of that form has, or ff. A line for each form.
-const ASKED: [u8; 328] = *b"\
-        \x00\x01\x02\x03\x04\x05\x06\x07\x08\x09\x0a\x0b\x0c\xff\x04\x07\x0a\x05\x08\x0b\x06\x09\x0c\x04\x07\x0a\x05\x08\x0b\x06\x09\x0c\x04\x07\x0a\x05\x08\x0b\x06\x09\x0c\
-        \x00\x00\x00\x00\x00\x00\x00\x00\x00\x00\x00\x00\x00\x00\x00\x00\x00\x00\x00\x00\x00\x00\x00\x00\x00\x00\x00\x00\x00\x00\x00\x00\x00\x00\x00\x00\x00\x00\x00\x00\x00\
-        \xff\xff\xff\xff\x01\x01\x01\x02\x02\x02\x03\x03\x03\xff\x01\x02\x03\x01\x02\x03\x01\x02\x03\x01\x02\x03\x01\x02\x03\x01\x02\x03\x01\x02\x03\x01\x02\x03\x01\x02\x03\
-        \xff\x01\x02\x03\x01\x02\x03\x01\x02\x03\x01\x02\x03\xff\x01\x01\x01\x02\x02\x02\x03\x03\x03\x01\x01\x01\x02\x02\x02\x03\x03\x03\x01\x01\x01\x02\x02\x02\x03\x03\x03\
-        \xff\xff\xff\xff\xff\xff\xff\xff\xff\xff\xff\xff\xff\xff\x04\x04\x04\x05\x05\x05\x06\x06\x06\x07\x07\x07\x08\x08\x08\x09\x09\x09\x0a\x0a\x0a\x0b\x0b\x0b\x0c\x0c\x0c\
-        \xff\xff\xff\xff\xff\xff\xff\xff\xff\xff\xff\xff\xff\xff\x04\x07\x0a\x04\x07\x0a\x04\x07\x0a\x05\x08\x0b\x05\x08\x0b\x05\x08\x0b\x06\x09\x0c\x06\x09\x0c\x06\x09\x0c\
-        \xff\xff\xff\xff\x04\x07\x0a\x05\x08\x0b\x06\x09\x0c\xff\x04\x05\x06\x07\x08\x09\x0a\x0b\x0c\x04\x05\x06\x07\x08\x09\x0a\x0b\x0c\x04\x05\x06\x07\x08\x09\x0a\x0b\x0c\
-        \xff\xff\xff\xff\x04\x04\x04\x08\x08\x08\x0c\x0c\x0c\xff\x04\x08\x0c\x04\x08\x0c\x04\x08\x0c\x04\x08\x0c\x04\x08\x0c\x04\x08\x0c\x04\x08\x0c\x04\x08\x0c\x04\x08\x0c";
+// By size, for each form: the first operand of the shape that it asks, where it asks one. Two hexadecimal digits each.
+pub fn starts_at(n: u8) -> u64
+    requires { ⌜ n < 41 ⌝ }
+    ensures { λ r. ⌜ Starts n r ⌝ }
+{
+    match n {
+        0 => 0x00_00_00_00_00_00_00_00,
+        1 => 0x00_00_00_00_07_00_00_07,
+        2 => 0x00_00_00_00_0e_00_00_0e,
+        3 => 0x00_00_00_00_15_00_00_15,
+        4 => 0x1c_1c_00_00_07_07_00_1c,
+        5 => 0x1c_31_00_00_0e_07_00_23,
+        6 => 0x1c_46_00_00_15_07_00_2a,
+        7 => 0x38_23_00_00_07_0e_00_31,
+        8 => 0x38_38_00_00_0e_0e_00_38,
+        9 => 0x38_4d_00_00_15_0e_00_3f,
+        10 => 0x54_2a_00_00_07_15_00_46,
+        11 => 0x54_3f_00_00_0e_15_00_4d,
+        12 => 0x54_54_00_00_15_15_00_54,
+        13 => 0x00_00_00_00_00_00_00_00,
+        14 => 0x1c_1c_1c_1c_07_07_00_1c,
+        15 => 0x38_23_31_1c_07_0e_00_31,
+        16 => 0x54_2a_46_1c_07_15_00_46,
+        17 => 0x1c_31_1c_23_0e_07_00_23,
+        18 => 0x38_38_31_23_0e_0e_00_38,
+        19 => 0x54_3f_46_23_0e_15_00_4d,
+        20 => 0x1c_46_1c_2a_15_07_00_2a,
+        21 => 0x38_4d_31_2a_15_0e_00_3f,
+        22 => 0x54_54_46_2a_15_15_00_54,
+        23 => 0x1c_1c_23_31_07_07_00_1c,
+        24 => 0x38_23_38_31_07_0e_00_31,
+        25 => 0x54_2a_4d_31_07_15_00_46,
+        26 => 0x1c_31_23_38_0e_07_00_23,
+        27 => 0x38_38_38_38_0e_0e_00_38,
+        28 => 0x54_3f_4d_38_0e_15_00_4d,
+        29 => 0x1c_46_23_3f_15_07_00_2a,
+        30 => 0x38_4d_38_3f_15_0e_00_3f,
+        31 => 0x54_54_4d_3f_15_15_00_54,
+        32 => 0x1c_1c_2a_46_07_07_00_1c,
+        33 => 0x38_23_3f_46_07_0e_00_31,
+        34 => 0x54_2a_54_46_07_15_00_46,
+        35 => 0x1c_31_2a_4d_0e_07_00_23,
+        36 => 0x38_38_3f_4d_0e_0e_00_38,
+        37 => 0x54_3f_54_4d_0e_15_00_4d,
+        38 => 0x1c_46_2a_54_15_07_00_2a,
+        39 => 0x38_4d_3f_54_15_0e_00_3f,
+        40 => 0x54_54_54_54_15_15_00_54,
+        _ => 0,
+    }
+}
 
-// By family and scalar: the first T of the family's set, in the order of preference, to which the scalar converts, or ff. A line for each family.
-const LIFT: [u8; 427] = *b"\
-        \x00\xff\xff\xff\xff\xff\xff\
-        \xff\x01\x02\x03\xff\x05\x06\
-        \xff\x01\xff\x03\x04\xff\xff\
-        \x00\xff\xff\xff\xff\xff\xff\
-        \xff\x01\x02\x03\x04\x05\x06\
-        \xff\x01\x02\x03\x04\x05\x06\
-        \xff\x01\x02\x03\x04\x05\x06\
-        \xff\x02\x02\xff\xff\x05\x06\
-        \xff\x01\x02\x03\x04\x05\x06\
-        \xff\x01\x02\x03\x04\x05\x06\
-        \xff\x01\x02\x03\x04\x05\x06\
-        \xff\x02\x02\xff\xff\x05\x06\
-        \xff\x02\x02\xff\xff\x05\x06\
-        \xff\x02\x02\xff\xff\x05\x06\
-        \xff\x02\x02\xff\xff\x05\x06\
-        \xff\x02\x02\xff\xff\x05\x06\
-        \xff\x01\x02\x03\x04\x05\x06\
-        \xff\x01\x02\x03\x04\x05\x06\
-        \xff\x01\x02\x03\x04\x05\x06\
-        \x00\x01\x02\x03\x04\x05\x06\
-        \xff\x01\x02\x03\x04\x05\x06\
-        \x00\x01\xff\x03\x04\xff\xff\
-        \xff\x01\xff\x03\x04\xff\xff\
-        \xff\x01\xff\x03\x04\xff\xff\
-        \xff\x02\x02\xff\xff\x05\x06\
-        \xff\x02\x02\xff\xff\x05\x06\
-        \xff\x02\x02\xff\xff\x05\x06\
-        \xff\x02\x02\xff\xff\x05\x06\
-        \xff\x02\x02\xff\xff\x05\x06\
-        \xff\x01\x02\x03\x04\x05\x06\
-        \xff\x01\x02\x03\x04\x05\x06\
-        \xff\x01\x02\x03\x04\x05\x06\
-        \xff\x03\xff\x03\x04\xff\xff\
-        \xff\x03\xff\x03\x04\xff\xff\
-        \xff\x03\xff\x03\x04\xff\xff\
-        \xff\x02\x02\xff\xff\x05\x06\
-        \xff\x02\x02\xff\xff\x05\x06\
-        \xff\x01\x02\x03\x04\x05\x06\
-        \xff\x02\x02\xff\xff\x05\x06\
-        \xff\x02\x02\xff\xff\x05\x06\
-        \xff\x02\x02\xff\xff\x05\x06\
-        \xff\x02\x02\xff\xff\x05\x06\
-        \xff\x02\x02\xff\xff\x05\x06\
-        \xff\x02\x02\xff\xff\x05\x06\
-        \xff\x02\x02\xff\xff\x05\x06\
-        \xff\x05\x05\xff\xff\x05\xff\
-        \xff\x02\x02\xff\xff\x05\x06\
-        \xff\x02\x02\xff\xff\x05\x06\
-        \xff\x05\x05\xff\xff\x05\xff\
-        \xff\x03\xff\x03\xff\xff\xff\
-        \xff\x04\xff\xff\x04\xff\xff\
-        \xff\x05\x05\xff\xff\x05\xff\
-        \xff\x04\xff\xff\x04\xff\xff\
-        \xff\x04\xff\xff\x04\xff\xff\
-        \xff\x04\xff\xff\x04\xff\xff\
-        \xff\x04\xff\xff\x04\xff\xff\
-        \xff\x04\xff\xff\x04\xff\xff\
-        \xff\x04\xff\xff\x04\xff\xff\
-        \x00\xff\xff\xff\xff\xff\xff\
-        \x00\x01\x02\x03\x04\x05\x06\
-        \x00\x01\x02\x03\x04\x05\x06";
+// By set of T, for each scalar: the first T, in the order of preference, to which the scalar converts, or 7 for none. An octal digit each.
+fn lifts_of(set: u64) -> u64
+    ensures { λ r. ⌜ Lifts set r ⌝ }
+{
+    match set {
+        0 => 0o7777770,
+        1 => 0o6573217,
+        2 => 0o7743717,
+        3 => 0o6543217,
+        4 => 0o6577227,
+        5 => 0o6543210,
+        6 => 0o7743710,
+        7 => 0o7743737,
+        8 => 0o7577557,
+        9 => 0o7773737,
+        10 => 0o7747747,
+        _ => 0o7777777,
+    }
+}
 
+// The family of a row for the forms of the first and last operand, or 63.
 pub fn family_at(row: usize, forms: u8) -> u8
     requires { ⌜ (row < 47) × (forms < 9) ⌝ }
-    ensures { λ r. ⌜ r ≡ familyAt row forms ⌝ }
+    ensures { λ r. ⌜ r ≡ orNone 63 (familyAt row forms) ⌝ }
 {
-    FAMILY_AT[row * 9 + (forms as usize)]
+    ((families_of(row) >> (6 * forms)) % 64) as u8
 }
 
-pub fn word(f: u8, i: usize) -> u8
-    requires { ⌜ (f < 61) × (i < 10) ⌝ }
+// A word of a family, by its line.
+pub fn word(f: u8, w: u64, i: usize) -> u8
+    requires { ⌜ Word f w × (i < 10) ⌝ }
     ensures { λ r. ⌜ r ≡ wordOf f i ⌝ }
 {
-    FAMILY[(f as usize) * 10 + i]
+    ((w >> (6 * i)) % 64) as u8
 }
 
-pub fn asked(form: u8, n: u8) -> u8
-    requires { ⌜ (form < 8) × (n < 41) ⌝ }
-    ensures { λ r. ⌜ r ≡ askedOf form n ⌝ }
+// The first operand of the shape that a pattern asks at a size, by the size's line.
+pub fn start(p: u8, n: u8, starts: u64) -> u8
+    requires { ⌜ (p < 64) × Starts n starts × (askedOf (p / 8) n < 13) ⌝ }
+    ensures { λ r. ⌜ r ≡ 7 * askedOf (p / 8) n ⌝ }
 {
-    ASKED[(form as usize) * 41 + (n as usize)]
+    ((starts >> (8 * (p / 8))) % 256) as u8
 }
 
-pub fn lift(f: u8, s: u8) -> u8
-    requires { ⌜ (f < 61) × (s < 7) ⌝ }
+// The first T of a family's set, in the order of preference, to which a scalar converts, or NONE.
+pub fn lift(f: u8, w: u64, s: u8) -> u8
+    requires { ⌜ Word f w × (s < 7) ⌝ }
     ensures { λ r. ⌜ r ≡ liftOf (familyOf f .set) s ⌝ }
 {
-    LIFT[(f as usize) * 7 + (s as usize)]
+    let t = ((lifts_of(w >> 60) >> (3 * s)) % 8) as u8;
+    if t == 7 {
+        return NONE;
+    }
+    t
 }

@@ -450,9 +450,7 @@ fn one_turn(
     let item = found.item;
     match step(sheet, item, place, stack, count, table, used, memo) {
         Did::Went { count: c, used: u } => Turn::More { count: c, used: u },
-        Did::Silent { count: c, used: u } => {
-            Turn::Done(leave(size, place, found.next, c, u))
-        }
+        Did::Silent { count: c, used: u } => { Turn::Done(leave(size, place, found.next, c, u)) }
         Did::Ended { count: c, used: u } => Turn::Done(finish(size, stack, c, u)),
         Did::Refused(r) => Turn::Done(Answer::Refused(r)),
     }

@@ -1,9 +1,7 @@
 -- `overload::out_of` meets its contract: by the number of the wrapping. Assumes nothing.
 use borrow.Author.Needs.{needs}
-use mathlib.Core.Path.{_≡_, _∙_, sym, ap, refl}
-use Rattle.conv.specs.Types.{Ty}
+use mathlib.Core.Path.{_∙_, sym, ap}
 use Rattle.conv.specs.Types.Ty.{frexp, modf}
-use Rattle.overload.specs.Rows.{wrapped}
 use Rattle.overload.specs.Code.{outOf, familyOf}
 use Rattle.overload.proofs.Resolving.{wrap-word, wrapped-frexp, wrapped-modf, wrapped-bare}
 use Rattle.overload.proofs.out_of.Statement.{statement}
@@ -24,14 +22,14 @@ unfolding outOf
 returns c =
     let f = c .before .before .before .args .f in
     let r = c .before .before .result-of .ensures in
-    ap frexp r ∙ wrapped-frexp _ (familyOf f .wrap) (sym (c .before .word .ensures ∙ wrap-word f) ∙ c .if1 .taken)
+    r ∙ wrapped-bare _ (familyOf f .wrap) (sym (c .before .word .ensures ∙ wrap-word f) ∙ c .if1 .taken)
 
 returns-2 : tie.Need-returns-2
 unfolding outOf
 returns-2 c =
     let f = c .before .before .before .before .args .f in
     let r = c .before .before .before .result-of .ensures in
-    ap modf r ∙ wrapped-modf _ (familyOf f .wrap) (sym (c .before .before .word .ensures ∙ wrap-word f) ∙ c .if2 .taken)
+    ap frexp r ∙ wrapped-frexp _ (familyOf f .wrap) (sym (c .before .before .word .ensures ∙ wrap-word f) ∙ c .if2 .taken)
 
 returns-3 : tie.Need-returns-3
 unfolding outOf
@@ -39,7 +37,7 @@ returns-3 c =
     let f = c .before .before .before .before .args .f in
     let r = c .before .before .before .result-of .ensures in
     let w = c .before .before .word .ensures ∙ wrap-word f in
-    r ∙ wrapped-bare _ (familyOf f .wrap) (λ e. c .before .if1 .left (w ∙ e)) (λ e. c .if2 .left (w ∙ e))
+    ap modf r ∙ wrapped-modf _ (familyOf f .wrap) (λ e. c .before .if1 .left (w ∙ e)) (λ e. c .if2 .left (w ∙ e))
 
 pub out-of-spec : {M : Type 1} → statement M
 out-of-spec = tie.close (tie.spec result-of-requires word-requires returns returns-2 returns-3)

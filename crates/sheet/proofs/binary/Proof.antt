@@ -1,3 +1,4 @@
+-- `sheet::binary` meets its contract: two values leave the stack, and the answer of `binary_at` on them is put in their place. Assumes nothing.
 use native.Mathlib.Omega.{arith}
 use Rattle.sheet.proofs.Items.{binary-under, binary-pushes, binary-does}
 use Rattle.sheet.proofs.Effects.{refusing, binary-short}
@@ -13,66 +14,51 @@ use Rattle.sheet.proofs.settle.Reads as settle-reads
 use Rattle.sheet.proofs.stopped.Reads as stopped-reads
 use Rattle.sheet.proofs.wide.Reads as wide-reads
 
--- src/lib.rt:151:9
 stopped-requires : tie.Need-stopped-requires
 stopped-requires c κs = search needs
 
--- src/lib.rt:151:9
 returns : tie.Need-returns
 returns c = let a = c .before .before .before .before .args in
     refusing (a .place) (a .count) (a .stack .now) (a .used) (a .table .now) Stack (c .stopped .ensures) (binary-short (a .place) (a .count) (a .stack .now) (a .used) (a .table .now) (c .before .before .before .before .pre) (a .op) (c .before .if1 .taken))
 
--- src/lib.rt:154:20
 mul-number : tie.Need-mul-number
 mul-number c = search needs
 
--- src/lib.rt:154:20
 slice-read-number : tie.Need-slice-read-number
 slice-read-number c = search needs
 
--- src/lib.rt:154:9
 number-requires : tie.Need-number-requires
 number-requires c κs = search needs
 
--- src/lib.rt:155:26
 add-number : tie.Need-add-number
 add-number c = search needs
 
--- src/lib.rt:155:20
 mul-number-2 : tie.Need-mul-number-2
 mul-number-2 c = search needs
 
--- src/lib.rt:155:20
 slice-read-number-2 : tie.Need-slice-read-number-2
 slice-read-number-2 c = search needs
 
--- src/lib.rt:155:9
 number-requires-2 : tie.Need-number-requires-2
 number-requires-2 c κs = search needs
 
--- src/lib.rt:156:51
 wide-requires : tie.Need-wide-requires
 wide-requires c κs = search needs
 
--- src/lib.rt:156:9
 binary-at-requires : tie.Need-binary-at-requires
 binary-at-requires c κs = let a = c .before .before .before .before .before .before .before .before .before .args in
     let u = binary-under (a .place) (a .count) (a .stack .now) (a .used) (a .table .now) (c .before .before .before .before .before .before .before .before .before .pre) (a .op) (c .wide .result) (c .before .before .before .before .number .result .0) (c .before .before .number2 .result .0) (c .wide .ensures) (c .before .before .before .before .number .ensures) (c .before .before .number2 .ensures) (c .before .before .before .before .before .before .if1 .left) in (c .before .before .before .before .before .before .before .before .before .pre .good .sound, u .0, u .1)
 
--- src/lib.rt:157:5
 settle-requires : tie.Need-settle-requires
 settle-requires c κs = let a = c .before .before .before .before .before .before .before .before .before .before .before .before .before .args in
     (c .before .before .before .before .before .before .before .before .before .before .before .before .before .pre .size, omega (arith, c .before .before .before .before .before .before .before .before .before .before .before .before .before .pre .fits), binary-pushes (a .place) (a .count) (a .stack .now) (a .used) (a .table .now) (c .before .before .before .before .before .before .before .before .before .before .before .before .before .pre) (a .op) (c .before .before .before .before .wide .result) (c .before .before .before .before .before .before .before .before .number .result .0) (c .before .before .before .before .before .before .number2 .result .0) (c .before .before .before .before .wide .ensures) (c .before .before .before .before .before .before .before .before .number .ensures) (c .before .before .before .before .before .before .number2 .ensures) (c .before .before .before .before .before .before .before .before .before .before .if1 .left) (c .before .before .before .binary-at .ensures))
 
--- src/lib.rt:139:1
 same-length : tie.Need-same-length
 same-length c = search needs
 
--- src/lib.rt:139:1
 same-length-2 : tie.Need-same-length-2
 same-length-2 c = search needs
 
--- src/lib.rt:139:1
 returns-2 : tie.Need-returns-2
 returns-2 c = let a = c .before .before .before .before .before .before .before .before .before .before .before .before .before .before .before .before .args in
     binary-does (a .place) (a .count) (a .stack .now) (a .used) (a .table .now) (c .before .before .before .before .before .before .before .before .before .before .before .before .before .before .before .before .pre) (a .op) (c .before .before .before .before .before .before .before .wide .result) (c .before .before .before .before .before .before .before .before .before .before .before .number .result .0) (c .before .before .before .before .before .before .before .before .before .number2 .result .0) (c .before .before .before .before .before .before .before .wide .ensures) (c .before .before .before .before .before .before .before .before .before .before .before .number .ensures) (c .before .before .before .before .before .before .before .before .before .number2 .ensures) (c .before .before .before .before .before .before .before .before .before .before .before .before .before .if1 .left) (c .before .before .before .before .before .before .binary-at .ensures) (c .before .before .settle .ensures)

@@ -1,3 +1,4 @@
+-- `sheet::binary_by` meets its contract: a value that the memo has is the one that `binary` gives; else `binary` types, and what it left is noted. Assumes nothing.
 use Rattle.sheet.proofs.MemoLaws.{binary-values, binary-hit, binary-plain, binary-leaves, binary-after, key-small, neither}
 use Rattle.sheet.specs.Memo.{After, keyOf}
 use borrow.Author.Tests.{ltb-false, leb-false}
@@ -16,57 +17,44 @@ use Rattle.sheet.proofs.note_did.Reads as note-did-reads
 use Rattle.sheet.proofs.recall.Reads as recall-reads
 use Rattle.sheet.proofs.wide32.Reads as wide32-reads
 
--- src/lib.rt:268:9
 binary-requires : tie.Need-binary-requires
 binary-requires c κs = search needs
 
--- src/lib.rt:268:9
 same-length : tie.Need-same-length
 same-length c = search needs
 
--- src/lib.rt:268:9
 same-length-2 : tie.Need-same-length-2
 same-length-2 c = search needs
 
--- src/lib.rt:268:9
 returns : tie.Need-returns
 returns c = let a = c .before .before .before .before .before .before .before .before .before .before .before .args in
     let p = c .before .before .before .before .before .before .before .before .before .before .before .pre in
     (c .before .before .before .before .binary .ensures, binary-plain (a .place) (a .count) (a .stack .now) (a .used) (a .table .now) (p .0) (a .memo .now) (p .1) (a .op) (c .before .before .before .before .binary .result) _ _ (c .before .before .before .before .binary .ensures))
 
--- src/lib.rt:270:16
 sub-base : tie.Need-sub-base
 sub-base c = let n = neither _ _ (c .if1 .left) in ltb-false _ _ (n .0)
 
--- src/lib.rt:271:37
 wide32-requires : tie.Need-wide32-requires
 wide32-requires c κs = search needs
 
--- src/lib.rt:271:22
 add-key-of : tie.Need-add-key-of
 add-key-of c = search needs
 
--- src/lib.rt:271:49
 mul-key-of : tie.Need-mul-key-of
 mul-key-of c = search needs
 
--- src/lib.rt:271:49
 slice-read-key-of : tie.Need-slice-read-key-of
 slice-read-key-of c = search needs
 
--- src/lib.rt:271:68
 add-key-of-2 : tie.Need-add-key-of-2
 add-key-of-2 c = search needs
 
--- src/lib.rt:271:62
 mul-key-of-2 : tie.Need-mul-key-of-2
 mul-key-of-2 c = search needs
 
--- src/lib.rt:271:62
 slice-read-key-of-2 : tie.Need-slice-read-key-of-2
 slice-read-key-of-2 c = search needs
 
--- src/lib.rt:271:9
 key-of-requires : tie.Need-key-of-requires
 key-of-requires c κs = let a = c .before .before .before .before .before .before .before .args in
     let p = c .before .before .before .before .before .before .before .pre in
@@ -76,31 +64,24 @@ key-of-requires c κs = let a = c .before .before .before .before .before .befor
     let v = binary-values (a .place) (a .count) (a .stack .now) (a .used) (a .table .now) (p .0) (a .memo .now) (p .1) h in
     (omega (arith, c .before .before .wide32 .ensures, o), v .0, v .1)
 
--- src/lib.rt:272:9
 recall-requires : tie.Need-recall-requires
 recall-requires c κs = search needs
 
--- src/lib.rt:274:9
 mul-stack : tie.Need-mul-stack
 mul-stack c = search needs
 
--- src/lib.rt:274:9
 slice-write-stack : tie.Need-slice-write-stack
 slice-write-stack c = search needs
 
--- src/lib.rt:276:20
 sub-t30 : tie.Need-sub-t30
 sub-t30 c = let n = neither _ _ (c .before .before .before .before .before .before .before .if1 .left) in let h : 2 ≤ c .before .before .before .before .before .before .before .before .before .before .before .args .count = ltb-false _ _ (n .0) in omega (arith, h)
 
--- src/lib.rt:275:9
 same-length-3 : tie.Need-same-length-3
 same-length-3 c = search needs
 
--- src/lib.rt:275:9
 same-length-4 : tie.Need-same-length-4
 same-length-4 c = search needs
 
--- src/lib.rt:275:9
 returns-2 : tie.Need-returns-2
 unfolding After
 returns-2 c = let a = c .before .before .before .before .before .before .before .before .before .before .before .args in
@@ -112,11 +93,9 @@ returns-2 c = let a = c .before .before .before .before .before .before .before 
     let k = c .before .before .before .key-of .ensures ∙ ap (λ x. keyOf x (getD (a .stack .now) (a .count - 2) 0) (getD (a .stack .now) (a .count - 2 + 1) 0)) q in
     (binary-hit (a .place) (a .count) (a .stack .now) (a .used) (a .table .now) (p .0) (a .memo .now) (p .1) (a .op) (c .before .before .before .key-of .result) (c .before .recall .result) h o k (c .before .recall .ensures) (c .if2 .taken), p .1)
 
--- src/lib.rt:280:9
 binary-requires-2 : tie.Need-binary-requires-2
 binary-requires-2 c κs = search needs
 
--- src/lib.rt:281:5
 note-did-requires : tie.Need-note-did-requires
 note-did-requires c κs = let a = c .before .before .before .before .before .before .before .before .before .before .before .before .before .before .before .before .before .before .before .before .args in
     let p = c .before .before .before .before .before .before .before .before .before .before .before .before .before .before .before .before .before .before .before .before .pre in
@@ -128,19 +107,15 @@ note-did-requires c κs = let a = c .before .before .before .before .before .bef
     let z = key-small (1 + c .before .before .before .before .before .before .before .before .before .before .before .before .before .before .before .wide32 .result) _ _ l (v .0) (v .1) in
     (p .1 .size, rw (c .before .before .before .before .before .before .before .before .before .before .before .before .key-of .ensures) z, binary-leaves (a .place) (a .count) (a .stack .now) (a .used) (a .table .now) (p .0) (a .memo .now) (p .1) (a .op) (c .before .before .before .before .before .before .binary2 .result) _ _ (c .before .before .before .before .before .before .binary2 .ensures) h (c .before .before .before .before .before .before .binary2 .kept .1 .1 .0 ∙ p .0 .size))
 
--- src/lib.rt:255:1
 same-length-5 : tie.Need-same-length-5
 same-length-5 c = search needs
 
--- src/lib.rt:255:1
 same-length-6 : tie.Need-same-length-6
 same-length-6 c = search needs
 
--- src/lib.rt:255:1
 same-length-7 : tie.Need-same-length-7
 same-length-7 c = search needs
 
--- src/lib.rt:255:1
 returns-3 : tie.Need-returns-3
 returns-3 c = let a = c .before .before .before .before .before .before .before .before .before .before .before .before .before .before .before .before .before .before .before .before .before .before .before .args in
     let p = c .before .before .before .before .before .before .before .before .before .before .before .before .before .before .before .before .before .before .before .before .before .before .before .pre in

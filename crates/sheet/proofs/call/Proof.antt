@@ -1,3 +1,4 @@
+-- `sheet::call` meets its contract: 11 where values lack, else the call without a template list. Assumes nothing.
 use Rattle.sheet.proofs.Effects.{does-as, refusing, call-short, call-goes}
 use Rattle.answer.specs.declared.Reason.the-variants.{Stack}
 use borrow.Author.Needs.{needs}
@@ -9,37 +10,29 @@ use Rattle.sheet.proofs.call_on.Reads as call-on-reads
 use Rattle.sheet.proofs.stopped.Reads as stopped-reads
 use Rattle.sheet.proofs.wide.Reads as wide-reads
 
--- src/lib.rt:191:9
 wide-requires : tie.Need-wide-requires
 wide-requires c κs = search needs
 
--- src/lib.rt:193:9
 stopped-requires : tie.Need-stopped-requires
 stopped-requires c κs = search needs
 
--- src/lib.rt:193:9
 returns : tie.Need-returns
 returns c = let a = c .before .before .before .before .before .before .args in
     let l = rw (c .before .before .wide .ensures) at (c .before .if1 .taken) in
     refusing (a .place) (a .count) (a .stack .now) (a .used) (a .table .now) Stack (c .stopped .ensures) (call-short (a .place) (a .count) (a .stack .now) (a .used) (a .table .now) (c .before .before .before .before .before .before .pre) (a .name .now) (a .k) l)
 
--- src/lib.rt:196:19
 slice-aggregate-call-on : tie.Need-slice-aggregate-call-on
 slice-aggregate-call-on c = search needs
 
--- src/lib.rt:196:5
 call-on-requires : tie.Need-call-on-requires
 call-on-requires c κs = search needs
 
--- src/lib.rt:179:1
 same-length : tie.Need-same-length
 same-length c = search needs
 
--- src/lib.rt:179:1
 same-length-2 : tie.Need-same-length-2
 same-length-2 c = search needs
 
--- src/lib.rt:179:1
 returns-2 : tie.Need-returns-2
 returns-2 c = let a = c .before .before .before .before .before .before .before .before .before .before .before .before .before .args in
     let l = rw (c .before .before .before .before .before .before .before .before .before .wide .ensures) at (c .before .before .before .before .before .before .before .before .if1 .left) in

@@ -1,3 +1,4 @@
+-- `sheet::call_on` meets its contract: the last values leave the stack as the operands, and the answer is put in their place. Assumes nothing.
 use native.Mathlib.Omega.{arith}
 use Rattle.sheet.proofs.Items.{args-under, call-pushes, call-does}
 use borrow.Author.Needs.{needs}
@@ -8,45 +9,35 @@ use Rattle.sheet.proofs.call_on.Lts as lts
 use Rattle.call_ty.proofs.call_at.Reads as call-at-reads
 use Rattle.sheet.proofs.settle.Reads as settle-reads
 
--- src/lib.rt:174:16
 sub-base : tie.Need-sub-base
 sub-base c = search needs
 
--- src/lib.rt:175:62
 mul-call-at : tie.Need-mul-call-at
 mul-call-at c = search needs
 
--- src/lib.rt:175:62
 sub-call-at : tie.Need-sub-call-at
 sub-call-at c = search needs
 
--- src/lib.rt:175:62
 part-call-at-start : tie.Need-part-call-at-start
 part-call-at-start c = search needs
 
--- src/lib.rt:175:62
 part-call-at-end : tie.Need-part-call-at-end
 part-call-at-end c = search needs
 
--- src/lib.rt:175:9
 call-at-requires : tie.Need-call-at-requires
 call-at-requires c κs = let a = c .before .before .before .before .before .before .before .args in
     (c .before .before .before .before .before .before .before .pre .0 .good .sound, c .before .before .before .before .before .before .before .pre .1, args-under (a .place) (a .count) (a .stack .now) (a .used) (a .table .now) (c .before .before .before .before .before .before .before .pre .0) (a .k) (c .before .before .before .before .before .before .before .pre .2))
 
--- src/lib.rt:176:5
 settle-requires : tie.Need-settle-requires
 settle-requires c κs = let a = c .before .before .before .before .before .before .before .before .before .before .before .args in
     (c .before .before .before .before .before .before .before .before .before .before .before .pre .0 .size, omega (arith, c .before .before .before .before .before .before .before .before .before .before .before .pre .0 .fits), call-pushes (a .place) (a .count) (a .stack .now) (a .used) (a .table .now) (c .before .before .before .before .before .before .before .before .before .before .before .pre .0) (a .k) (c .before .before .before .before .before .before .before .before .before .before .before .pre .2) (a .name .now) (a .tplt .now) (c .before .before .before .before .before .before .before .before .before .before .before .pre .1) (c .before .before .before .call-at .ensures))
 
--- src/lib.rt:161:1
 same-length : tie.Need-same-length
 same-length c = search needs
 
--- src/lib.rt:161:1
 same-length-2 : tie.Need-same-length-2
 same-length-2 c = search needs
 
--- src/lib.rt:161:1
 returns : tie.Need-returns
 returns c = let a = c .before .before .before .before .before .before .before .before .before .before .before .before .before .before .args in
     call-does (a .place) (a .count) (a .stack .now) (a .used) (a .table .now) (c .before .before .before .before .before .before .before .before .before .before .before .before .before .before .pre .0) (a .k) (c .before .before .before .before .before .before .before .before .before .before .before .before .before .before .pre .2) (a .name .now) (a .tplt .now) (c .before .before .before .before .before .before .before .before .before .before .before .before .before .before .pre .1) (c .before .before .before .before .before .before .call-at .ensures) (c .before .before .settle .ensures)

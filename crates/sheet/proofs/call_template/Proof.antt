@@ -1,3 +1,4 @@
+-- `sheet::call_template` meets its contract: 11 where values lack, 2 for a template that is no type, else the call with it. Assumes nothing.
 use mathlib.Core.List.{[], _∷_}
 use lib.ListN.{getD}
 use native.Mathlib.Omega.{arith}
@@ -18,51 +19,40 @@ one : (t n : ℕ) → t < n → (i : ℕ) → i < 1 → getD (t ∷ []) i 0 < n
 one t n h zero l = h
 one t n h (suc i) l = absurd (omega arith)
 
--- src/lib.rt:212:9
 wide-requires : tie.Need-wide-requires
 wide-requires c κs = search needs
 
--- src/lib.rt:214:9
 stopped-requires : tie.Need-stopped-requires
 stopped-requires c κs = search needs
 
--- src/lib.rt:214:9
 returns : tie.Need-returns
 returns c = let a = c .before .before .before .before .before .before .args in
     let l = rw (c .before .before .wide .ensures) at (c .before .if1 .taken) in
     refusing (a .place) (a .count) (a .stack .now) (a .used) (a .table .now) Stack (c .stopped .ensures) (template-short (a .place) (a .count) (a .stack .now) (a .used) (a .table .now) (c .before .before .before .before .before .before .pre) (a .name .now) (a .t .0) (a .k) l)
 
--- src/lib.rt:217:9
 stopped-requires-2 : tie.Need-stopped-requires-2
 stopped-requires-2 c κs = search needs
 
--- src/lib.rt:217:9
 returns-2 : tie.Need-returns-2
 returns-2 c = let a = c .before .before .before .before .before .before .before .before .args in
     let l = rw (c .before .before .before .before .wide .ensures) at (c .before .before .before .if1 .left) in
     refusing (a .place) (a .count) (a .stack .now) (a .used) (a .table .now) NoSuchType (c .stopped2 .ensures) (template-unknown (a .place) (a .count) (a .stack .now) (a .used) (a .table .now) (c .before .before .before .before .before .before .before .before .pre) (a .name .now) (a .t .0) (a .k) l (c .before .if2 .taken))
 
--- src/lib.rt:219:17
 cast-t14 : tie.Need-cast-t14
 cast-t14 c = search needs
 
--- src/lib.rt:220:19
 slice-aggregate-call-on : tie.Need-slice-aggregate-call-on
 slice-aggregate-call-on c = search needs
 
--- src/lib.rt:220:5
 call-on-requires : tie.Need-call-on-requires
 call-on-requires c κs = let a = c .before .before .before .before .before .before .before .before .before .before .before .args in (c .before .before .before .before .before .before .before .before .before .before .before .pre, one (a .t .0) (a .used) (c .before .before .before .before .if2 .left), c .before .before .before .before .before .before .if1 .left)
 
--- src/lib.rt:199:1
 same-length : tie.Need-same-length
 same-length c = search needs
 
--- src/lib.rt:199:1
 same-length-2 : tie.Need-same-length-2
 same-length-2 c = search needs
 
--- src/lib.rt:199:1
 returns-3 : tie.Need-returns-3
 returns-3 c = let a = c .before .before .before .before .before .before .before .before .before .before .before .before .before .before .before .before .args in
     let l = rw (c .before .before .before .before .before .before .before .before .before .before .before .before .wide .ensures) at (c .before .before .before .before .before .before .before .before .before .before .before .if1 .left) in

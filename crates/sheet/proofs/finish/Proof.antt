@@ -1,3 +1,4 @@
+-- `sheet::finish` meets its contract: one value stands at the end, or the end is wrong. Assumes nothing.
 use Prim.Native.Nat.{_<_, _≤_}
 use lib.ListN.{length}
 use borrow.Author.Tests.{eq-eqb, ne-eqb}
@@ -12,19 +13,15 @@ use Rattle.sheet.proofs.number.Reads as number-reads
 use Rattle.table.proofs.accepted.Reads as accepted-reads
 use Rattle.table.proofs.refused.Reads as refused-reads
 
--- src/lib.rt:294:39
 shared-slice-read-number : tie.Need-shared-slice-read-number
 shared-slice-read-number c = search needs
 
--- src/lib.rt:294:32
 number-requires : tie.Need-number-requires
 number-requires c κs = search needs
 
--- src/lib.rt:294:9
 accepted-requires : tie.Need-accepted-requires
 accepted-requires c κs = search needs
 
--- src/lib.rt:294:9
 returns : tie.Need-returns
 returns c = let a = c .before .before .before .before .before .args in
     let p = c .before .before .before .before .before .pre in
@@ -32,11 +29,9 @@ returns c = let a = c .before .before .before .before .before .args in
     let one : 0 < a .count = omega (arith, c .before .before .before .if1 .taken) in
     rw (c .accepted .ensures .made, sized (a .count) (a .stack .now) fits, eq-eqb _ _ (c .before .before .before .if1 .taken), value-in (a .count) (a .stack .now) fits 0 one, c .before .number .ensures)
 
--- src/lib.rt:296:5
 refused-requires : tie.Need-refused-requires
 refused-requires c κs = search needs
 
--- src/lib.rt:289:1
 returns-2 : tie.Need-returns-2
 returns-2 c = let a = c .before .before .before .args in
     let p = c .before .before .before .pre in

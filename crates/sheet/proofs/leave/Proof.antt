@@ -1,3 +1,4 @@
+-- `sheet::leave` meets its contract: a call without value is the last item over an empty stack, or misplaced. Assumes nothing.
 use borrow.Author.Needs.{needs}
 use Rattle.sheet.proofs.leave.Statement.{statement}
 use Rattle.sheet.proofs.leave.Tie as tie
@@ -6,19 +7,15 @@ use Rattle.sheet.proofs.leave.Lts as lts
 use Rattle.table.proofs.no_value.Reads as no-value-reads
 use Rattle.table.proofs.refused.Reads as refused-reads
 
--- src/lib.rt:304:9
 no-value-requires : tie.Need-no-value-requires
 no-value-requires c κs = search needs
 
--- src/lib.rt:304:9
 returns : tie.Need-returns
 returns c = rw (c .no-value .ensures .made, c .before .if1 .taken)
 
--- src/lib.rt:306:5
 refused-requires : tie.Need-refused-requires
 refused-requires c κs = search needs
 
--- src/lib.rt:300:1
 returns-2 : tie.Need-returns-2
 returns-2 c = rw (c .refused .ensures .made, c .before .if1 .left)
 

@@ -1,3 +1,4 @@
+-- `sheet::note_did` meets its contract: a value that an item left is noted, and nothing else is. Assumes nothing.
 use Rattle.sheet.specs.Memo.{Leaves, NotedDid}
 use Rattle.sheet.specs.declared.Did.the-variants as did
 use Rattle.sheet.specs.declared.Did.{Did}
@@ -25,40 +26,32 @@ nothing-noted memo key (did.Silent c u) vals h = refl
 nothing-noted memo key (did.Ended c u) vals h = refl
 nothing-noted memo key (did.Refused r) vals h = refl
 
--- src/lib.rt:219:21
 enum-known-d : tie.Need-enum-known-d
 enum-known-d c = search needs
 
--- src/lib.rt:220:35
 sub-note : tie.Need-sub-note
 unfolding Leaves
 sub-note c = let q = rw (c .before .before .d .given .1) at (c .before .before .before .before .before .before .pre .2) in q .0
 
--- src/lib.rt:220:29
 mul-note : tie.Need-mul-note
 unfolding Leaves
 mul-note c = let q = rw (c .before .before .d .given .1) at (c .before .before .before .before .before .before .pre .2) in search needs
 
--- src/lib.rt:220:29
 shared-slice-read-note : tie.Need-shared-slice-read-note
 unfolding Leaves
 shared-slice-read-note c = let q = rw (c .before .before .before .d .given .1) at (c .before .before .before .before .before .before .before .pre .2) in omega (arith, q .0, q .1)
 
--- src/lib.rt:220:13
 note-requires : tie.Need-note-requires
 unfolding Leaves
 note-requires c κs = let q = rw (c .before .before .before .d .given .1) at (c .before .before .before .before .before .before .before .pre .2) in (c .before .before .before .before .before .before .before .pre .0, c .before .before .before .before .before .before .before .pre .1, q .2)
 
--- src/lib.rt:214:1
 same-length : tie.Need-same-length
 same-length c = search needs
 
--- src/lib.rt:214:1
 returns : tie.Need-returns
 unfolding NotedDid
 returns c = rw (c .before .before .before .before .before .before .d .given .1) (c .before .before .note .ensures)
 
--- src/lib.rt:214:1
 returns-2 : tie.Need-returns-2
 returns-2 c = nothing-noted (c .before .before .before .args .memo .now) (c .before .before .before .args .key) (c .before .before .before .args .d) (c .before .before .before .args .stack .now) (c .match .keys2)
 

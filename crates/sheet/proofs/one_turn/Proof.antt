@@ -1,3 +1,4 @@
+-- `sheet::one_turn` meets its contract: what the step did decides whether the machine goes on. Assumes nothing.
 use mathlib.Core.Path.{sym, _∙_}
 use native.Mathlib.Omega.{arith}
 use Rattle.sheet.proofs.Turning.{turn-goes, turn-silent, counted-end, turn-ends, turn-stops}
@@ -12,106 +13,83 @@ use Rattle.sheet.proofs.finish.Reads as finish-reads
 use Rattle.sheet.proofs.leave.Reads as leave-reads
 use Rattle.sheet.proofs.step.Reads as step-reads
 
--- src/lib.rt:451:11
 step-requires : tie.Need-step-requires
 step-requires c κs = search needs
 
--- src/lib.rt:452:28
 enum-known-c : tie.Need-enum-known-c
 enum-known-c c = search needs
 
--- src/lib.rt:453:30
 enum-known-c-2 : tie.Need-enum-known-c-2
 enum-known-c-2 c = search needs
 
--- src/lib.rt:454:24
 leave-requires : tie.Need-leave-requires
 leave-requires c κs = search needs
 
--- src/lib.rt:456:29
 enum-known-c-3 : tie.Need-enum-known-c-3
 enum-known-c-3 c = search needs
 
--- src/lib.rt:456:56
 finish-requires : tie.Need-finish-requires
 finish-requires c κs = let a = c .before .before .before .before .before .before .before .before .before .before .before .before .before .before .before .before .before .before .before .args in
     let e = c .before .before .c3 .given in
     (c .before .before .before .before .before .before .before .before .before .before .step .kept .1 .1 .1 .0 ∙ c .before .before .before .before .before .before .before .before .before .before .before .before .before .before .before .before .before .before .before .pre .0 .size, counted-end (a .sheet .now) (a .found) (stateOf (a .count) (a .stack .now) (a .used) (a .table .now)) _ _ (e .0 .0) (e .0 .1 .0) (rw (e .1) at (c .before .before .before .before .before .before .before .before .before .before .step .ensures .0)))
 
--- src/lib.rt:457:22
 enum-known-r : tie.Need-enum-known-r
 enum-known-r c = search needs
 
--- src/lib.rt:436:1
 same-length : tie.Need-same-length
 same-length c = search needs
 
--- src/lib.rt:436:1
 same-length-2 : tie.Need-same-length-2
 same-length-2 c = search needs
 
--- src/lib.rt:436:1
 same-length-3 : tie.Need-same-length-3
 same-length-3 c = search needs
 
--- src/lib.rt:436:1
 returns : tie.Need-returns
 unfolding After AfterTurn
 returns c = let a = c .before .before .before .before .before .before .before .before .before .before .before .before .before .before .before .before .before .before .args in
     let e = c .before .c .given in
     (turn-goes (a .sheet .now) (a .found) (stateOf (a .count) (a .stack .now) (a .used) (a .table .now)) _ _ (e .0 .0) (e .0 .1 .0) (rw (e .1) at (c .before .before .before .before .before .before .before .before .before .step .ensures .0)), rw (e .1) at (c .before .before .before .before .before .before .before .before .before .step .ensures .1))
 
--- src/lib.rt:436:1
 same-length-4 : tie.Need-same-length-4
 same-length-4 c = search needs
 
--- src/lib.rt:436:1
 same-length-5 : tie.Need-same-length-5
 same-length-5 c = search needs
 
--- src/lib.rt:436:1
 same-length-6 : tie.Need-same-length-6
 same-length-6 c = search needs
 
--- src/lib.rt:436:1
 returns-2 : tie.Need-returns-2
 unfolding AfterTurn
 returns-2 c = let a = c .before .before .before .before .before .before .before .before .before .before .before .before .before .before .before .before .before .before .before .args in
     let e = c .before .before .c2 .given in
     (turn-silent (a .sheet .now) (a .found) (stateOf (a .count) (a .stack .now) (a .used) (a .table .now)) _ _ (e .0 .0) (e .0 .1 .0) (rw (e .1) at (c .before .before .before .before .before .before .before .before .before .before .step .ensures .0)) (c .before .before .before .before .before .before .before .before .before .before .step .kept .1 .1 .1 .0 ∙ c .before .before .before .before .before .before .before .before .before .before .before .before .before .before .before .before .before .before .before .pre .0 .size) (c .leave .result) (c .leave .ensures), tt)
 
--- src/lib.rt:436:1
 same-length-7 : tie.Need-same-length-7
 same-length-7 c = search needs
 
--- src/lib.rt:436:1
 same-length-8 : tie.Need-same-length-8
 same-length-8 c = search needs
 
--- src/lib.rt:436:1
 same-length-9 : tie.Need-same-length-9
 same-length-9 c = search needs
 
--- src/lib.rt:436:1
 returns-3 : tie.Need-returns-3
 unfolding AfterTurn
 returns-3 c = let a = c .before .before .before .before .before .before .before .before .before .before .before .before .before .before .before .before .before .before .before .before .args in
     let e = c .before .before .before .c3 .given in
     (turn-ends (a .sheet .now) (a .found) (stateOf (a .count) (a .stack .now) (a .used) (a .table .now)) _ _ (e .0 .0) (e .0 .1 .0) (rw (e .1) at (c .before .before .before .before .before .before .before .before .before .before .before .step .ensures .0)) (c .finish .result) (c .finish .ensures), tt)
 
--- src/lib.rt:436:1
 same-length-10 : tie.Need-same-length-10
 same-length-10 c = search needs
 
--- src/lib.rt:436:1
 same-length-11 : tie.Need-same-length-11
 same-length-11 c = search needs
 
--- src/lib.rt:436:1
 same-length-12 : tie.Need-same-length-12
 same-length-12 c = search needs
 
--- src/lib.rt:436:1
 returns-4 : tie.Need-returns-4
 unfolding AfterTurn
 returns-4 c = let a = c .before .before .before .before .before .before .before .before .before .before .before .before .before .before .before .before .before .before .args in

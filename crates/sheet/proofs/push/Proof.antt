@@ -1,3 +1,4 @@
+-- `sheet::push` meets its contract: 2 before 11, else one value more. Assumes nothing.
 use native.Mathlib.Omega.{arith}
 use Rattle.sheet.proofs.Effects.{refusing, push-unknown, push-full, push-does}
 use Rattle.answer.specs.declared.Reason.the-variants.{NoSuchType, Stack}
@@ -9,45 +10,35 @@ use Rattle.sheet.proofs.push.Lts as lts
 use Rattle.sheet.proofs.stopped.Reads as stopped-reads
 use Rattle.sheet.proofs.value.Reads as value-reads
 
--- src/lib.rt:107:9
 stopped-requires : tie.Need-stopped-requires
 stopped-requires c κs = search needs
 
--- src/lib.rt:107:9
 returns : tie.Need-returns
 returns c = let a = c .before .before .before .before .before .args in
     refusing (a .place) (a .count) (a .stack .now) (a .used) (a .table .now) NoSuchType (c .stopped .ensures) (push-unknown (a .place) (a .count) (a .stack .now) (a .used) (a .table .now) (c .before .before .before .before .before .pre) (a .t .0) (c .before .if1 .taken))
 
--- src/lib.rt:110:9
 stopped-requires-2 : tie.Need-stopped-requires-2
 stopped-requires-2 c κs = search needs
 
--- src/lib.rt:110:9
 returns-2 : tie.Need-returns-2
 returns-2 c = let a = c .before .before .before .before .before .before .args in
     refusing (a .place) (a .count) (a .stack .now) (a .used) (a .table .now) Stack (c .stopped2 .ensures) (push-full (a .place) (a .count) (a .stack .now) (a .used) (a .table .now) (c .before .before .before .before .before .before .pre) (a .t .0) (c .before .before .if1 .left) (c .before .if2 .taken))
 
--- src/lib.rt:112:20
 value-requires : tie.Need-value-requires
 value-requires c κs = search needs
 
--- src/lib.rt:112:5
 mul-stack : tie.Need-mul-stack
 mul-stack c = search needs
 
--- src/lib.rt:112:5
 slice-write-stack : tie.Need-slice-write-stack
 slice-write-stack c = search needs
 
--- src/lib.rt:114:16
 add-t11 : tie.Need-add-t11
 add-t11 c = search needs
 
--- src/lib.rt:102:1
 same-length : tie.Need-same-length
 same-length c = search needs
 
--- src/lib.rt:102:1
 returns-3 : tie.Need-returns-3
 returns-3 c = let a = c .before .before .before .before .before .before .args in
     push-does (a .place) (a .count) (a .stack .now) (a .used) (a .table .now) (c .before .before .before .before .before .before .pre) (a .t .0) (c .value .result) (c .value .ensures) (c .before .before .if1 .left) (c .before .if2 .left)

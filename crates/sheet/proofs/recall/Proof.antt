@@ -1,3 +1,4 @@
+-- `sheet::recall` meets its contract: a slot with the key gives its value. Assumes nothing.
 use lib.ListN.{getD}
 use Prim.Native.Nat.{ℕ, _+_, _*_, _<_, _%_, _/_}
 use native.Mathlib.Omega.{arith}
@@ -10,26 +11,21 @@ use Rattle.sheet.proofs.recall.Reads as reads
 use Rattle.sheet.proofs.recall.Lts as lts
 use Rattle.sheet.proofs.slot_of.Reads as slot-of-reads
 
--- src/lib.rt:197:18
 slot-of-requires : tie.Need-slot-of-requires
 slot-of-requires c κs = search needs
 
--- src/lib.rt:197:13
 mul-v : tie.Need-mul-v
 mul-v c = search needs
 
--- src/lib.rt:197:13
 shared-slice-read-v : tie.Need-shared-slice-read-v
 shared-slice-read-v c = search needs
 
--- src/lib.rt:199:9
 returns : tie.Need-returns
 returns c = let a = c .before .before .before .before .args in
     let v = getD (a .memo .now) (c .before .before .slot-of .result) 0 in
     let e = c .if1 .taken in
     record { found = inr (omega arith, (c .before .before .slot-of .result, c .before .before .slot-of .ensures, omega (arith, e))) }
 
--- src/lib.rt:193:1
 returns-2 : tie.Need-returns-2
 returns-2 c = record { found = inl refl }
 

@@ -1,3 +1,4 @@
+-- `sheet::run` meets its contract: before every turn, what is left of the items gives what the whole sheet gives. Assumes nothing.
 use Rattle.sheet.proofs.Running.{Left, left-start, left-again, left-less, left-done, name-in}
 use Rattle.sheet.proofs.MemoLaws.{zeros, recalls-none}
 use Rattle.sheet.specs.Memo.{Recalls, AfterTurn}
@@ -19,32 +20,25 @@ Inv-loop sheet table₀ used stack₀ memo₀ count₀ n₀ at₀ table stack me
 abbrev μ-loop : tie.MeasureT-loop
 μ-loop sheet table₀ used stack₀ memo₀ count₀ n₀ at₀ table stack memo count n at = length sheet - at
 
--- src/lib.rt:467:9
 slice-aggregate-stack : tie.Need-slice-aggregate-stack Inv-loop μ-loop
 slice-aggregate-stack c = search needs
 
--- src/lib.rt:469:9
 slice-aggregate-memo : tie.Need-slice-aggregate-memo Inv-loop μ-loop
 slice-aggregate-memo c = search needs
 
--- src/lib.rt:473:5
 loop-holds : tie.Need-loop-holds Inv-loop μ-loop
 unfolding zeros
 loop-holds c = let a = c .before .before .before .before .args in (left-start (a .sheet .now) (a .table .now) (a .used) _ (c .before .before .before .before .pre) (search needs), recalls-none _ (a .table .now) (a .used) refl refl)
 
--- src/lib.rt:474:13
 item-at-requires : tie.Need-item-at-requires Inv-loop μ-loop
 item-at-requires c κs = search needs
 
--- src/lib.rt:475:15
 one-turn-requires : tie.Need-one-turn-requires Inv-loop μ-loop
 one-turn-requires c κs = let l = c .before .before .before .before .loop .inv in (l .0 .ready, rw (c .before .before .before .item-at .ensures) (name-in (c .before .before .before .before .before .before .before .before .before .args .sheet .now) (c .before .before .before .before .loop .at)), l .1)
 
--- src/lib.rt:476:33
 enum-known-c : tie.Need-enum-known-c Inv-loop μ-loop
 enum-known-c c = search needs
 
--- src/lib.rt:473:5
 loop-less : tie.Need-loop-less Inv-loop μ-loop
 loop-less c = let a = c .before .before .before .before .before .before .before .before .before .before .before .before .before .before .before .before .before .before .before .before .args in
     let l = c .before .before .before .before .before .before .before .before .before .before .before .before .before .before .before .loop in
@@ -52,7 +46,6 @@ loop-less c = let a = c .before .before .before .before .before .before .before 
     let f = left-less (a .sheet .now) (a .table .now) (a .used) (l .table) (l .stack) (l .count) (l .n) (l .at) (l .inv .0) (c .before .before .before .before .before .before .before .before .before .before .before .before .before .before .item-at .result) (c .before .before .before .before .before .before .before .before .before .before .before .before .before .before .item-at .ensures) _ _ (e .0 .0) (e .0 .1 .0) (rw (e .1) at (c .before .before .before .before .before .before .before .before .before .before .one-turn .ensures .0)) in
     omega (arith, f .0, f .1)
 
--- src/lib.rt:473:5
 loop-again : tie.Need-loop-again Inv-loop μ-loop
 unfolding AfterTurn
 loop-again c = let a = c .before .before .before .before .before .before .before .before .before .before .before .before .before .before .before .before .before .before .before .before .args in
@@ -60,15 +53,12 @@ loop-again c = let a = c .before .before .before .before .before .before .before
     let e = c .before .before .c .given in
     (left-again (a .sheet .now) (a .table .now) (a .used) (l .table) (l .stack) (l .count) (l .n) (l .at) (l .inv .0) (c .before .before .before .before .before .before .before .before .before .before .before .before .before .before .item-at .result) (c .before .before .before .before .before .before .before .before .before .before .before .before .before .before .item-at .ensures) _ _ (e .0 .0) (e .0 .1 .0) (rw (e .1) at (c .before .before .before .before .before .before .before .before .before .before .one-turn .ensures .0)) (c .before .before .before .before .before .before .before .before .before .before .one-turn .kept .1 .1 .0) (c .before .before .before .before .before .before .before .before .before .before .one-turn .kept .1 .1 .1 .1 .0), rw (e .1) at (c .before .before .before .before .before .before .before .before .before .before .one-turn .ensures .1))
 
--- src/lib.rt:482:24
 enum-known-a : tie.Need-enum-known-a Inv-loop μ-loop
 enum-known-a c = search needs
 
--- src/lib.rt:483:17
 same-length : tie.Need-same-length Inv-loop μ-loop
 same-length c = c .before .before .before .before .before .before .before .before .before .before .before .one-turn .kept .1 .1 .1 .1 .0 ∙ c .before .before .before .before .before .before .before .before .before .before .before .before .before .before .before .before .loop .inv .0 .long
 
--- src/lib.rt:483:17
 returns : tie.Need-returns Inv-loop μ-loop
 returns c = let a = c .before .before .before .before .before .before .before .before .before .before .before .before .before .before .before .before .before .before .before .before .before .args in
     let l = c .before .before .before .before .before .before .before .before .before .before .before .before .before .before .before .before .loop in

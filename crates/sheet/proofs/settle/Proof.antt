@@ -1,3 +1,4 @@
+-- `sheet::settle` meets its contract: a value becomes the next of the stack. Assumes nothing.
 use Prim.Native.Nat.{ℕ, _<_}
 use lib.ListN.{length}
 use native.Mathlib.Omega.{arith}
@@ -12,50 +13,39 @@ use Rattle.sheet.proofs.settle.Reads as reads
 use Rattle.sheet.proofs.settle.Lts as lts
 use Rattle.sheet.proofs.value.Reads as value-reads
 
--- src/lib.rt:87:23
 enum-known-a : tie.Need-enum-known-a
 enum-known-a c = search needs
 
--- src/lib.rt:88:27
 value-requires : tie.Need-value-requires
 value-requires c κs = (rw (c .before .a .given .1) at (c .before .before .before .before .pre .2)) .1
 
--- src/lib.rt:88:13
 mul-stack : tie.Need-mul-stack
 mul-stack c = search needs
 
--- src/lib.rt:88:13
 slice-write-stack : tie.Need-slice-write-stack
 slice-write-stack c = let p = c .before .before .before .before .before .pre in let q = (rw (c .before .before .a .given .1) at (p .2)) .0 in omega (arith, p .0, q)
 
--- src/lib.rt:90:24
 add-t10 : tie.Need-add-t10
 add-t10 c = search needs
 
--- src/lib.rt:94:25
 enum-known-a-2 : tie.Need-enum-known-a-2
 enum-known-a-2 c = search needs
 
--- src/lib.rt:98:25
 enum-known-a-3 : tie.Need-enum-known-a-3
 enum-known-a-3 c = search needs
 
--- src/lib.rt:82:1
 same-length : tie.Need-same-length
 same-length c = search needs
 
--- src/lib.rt:82:1
 returns : tie.Need-returns
 returns c = let e = c .before .before .a .given in
     let p = c .before .before .before .before .before .pre in
     let q = (rw (e .1) at (p .2)) .0 in
     rw (e .1) (settle-value (c .before .before .before .before .before .args .base) (c .before .before .before .before .before .args .stack .now) (e .0 .0) (e .0 .1 .0) (c .value .result) (c .value .ensures) (omega (arith, p .0, q)) q)
 
--- src/lib.rt:82:1
 returns-2 : tie.Need-returns-2
 returns-2 c = let e = c .before .a2 .given in rw (e .1) (settle-silent (c .before .before .before .before .args .base) (c .before .before .before .before .args .stack .now) (e .0 .0) (c .before .before .before .before .pre .1))
 
--- src/lib.rt:82:1
 returns-3 : tie.Need-returns-3
 returns-3 c = let e = c .before .a3 .given in rw (e .1) (settle-refused (c .before .before .before .before .args .base) (c .before .before .before .before .args .stack .now) (e .0 .0))
 

@@ -1,3 +1,4 @@
+-- `sheet::step` meets its contract: each item by the function of its kind. Assumes nothing.
 use mathlib.Core.Path.{refl}
 use Rattle.sheet.proofs.MemoLaws.{stepped}
 use Rattle.sheet.proofs.Effects.{refusing}
@@ -19,178 +20,136 @@ use Rattle.sheet.proofs.take_in.Reads as take-in-reads
 use Rattle.sheet.proofs.unary_by.Reads as unary-by-reads
 use Rattle.sheet.proofs.wide32.Reads as wide32-reads
 
--- src/lib.rt:385:20
 enum-known-item : tie.Need-enum-known-item
 enum-known-item c = search needs
 
--- src/lib.rt:385:26
 push-requires : tie.Need-push-requires
 push-requires c κs = search needs
 
--- src/lib.rt:386:21
 enum-known-item-2 : tie.Need-enum-known-item-2
 enum-known-item-2 c = search needs
 
--- src/lib.rt:386:28
 unary-by-requires : tie.Need-unary-by-requires
 unary-by-requires c κs = search needs
 
--- src/lib.rt:387:22
 enum-known-item-3 : tie.Need-enum-known-item-3
 enum-known-item-3 c = search needs
 
--- src/lib.rt:387:29
 binary-by-requires : tie.Need-binary-by-requires
 binary-by-requires c κs = search needs
 
--- src/lib.rt:388:29
 enum-known-item-4 : tie.Need-enum-known-item-4
 enum-known-item-4 c = search needs
 
--- src/lib.rt:389:17
 part-of-requires : tie.Need-part-of-requires
 part-of-requires c κs = rw (c .before .item4 .given .1) at (c .before .before .before .before .before .before .before .pre .1)
 
--- src/lib.rt:390:13
 call-requires : tie.Need-call-requires
 call-requires c κs = search needs
 
--- src/lib.rt:393:13
 enum-known-item-5 : tie.Need-enum-known-item-5
 enum-known-item-5 c = search needs
 
--- src/lib.rt:397:17
 part-of-requires-2 : tie.Need-part-of-requires-2
 part-of-requires-2 c κs = rw (c .before .item5 .given .1) at (c .before .before .before .before .before .before .before .pre .1)
 
--- src/lib.rt:398:13
 call-template-requires : tie.Need-call-template-requires
 call-template-requires c κs = search needs
 
--- src/lib.rt:400:22
 enum-known-item-6 : tie.Need-enum-known-item-6
 enum-known-item-6 c = search needs
 
--- src/lib.rt:402:23
 wide32-requires : tie.Need-wide32-requires
 wide32-requires c κs = search needs
 
--- src/lib.rt:404:20
 wide32-requires-2 : tie.Need-wide32-requires-2
 wide32-requires-2 c κs = search needs
 
--- src/lib.rt:405:23
 wide32-requires-3 : tie.Need-wide32-requires-3
 wide32-requires-3 c κs = search needs
 
--- src/lib.rt:407:13
 take-in-requires : tie.Need-take-in-requires
 take-in-requires c κs = search needs
 
--- src/lib.rt:409:22
 enum-told : tie.Need-enum-told
 enum-told c = search needs
 
--- src/lib.rt:410:30
 enum-told-2 : tie.Need-enum-told-2
 enum-told-2 c = search needs
 
--- src/lib.rt:410:22
 stopped-requires : tie.Need-stopped-requires
 stopped-requires c κs = search needs
 
--- src/lib.rt:371:1
 same-length : tie.Need-same-length
 same-length c = search needs
 
--- src/lib.rt:371:1
 same-length-2 : tie.Need-same-length-2
 same-length-2 c = search needs
 
--- src/lib.rt:371:1
 returns : tie.Need-returns
 unfolding effectOf
 returns c = let a = c .before .before .before .before .before .before .before .before .before .before .before .before .args in let p = c .before .before .before .before .before .before .before .before .before .before .before .before .pre in stepped (a .place .0) (stateOf (a .count) (a .stack .now) (a .used) (a .table .now)) (p .0 .good) (a .sheet .now) (a .item) _ _ _ (a .memo .now) (p .2) (rw (c .before .before .before .before .before .before .item .given .1) (c .before .before .push .ensures))
 
--- src/lib.rt:371:1
 same-length-3 : tie.Need-same-length-3
 same-length-3 c = search needs
 
--- src/lib.rt:371:1
 same-length-4 : tie.Need-same-length-4
 same-length-4 c = search needs
 
--- src/lib.rt:371:1
 same-length-5 : tie.Need-same-length-5
 same-length-5 c = search needs
 
--- src/lib.rt:371:1
 returns-2 : tie.Need-returns-2
 unfolding effectOf
 returns-2 c = rw (c .before .before .before .before .before .before .before .before .before .before .before .item2 .given .1) (c .before .before .before .before .before .before .unary-by .ensures)
 
--- src/lib.rt:371:1
 same-length-6 : tie.Need-same-length-6
 same-length-6 c = search needs
 
--- src/lib.rt:371:1
 same-length-7 : tie.Need-same-length-7
 same-length-7 c = search needs
 
--- src/lib.rt:371:1
 same-length-8 : tie.Need-same-length-8
 same-length-8 c = search needs
 
--- src/lib.rt:371:1
 returns-3 : tie.Need-returns-3
 unfolding effectOf
 returns-3 c = rw (c .before .before .before .before .before .before .before .before .before .before .before .item3 .given .1) (c .before .before .before .before .before .before .binary-by .ensures)
 
--- src/lib.rt:371:1
 same-length-9 : tie.Need-same-length-9
 same-length-9 c = search needs
 
--- src/lib.rt:371:1
 same-length-10 : tie.Need-same-length-10
 same-length-10 c = search needs
 
--- src/lib.rt:371:1
 returns-4 : tie.Need-returns-4
 unfolding effectOf
 returns-4 c = let a = c .before .before .before .before .before .before .before .before .before .before .before .before .before .before .before .args in let p = c .before .before .before .before .before .before .before .before .before .before .before .before .before .before .before .pre in stepped (a .place .0) (stateOf (a .count) (a .stack .now) (a .used) (a .table .now)) (p .0 .good) (a .sheet .now) (a .item) _ _ _ (a .memo .now) (p .2) (rw (c .before .before .before .before .before .before .before .before .before .item4 .given .1) (rw (c .before .before .before .before .before .before .before .part-of .ensures .bytes) at (c .before .before .before .before .call .ensures)))
 
--- src/lib.rt:371:1
 same-length-11 : tie.Need-same-length-11
 same-length-11 c = search needs
 
--- src/lib.rt:371:1
 same-length-12 : tie.Need-same-length-12
 same-length-12 c = search needs
 
--- src/lib.rt:371:1
 returns-5 : tie.Need-returns-5
 unfolding effectOf
 returns-5 c = let a = c .before .before .before .before .before .before .before .before .before .before .before .before .before .before .before .args in let p = c .before .before .before .before .before .before .before .before .before .before .before .before .before .before .before .pre in stepped (a .place .0) (stateOf (a .count) (a .stack .now) (a .used) (a .table .now)) (p .0 .good) (a .sheet .now) (a .item) _ _ _ (a .memo .now) (p .2) (rw (c .before .before .before .before .before .before .before .before .before .item5 .given .1) (rw (c .before .before .before .before .before .before .before .part-of2 .ensures .bytes) at (c .before .before .before .before .call-template .ensures)))
 
--- src/lib.rt:371:1
 same-length-13 : tie.Need-same-length-13
 same-length-13 c = search needs
 
--- src/lib.rt:371:1
 same-length-14 : tie.Need-same-length-14
 same-length-14 c = search needs
 
--- src/lib.rt:371:1
 returns-6 : tie.Need-returns-6
 unfolding effectOf
 returns-6 c = let a = c .before .before .before .before .before .before .before .before .before .before .before .before .before .before .before .before .before .args in let p = c .before .before .before .before .before .before .before .before .before .before .before .before .before .before .before .before .before .pre in stepped (a .place .0) (stateOf (a .count) (a .stack .now) (a .used) (a .table .now)) (p .0 .good) (a .sheet .now) (a .item) _ _ _ (a .memo .now) (p .2) (rw (c .before .before .before .before .before .before .before .before .before .before .before .item6 .given .1) (rw (c .before .before .before .before .before .before .before .before .before .wide32 .ensures, c .before .before .before .before .before .before .before .before .wide322 .ensures, c .before .before .before .before .before .before .before .wide323 .ensures) at (c .before .before .before .before .take-in .ensures)))
 
--- src/lib.rt:371:1
 returns-7 : tie.Need-returns-7
 unfolding effectOf effectBy Counted
 returns-7 c = let a = c .before .before .before .before .before .before .args in let p = c .before .before .before .before .before .before .pre in stepped (a .place .0) (stateOf (a .count) (a .stack .now) (a .used) (a .table .now)) (p .0 .good) (a .sheet .now) (a .item) _ _ _ (a .memo .now) (p .2) (rw (c .enum-told .given .1) (record { effect = refl; counted = p .0 .fits }))
 
--- src/lib.rt:371:1
 returns-8 : tie.Need-returns-8
 unfolding effectOf
 returns-8 c = let a = c .before .before .before .before .before .before .before .args in let p = c .before .before .before .before .before .before .before .pre in stepped (a .place .0) (stateOf (a .count) (a .stack .now) (a .used) (a .table .now)) (p .0 .good) (a .sheet .now) (a .item) _ _ _ (a .memo .now) (p .2) (rw (c .before .enum-told2 .given .1) (refusing (a .place) (a .count) (a .stack .now) (a .used) (a .table .now) Framing (c .stopped .ensures) refl))

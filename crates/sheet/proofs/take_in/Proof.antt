@@ -1,3 +1,4 @@
+-- `sheet::take_in` meets its contract: 5, 11, then the entry. Assumes nothing.
 use mathlib.Core.Path.{sym, _∙_}
 use borrow.Author.Tests.{not-true, not-false}
 use Rattle.sheet.proofs.Items.{take-pushes, take-does}
@@ -14,58 +15,45 @@ use Rattle.sheet.proofs.stopped.Reads as stopped-reads
 use Rattle.table.proofs.allowed.Reads as allowed-reads
 use Rattle.table.proofs.enter.Reads as enter-reads
 
--- src/lib.rt:235:9
 allowed-requires : tie.Need-allowed-requires
 allowed-requires c κs = search needs
 
--- src/lib.rt:236:9
 stopped-requires : tie.Need-stopped-requires
 stopped-requires c κs = search needs
 
--- src/lib.rt:236:9
 same-length : tie.Need-same-length
 same-length c = search needs
 
--- src/lib.rt:236:9
 returns : tie.Need-returns
 returns c = let a = c .before .before .before .before .before .before .args in
     refusing (a .place) (a .count) (a .stack .now) (a .used) (a .table .now) Template (c .stopped .ensures) (take-wrong (a .place) (a .count) (a .stack .now) (a .used) (a .table .now) (c .before .before .before .before .before .before .pre) (a .e) (sym (c .before .before .allowed .ensures) ∙ not-true _ (c .before .if1 .taken)))
 
--- src/lib.rt:239:9
 stopped-requires-2 : tie.Need-stopped-requires-2
 stopped-requires-2 c κs = search needs
 
--- src/lib.rt:239:9
 same-length-2 : tie.Need-same-length-2
 same-length-2 c = search needs
 
--- src/lib.rt:239:9
 returns-2 : tie.Need-returns-2
 returns-2 c = let a = c .before .before .before .before .before .before .before .args in
     refusing (a .place) (a .count) (a .stack .now) (a .used) (a .table .now) Stack (c .stopped2 .ensures) (take-full (a .place) (a .count) (a .stack .now) (a .used) (a .table .now) (c .before .before .before .before .before .before .before .pre) (a .e) (sym (c .before .before .before .allowed .ensures) ∙ not-false _ (c .before .before .if1 .left)) (c .before .if2 .taken))
 
--- src/lib.rt:241:9
 enter-requires : tie.Need-enter-requires
 enter-requires c κs = search needs
 
--- src/lib.rt:242:26
 answer-of-requires : tie.Need-answer-of-requires
 answer-of-requires c κs = search needs
 
--- src/lib.rt:242:5
 settle-requires : tie.Need-settle-requires
 settle-requires c κs = let a = c .before .before .before .before .before .before .before .before .before .before .before .before .args in
     (c .before .before .before .before .before .before .before .before .before .before .before .before .pre .size, c .before .before .before .before .before .before .before .before .before .before .before .before .pre .fits, take-pushes (a .place) (a .count) (a .stack .now) (a .used) (a .table .now) (c .before .before .before .before .before .before .before .before .before .before .before .before .pre) (a .e) (sym (c .before .before .before .before .before .before .before .before .allowed .ensures) ∙ not-false _ (c .before .before .before .before .before .before .before .if1 .left)) (c .before .before .before .before .before .before .if2 .left) (c .before .before .before .before .enter .result) _ (c .before .before .before .before .enter .ensures) (c .answer-of .ensures))
 
--- src/lib.rt:224:1
 same-length-3 : tie.Need-same-length-3
 same-length-3 c = search needs
 
--- src/lib.rt:224:1
 same-length-4 : tie.Need-same-length-4
 same-length-4 c = search needs
 
--- src/lib.rt:224:1
 returns-3 : tie.Need-returns-3
 returns-3 c = let a = c .before .before .before .before .before .before .before .before .before .before .before .before .before .before .before .args in
     take-does (a .place) (a .count) (a .stack .now) (a .used) (a .table .now) (c .before .before .before .before .before .before .before .before .before .before .before .before .before .before .before .pre) (a .e) (sym (c .before .before .before .before .before .before .before .before .before .before .before .allowed .ensures) ∙ not-false _ (c .before .before .before .before .before .before .before .before .before .before .if1 .left)) (c .before .before .before .before .before .before .before .before .before .if2 .left) (c .before .before .before .before .before .before .before .enter .result) _ (c .before .before .before .before .before .before .before .enter .ensures) (c .before .before .before .answer-of .ensures) (c .before .before .settle .ensures)

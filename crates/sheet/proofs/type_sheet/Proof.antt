@@ -1,3 +1,4 @@
+-- `sheet::type_sheet` meets its contract: 1, the header, then the run. Assumes nothing.
 use Rattle.sheet.proofs.Running.{sheet-unsound, sheet-unheaded, sheet-runs}
 use Rattle.ruled.proofs.Outcomes.{gave-as, gave-refused}
 use Rattle.table.proofs.SoundLaws.{sound-of}
@@ -13,49 +14,38 @@ use Rattle.sheet.proofs.run.Reads as run-reads
 use Rattle.table.proofs.refused.Reads as refused-reads
 use Rattle.table.proofs.sound.Reads as sound-reads
 
--- src/lib.rt:364:9
 sound-requires : tie.Need-sound-requires
 sound-requires c κs = search needs
 
--- src/lib.rt:365:9
 refused-requires : tie.Need-refused-requires
 refused-requires c κs = search needs
 
--- src/lib.rt:365:9
 same-length : tie.Need-same-length
 same-length c = search needs
 
--- src/lib.rt:365:9
 returns : tie.Need-returns
 returns c = let a = c .before .before .before .before .before .before .args in
     gave-as (sheet-unsound (a .words .now) (a .n) (a .sheet .now) (sym (c .before .before .sound .ensures) ∙ not-true _ (c .before .if1 .taken))) (gave-refused _ _ (a .words .now) (a .n) (c .refused .ensures))
 
--- src/lib.rt:367:9
 header-requires : tie.Need-header-requires
 header-requires c κs = search needs
 
--- src/lib.rt:368:9
 refused-requires-2 : tie.Need-refused-requires-2
 refused-requires-2 c κs = search needs
 
--- src/lib.rt:368:9
 same-length-2 : tie.Need-same-length-2
 same-length-2 c = search needs
 
--- src/lib.rt:368:9
 returns-2 : tie.Need-returns-2
 returns-2 c = let a = c .before .before .before .before .before .before .before .before .args in
     gave-as (sheet-unheaded (a .words .now) (a .n) (a .sheet .now) (sym (c .before .before .before .before .sound .ensures) ∙ not-false _ (c .before .before .before .if1 .left)) (sym (c .before .before .header .ensures) ∙ not-true _ (c .before .if2 .taken))) (gave-refused _ _ (a .words .now) (a .n) (c .refused2 .ensures))
 
--- src/lib.rt:370:5
 run-requires : tie.Need-run-requires
 run-requires c κs = let a = c .before .before .before .before .before .before .before .before .args in sound-of (a .words .now) (a .n) (sym (c .before .before .before .before .sound .ensures) ∙ not-false _ (c .before .before .before .if1 .left))
 
--- src/lib.rt:361:1
 same-length-3 : tie.Need-same-length-3
 same-length-3 c = search needs
 
--- src/lib.rt:361:1
 returns-3 : tie.Need-returns-3
 returns-3 c = let a = c .before .before .before .before .before .before .before .before .before .before .before .args in
     gave-as (sheet-runs (a .words .now) (a .n) (a .sheet .now) (sym (c .before .before .before .before .before .before .before .sound .ensures) ∙ not-false _ (c .before .before .before .before .before .before .if1 .left)) (sym (c .before .before .before .before .before .header .ensures) ∙ not-false _ (c .before .before .before .before .if2 .left))) (c .before .before .run .ensures)

@@ -1,3 +1,4 @@
+-- `sheet::unary` meets its contract: one value leaves the stack, and the answer of `unary_at` on it is put in its place. Assumes nothing.
 use native.Mathlib.Omega.{arith}
 use Rattle.sheet.proofs.Items.{unary-under, unary-pushes, unary-does}
 use Rattle.sheet.proofs.Effects.{refusing, unary-short}
@@ -13,50 +14,39 @@ use Rattle.sheet.proofs.settle.Reads as settle-reads
 use Rattle.sheet.proofs.stopped.Reads as stopped-reads
 use Rattle.sheet.proofs.wide.Reads as wide-reads
 
--- src/lib.rt:131:9
 stopped-requires : tie.Need-stopped-requires
 stopped-requires c κs = search needs
 
--- src/lib.rt:131:9
 returns : tie.Need-returns
 returns c = let a = c .before .before .before .before .args in
     refusing (a .place) (a .count) (a .stack .now) (a .used) (a .table .now) Stack (c .stopped .ensures) (unary-short (a .place) (a .count) (a .stack .now) (a .used) (a .table .now) (c .before .before .before .before .pre) (a .op) (c .before .if1 .taken))
 
--- src/lib.rt:134:20
 mul-number : tie.Need-mul-number
 mul-number c = search needs
 
--- src/lib.rt:134:20
 slice-read-number : tie.Need-slice-read-number
 slice-read-number c = search needs
 
--- src/lib.rt:134:9
 number-requires : tie.Need-number-requires
 number-requires c κs = search needs
 
--- src/lib.rt:135:50
 wide-requires : tie.Need-wide-requires
 wide-requires c κs = search needs
 
--- src/lib.rt:135:9
 unary-at-requires : tie.Need-unary-at-requires
 unary-at-requires c κs = let a = c .before .before .before .before .before .before .before .args in
     (c .before .before .before .before .before .before .before .pre .good .sound, unary-under (a .place) (a .count) (a .stack .now) (a .used) (a .table .now) (c .before .before .before .before .before .before .before .pre) (a .op) (c .wide .result) (c .before .before .number .result .0) (c .wide .ensures) (c .before .before .number .ensures) (c .before .before .before .before .if1 .left))
 
--- src/lib.rt:136:5
 settle-requires : tie.Need-settle-requires
 settle-requires c κs = let a = c .before .before .before .before .before .before .before .before .before .before .before .args in
     (c .before .before .before .before .before .before .before .before .before .before .before .pre .size, omega (arith, c .before .before .before .before .before .before .before .before .before .before .before .pre .fits), unary-pushes (a .place) (a .count) (a .stack .now) (a .used) (a .table .now) (c .before .before .before .before .before .before .before .before .before .before .before .pre) (a .op) (c .before .before .before .before .wide .result) (c .before .before .before .before .before .before .number .result .0) (c .before .before .before .before .wide .ensures) (c .before .before .before .before .before .before .number .ensures) (c .before .before .before .before .before .before .before .before .if1 .left) (c .before .before .before .unary-at .ensures))
 
--- src/lib.rt:119:1
 same-length : tie.Need-same-length
 same-length c = search needs
 
--- src/lib.rt:119:1
 same-length-2 : tie.Need-same-length-2
 same-length-2 c = search needs
 
--- src/lib.rt:119:1
 returns-2 : tie.Need-returns-2
 returns-2 c = let a = c .before .before .before .before .before .before .before .before .before .before .before .before .before .before .args in
     unary-does (a .place) (a .count) (a .stack .now) (a .used) (a .table .now) (c .before .before .before .before .before .before .before .before .before .before .before .before .before .before .pre) (a .op) (c .before .before .before .before .before .before .before .wide .result) (c .before .before .before .before .before .before .before .before .before .number .result .0) (c .before .before .before .before .before .before .before .wide .ensures) (c .before .before .before .before .before .before .before .before .before .number .ensures) (c .before .before .before .before .before .before .before .before .before .before .before .if1 .left) (c .before .before .before .before .before .before .unary-at .ensures) (c .before .before .settle .ensures)

@@ -1,3 +1,4 @@
+-- `sheet::unary_by` meets its contract: a value that the memo has is the one that `unary` gives; else `unary` types, and what it left is noted. Assumes nothing.
 use Rattle.sheet.proofs.MemoLaws.{unary-value, unary-hit, unary-plain, unary-leaves, unary-after, key-small, neither}
 use Rattle.sheet.specs.Memo.{After, keyOf}
 use borrow.Author.Tests.{ltb-false, leb-false}
@@ -16,45 +17,35 @@ use Rattle.sheet.proofs.recall.Reads as recall-reads
 use Rattle.sheet.proofs.unary.Reads as unary-reads
 use Rattle.sheet.proofs.wide32.Reads as wide32-reads
 
--- src/lib.rt:240:9
 unary-requires : tie.Need-unary-requires
 unary-requires c κs = search needs
 
--- src/lib.rt:240:9
 same-length : tie.Need-same-length
 same-length c = search needs
 
--- src/lib.rt:240:9
 same-length-2 : tie.Need-same-length-2
 same-length-2 c = search needs
 
--- src/lib.rt:240:9
 returns : tie.Need-returns
 returns c = let a = c .before .before .before .before .before .before .before .before .before .before .before .args in
     let p = c .before .before .before .before .before .before .before .before .before .before .before .pre in
     (c .before .before .before .before .unary .ensures, unary-plain (a .place) (a .count) (a .stack .now) (a .used) (a .table .now) (p .0) (a .memo .now) (p .1) (a .op) (c .before .before .before .before .unary .result) _ _ (c .before .before .before .before .unary .ensures))
 
--- src/lib.rt:242:16
 sub-base : tie.Need-sub-base
 sub-base c = let n = neither _ _ (c .if1 .left) in ltb-false _ _ (n .0)
 
--- src/lib.rt:243:36
 wide32-requires : tie.Need-wide32-requires
 wide32-requires c κs = search needs
 
--- src/lib.rt:243:22
 add-key-of : tie.Need-add-key-of
 add-key-of c = search needs
 
--- src/lib.rt:243:48
 mul-key-of : tie.Need-mul-key-of
 mul-key-of c = search needs
 
--- src/lib.rt:243:48
 slice-read-key-of : tie.Need-slice-read-key-of
 slice-read-key-of c = search needs
 
--- src/lib.rt:243:9
 key-of-requires : tie.Need-key-of-requires
 key-of-requires c κs = let a = c .before .before .before .before .before .before .args in
     let p = c .before .before .before .before .before .before .pre in
@@ -63,27 +54,21 @@ key-of-requires c κs = let a = c .before .before .before .before .before .befor
     let o : a .op < 5 = leb-false _ _ (n .1) in
     (omega (arith, c .before .wide32 .ensures, o), unary-value (a .place) (a .count) (a .stack .now) (a .used) (a .table .now) (p .0) (a .memo .now) (p .1) h, omega arith)
 
--- src/lib.rt:244:9
 recall-requires : tie.Need-recall-requires
 recall-requires c κs = search needs
 
--- src/lib.rt:246:9
 mul-stack : tie.Need-mul-stack
 mul-stack c = search needs
 
--- src/lib.rt:246:9
 slice-write-stack : tie.Need-slice-write-stack
 slice-write-stack c = search needs
 
--- src/lib.rt:247:9
 same-length-3 : tie.Need-same-length-3
 same-length-3 c = search needs
 
--- src/lib.rt:247:9
 same-length-4 : tie.Need-same-length-4
 same-length-4 c = search needs
 
--- src/lib.rt:247:9
 returns-2 : tie.Need-returns-2
 unfolding After
 returns-2 c = let a = c .before .before .before .before .before .before .before .before .before .before .args in
@@ -95,11 +80,9 @@ returns-2 c = let a = c .before .before .before .before .before .before .before 
     let k = c .before .before .before .key-of .ensures ∙ ap (λ x. keyOf x (getD (a .stack .now) (a .count - 1) 0) 0) q in
     (unary-hit (a .place) (a .count) (a .stack .now) (a .used) (a .table .now) (p .0) (a .memo .now) (p .1) (a .op) (c .before .before .before .key-of .result) (c .before .recall .result) h o k (c .before .recall .ensures) (c .if2 .taken), p .1)
 
--- src/lib.rt:249:9
 unary-requires-2 : tie.Need-unary-requires-2
 unary-requires-2 c κs = search needs
 
--- src/lib.rt:250:5
 note-did-requires : tie.Need-note-did-requires
 note-did-requires c κs = let a = c .before .before .before .before .before .before .before .before .before .before .before .before .before .before .before .before .before .before .before .args in
     let p = c .before .before .before .before .before .before .before .before .before .before .before .before .before .before .before .before .before .before .before .pre in
@@ -110,19 +93,15 @@ note-did-requires c κs = let a = c .before .before .before .before .before .bef
     let z = key-small (19 + c .before .before .before .before .before .before .before .before .before .before .before .before .before .before .wide32 .result) _ 0 l (unary-value (a .place) (a .count) (a .stack .now) (a .used) (a .table .now) (p .0) (a .memo .now) (p .1) h) (omega arith) in
     (p .1 .size, rw (c .before .before .before .before .before .before .before .before .before .before .before .before .key-of .ensures) z, unary-leaves (a .place) (a .count) (a .stack .now) (a .used) (a .table .now) (p .0) (a .memo .now) (p .1) (a .op) (c .before .before .before .before .before .before .unary2 .result) _ _ (c .before .before .before .before .before .before .unary2 .ensures) h (c .before .before .before .before .before .before .unary2 .kept .1 .1 .0 ∙ p .0 .size))
 
--- src/lib.rt:227:1
 same-length-5 : tie.Need-same-length-5
 same-length-5 c = search needs
 
--- src/lib.rt:227:1
 same-length-6 : tie.Need-same-length-6
 same-length-6 c = search needs
 
--- src/lib.rt:227:1
 same-length-7 : tie.Need-same-length-7
 same-length-7 c = search needs
 
--- src/lib.rt:227:1
 returns-3 : tie.Need-returns-3
 returns-3 c = let a = c .before .before .before .before .before .before .before .before .before .before .before .before .before .before .before .before .before .before .before .before .before .before .args in
     let p = c .before .before .before .before .before .before .before .before .before .before .before .before .before .before .before .before .before .before .before .before .before .before .pre in
