@@ -11,10 +11,8 @@ use borrow.Author.Tests.{ltb-true}
 use Rattle.conv.specs.Rank.{both}
 use Rattle.conv.proofs.Finite.{below, both-left, both-right}
 use Rattle.names.specs.Names.{bytes, Row, names, nameAt, sameBytes, Known, ruleIn, ruleOf, noRow, count, overloadRows, ruleBitcast, ruleWorkgroupBarrier}
-use Rattle.names.specs.Search.{ruleAt, width, Located}
+use Rattle.names.specs.Search.{ruleAt, width}
 use Rattle.names.specs.Names.Known.{known, unknown}
-use Rattle.names.specs.declared.Found.{Found}
-use Rattle.names.specs.declared.Found.the-variants.{At, Nowhere}
 use Rattle.names.proofs.Bytes.{differ}
 
 -- there are 94, none longer than a row is wide
@@ -52,16 +50,6 @@ absent (r ∷ rs) s n = rw (differ (r .name) s (n zero (suc-le-suc zero-le))) (a
 pub missing : (s : List ℕ) → ((k : ℕ) → k < count → nameAt k ≡ s → ⊥) → ruleOf s ≡ unknown
 unfolding nameAt
 missing s n = absent names s (λ k h. n k (rw counted at h))
-
--- what a search's answer says in each of its cases
-
-pub at-place : (f : Found) (s : List ℕ) (k : ℕ) → f ≡ At k → Located f s → (k < count) × (nameAt k ≡ s)
-unfolding Located
-at-place f s k e h = rw e at h
-
-pub at-none : (f : Found) (s : List ℕ) → f ≡ Nowhere → Located f s → (k : ℕ) → k < count → nameAt k ≡ s → ⊥
-unfolding Located
-at-none f s e h = rw e at h
 
 -- EVERY RULE IS A ROW OF OVERLOADS OR A CRATE RULE
 

@@ -1,32 +1,22 @@
--- A flat table of rows of one width holds the names, each filled up with zeros: one test that goes down the rows, and the law that turns it into the letter
--- at each place. Assumes nothing.
-use Prim.Native.Nat.{ℕ, zero, suc, _+_, _*_, _<_}
-use native.Mathlib.Nat.{le-of-suc-le-suc, not-suc-le-zero, zero-mul, suc-mul, zero-add}
-use native.Mathlib.Omega.{arith}
-use mathlib.Core.Path.{_≡_}
-use mathlib.Core.Bool.{Bool, true}
-use mathlib.Core.List.{List, [], _∷_}
-use lib.Dec.{T, eqb}
-use lib.ListN.{length, getD, drop}
-use lib.Seq.{getD-drop}
-use Rattle.conv.specs.Rank.{both}
-use Rattle.conv.proofs.Finite.{both-left, both-right, all, table}
-use Rattle.names.specs.Names.{Row, noRow}
+-- A leaf of the table holds the names of its rows, each filled up with zeros: one test of its letters. Assumes nothing.
+use Prim.Native.Nat.{ℕ, _+_, _*_}
+use mathlib.Core.Path.{_≡_, sym, subst}
+use mathlib.Core.Bool.{Bool}
+use mathlib.Core.List.{List}
+use lib.Dec.{T, eqb, eqb→eq}
+use lib.ListN.{getD}
+use Rattle.conv.proofs.Finite.{all, below}
+use Rattle.names.specs.Search.{letterAt, width, leafRows, HoldsLetters}
 
-isName : ℕ → Row → List ℕ → Bool
-isName w r t = all w (λ i. eqb (getD t i 0) (getD (r .name) i 0))
+isLetter : List ℕ → ℕ → ℕ → ℕ → Bool
+isLetter t leaf k i = eqb (getD t (k * width + i) 0) (letterAt (leaf * leafRows + k) i)
 
-unfoldable pub holds : ℕ → List Row → List ℕ → Bool
-unfolding isName
-holds w [] t = true
-holds w (r ∷ rs) t = both (isName w r t) (holds w rs (drop w t))
+unfoldable pub holds : ℕ → List ℕ → Bool
+unfolding isLetter
+holds leaf t = all leafRows (λ k. all width (isLetter t leaf k))
 
-pub letters : (w : ℕ) (rs : List Row) (t : List ℕ) → T (holds w rs t) → (k i : ℕ) → k < length rs → i < w
-    → getD t (k * w + i) 0 ≡ getD (getD rs k noRow .name) i 0
-unfolding holds isName
-letters w [] t h k i hk hi = absurd (not-suc-le-zero hk)
-letters w (r ∷ rs) t h zero i hk hi =
-    rw (zero-mul w, zero-add i) (table (λ i. getD (r .name) i 0) w t (both-left (isName w r t) (holds w rs (drop w t)) h) i hi)
-letters w (r ∷ rs) t h (suc k) i hk hi =
-    let e : suc k * w + i ≡ w + (k * w + i) = rw suc-mul (omega arith) in
-    rw (e, ← getD-drop w t (k * w + i) 0) (letters w rs (drop w t) (both-right (isName w r t) _ h) k i (le-of-suc-le-suc hk) hi)
+pub leaf-line : (leaf : ℕ) {n : ℕ} (t : List ℕ) → T (holds leaf t) → n ≡ leaf → HoldsLetters n t
+unfolding isLetter holds
+leaf-line leaf {n} t h e =
+    subst (λ (n : ℕ). HoldsLetters n t) (sym e)
+    (record { letter = λ k i hk hi. eqb→eq _ _ (below width (isLetter t leaf k) (below leafRows (λ k. all width (isLetter t leaf k)) h k hk) i hi) })

@@ -1,5 +1,5 @@
 -- `names::is_named` meets its contract. The loop's invariant: at every place passed the two names have the same letter. Assumes nothing.
-use Prim.Native.Nat.{ℕ, _+_, _*_, _≤_, _<_, _-_}
+use Prim.Native.Nat.{ℕ, _+_, _*_, _/_, _%_, _≤_, _<_, _-_}
 use mathlib.Core.Path.{_≡_, sym, _∙_, ap}
 use mathlib.Core.List.{List}
 use native.Mathlib.Omega.{arith}
@@ -7,7 +7,7 @@ use lib.ListN.{length, getD}
 use borrow.Author.Needs.{needs}
 use borrow.Author.Count.{below-more}
 use Rattle.names.specs.Names.{nameAt}
-use Rattle.names.specs.Search.{letterAt, width}
+use Rattle.names.specs.Search.{letterAt, width, leafRows}
 use Rattle.names.proofs.Bytes.{differ, alike}
 use Rattle.names.proofs.Rows.{short}
 use Rattle.names.proofs.is_named.Statement.{statement}
@@ -28,7 +28,7 @@ wide-requires c κs = search needs
 returns : tie.Need-returns Inv-loop μ-loop
 returns c =
     let p = c .before .before .before .before .pre in
-    sym (differ _ _ (λ e. c .if1 .taken (c .before .wide .ensures ∙ p .2 _ (p .0) ∙ ap length e)))
+    sym (differ _ _ (λ e. c .if1 .taken (c .before .wide .ensures .0 ∙ p .2 _ (p .0) ∙ ap length e)))
 
 mul-start : tie.Need-mul-start Inv-loop μ-loop
 mul-start c = search needs
@@ -39,7 +39,7 @@ loop-holds c = search needs
 -- at the loop the two names are as long as each other, so a place inside it lies in the row
 
 as-long : (c : tie.At-loop Inv-loop μ-loop) → length (nameAt (c .before .before .before .before .before .args .row)) ≡ length (c .before .before .before .before .before .args .name .now)
-as-long c = let p = c .before .before .before .before .before .pre in sym (p .2 _ (p .0)) ∙ sym (c .before .before .wide .ensures) ∙ c .before .if1 .left
+as-long c = let p = c .before .before .before .before .before .pre in sym (p .2 _ (p .0)) ∙ sym (c .before .before .wide .ensures .0) ∙ c .before .if1 .left
 
 inside : (c : tie.In-loop Inv-loop μ-loop) → c .before .loop .i < width
 inside c = omega (arith, short _ (c .before .before .before .before .before .before .pre .0), as-long (c .before))
@@ -55,9 +55,13 @@ shared-slice-read-if2 c = search needs
 
 -- and the letter there is the name's
 letter : (c : tie.In-loop Inv-loop μ-loop)
-    → getD (c .before .before .before .before .before .before .args .letters .now) (c .before .before .before .before .before .before .args .row * width + c .before .loop .i) 0
+    → getD (c .before .before .before .before .before .before .args .letters .now) (c .before .before .before .before .before .before .args .row % leafRows * width + c .before .loop .i) 0
     ≡ letterAt (c .before .before .before .before .before .before .args .row) (c .before .loop .i)
-letter c = let p = c .before .before .before .before .before .before .pre in p .1 _ _ (p .0) (inside c)
+letter c =
+    let p = c .before .before .before .before .before .before .pre in
+    let row = c .before .before .before .before .before .before .args .row in
+    let e : row / leafRows * leafRows + row % leafRows ≡ row = omega arith in
+    p .1 .letter (row % leafRows) _ (omega arith) (inside c) ∙ ap (λ (k : ℕ). letterAt k (c .before .loop .i)) e
 
 returns-2 : tie.Need-returns-2 Inv-loop μ-loop
 unfolding letterAt

@@ -1,33 +1,53 @@
--- `names::rule_of` meets its contract: a name that stands at a place has the rule of that place, and one that stands nowhere has none. Assumes nothing.
+-- `names::rule_of` meets its contract: a name that stands at a row has the rule of that row, and the only row where it can stand is that of its slot.
+-- Assumes nothing.
 use mathlib.Core.Path.{sym, _∙_, ap}
 use borrow.Author.Needs.{needs}
+use native.Mathlib.Omega.{arith}
 use Rattle.names.specs.Names.{ruleOf, said}
 use Rattle.names.specs.Names.Known.{known}
-use Rattle.names.proofs.Rows.{found, missing, at-place, at-none}
+use Rattle.names.specs.Search.{rowOfSlot}
+use Rattle.names.proofs.Bytes.{same-bytes}
+use Rattle.names.proofs.Rows.{found}
+use Rattle.names.proofs.Slots.{too-long, no-row, other-name}
 use Rattle.names.proofs.rule_of.Statement.{statement}
 use Rattle.names.proofs.rule_of.Tie as tie
 
-find-requires : tie.Need-find-requires
-find-requires c κs = search needs
-
-enum-known-row : tie.Need-enum-known-row
-enum-known-row c = search needs
-
-rule-at-requires : tie.Need-rule-at-requires
-rule-at-requires c κs = at-place _ _ _ (c .before .row .given .1) (c .before .before .before .find .ensures) .0
-
-enum-told : tie.Need-enum-told
-enum-told c = search needs
-
 returns : tie.Need-returns
 unfolding said
-returns c =
-    let p = at-place _ _ _ (c .before .before .row .given .1) (c .before .before .before .before .find .ensures) in
-    ap known (c .rule-at .ensures) ∙ sym (found _ (p .0)) ∙ ap ruleOf (p .1)
+returns c = sym (too-long _ (c .if1 .taken))
+
+slot-of-requires : tie.Need-slot-of-requires
+slot-of-requires c κs = search needs
+
+row-of-slot-requires : tie.Need-row-of-slot-requires
+row-of-slot-requires c κs = search needs
 
 returns-2 : tie.Need-returns-2
 unfolding said
-returns-2 c = sym (missing _ (at-none _ _ (c .enum-told .given .1) (c .before .before .find .ensures)))
+returns-2 c = sym (no-row _ _ (c .before .row-of-slot .ensures ∙ ap rowOfSlot (c .before .before .slot-of .ensures)) (c .if2 .taken))
+
+letters-requires : tie.Need-letters-requires
+letters-requires c κs = omega (arith, c .if2 .left)
+
+lengths-requires : tie.Need-lengths-requires
+lengths-requires c κs = search needs
+
+is-named-requires : tie.Need-is-named-requires
+is-named-requires c κs = (c .before .before .before .before .if2 .left, c .before .before .before .letters .ensures, c .before .before .lengths .ensures)
+
+rule-at-requires : tie.Need-rule-at-requires
+rule-at-requires c κs = c .before .before .before .before .before .before .if2 .left
+
+returns-3 : tie.Need-returns-3
+unfolding said
+returns-3 c =
+    let e = same-bytes _ _ (sym (c .before .before .is-named .ensures) ∙ c .before .if3 .taken) in
+    ap known (c .rule-at .ensures) ∙ sym (found _ (c .before .before .before .before .before .before .before .if2 .left)) ∙ ap ruleOf e
+
+returns-4 : tie.Need-returns-4
+unfolding said
+returns-4 c =
+    sym (other-name _ _ (c .before .before .before .before .before .before .before .row-of-slot .ensures ∙ ap rowOfSlot (c .before .before .before .before .before .before .before .before .slot-of .ensures)) (sym (c .before .is-named .ensures) ∙ c .if3 .left))
 
 pub rule-of-spec : {M : Type 1} → statement M
-rule-of-spec = tie.close (tie.spec find-requires enum-known-row rule-at-requires enum-told returns returns-2)
+rule-of-spec = tie.close (tie.spec returns slot-of-requires row-of-slot-requires returns-2 letters-requires lengths-requires is-named-requires rule-at-requires returns-3 returns-4)

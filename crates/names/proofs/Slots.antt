@@ -1,0 +1,69 @@
+-- Where a name is looked for: the row of a slot, by what a `match` knows in its arms, and that each name is found at its own row, which antt computes.
+-- Assumes nothing.
+use Prim.Native.Nat.{ℕ, zero, suc, _+_, _≤_, _<_, zero-le, suc-le-suc}
+use native.Mathlib.Omega.{arith}
+use native.Mathlib.Nat.{eq-or-lt-of-le, le-of-suc-le-suc}
+use mathlib.Core.Path.{_≡_, refl, sym, _∙_, ap}
+use mathlib.Core.Logic.{_⊎_, inl, inr}
+use mathlib.Core.Bool.{Bool, true, false, cond}
+use mathlib.Core.List.{List, [], _∷_}
+use lib.Dec.{T, eqb, eqb→eq}
+use lib.ListN.{length, getD}
+use borrow.Author.Tests.{ne-eqb}
+use Rattle.conv.specs.Rank.{both}
+use Rattle.conv.proofs.Finite.{below, all}
+use Rattle.names.specs.Names.{bytes, Row, names, noRow, nameAt, count, sameBytes, ruleOf}
+use Rattle.names.specs.Names.Known.{unknown}
+use Rattle.names.specs.Search.{width, mixedFrom, slotOf, firstFrom, rowOfSlot}
+use Rattle.names.proofs.Bytes.{not-same}
+use Rattle.names.proofs.Rows.{counted, short, missing}
+
+-- a number that is none of the first n slots, as the `_` of a `match` with an arm for each of them has it
+abbrev pub Others : (ℕ → ℕ) → ℕ → ℕ → Type 0
+Others s zero h = Unit
+Others s (suc n) h = Others s n h × (h ≡ s n → ⊥)
+
+pub others : (s : ℕ → ℕ) (n h : ℕ) → Others s n h → (k : ℕ) → k < n → h ≡ s k → ⊥
+others s zero h o k l = absurd (omega arith)
+others s (suc n) h o k l = go (eq-or-lt-of-le (le-of-suc-le-suc l)) (others s n h (o .0) k)
+  where
+    go : (k ≡ n) ⊎ (k < n) → (k < n → h ≡ s k → ⊥) → h ≡ s k → ⊥
+    go (inl e) later q = o .1 (q ∙ ap s e)
+    go (inr m) later q = later m q
+
+-- of an arm for each of the first n numbers
+pub above : (n k : ℕ) → Others (λ i. i) n k → n ≤ k
+above zero k h = omega arith
+above (suc n) k h = let l = above n k (h .0) in let q = h .1 in omega arith
+
+-- a slot that no name has
+nowhere : (rs : List Row) (k h : ℕ) → ((j : ℕ) → j < length rs → h ≡ slotOf (getD rs j noRow .name) → ⊥) → firstFrom rs k h ≡ k + length rs
+unfolding firstFrom
+nowhere [] k h n = omega arith
+nowhere (r ∷ rs) k h n =
+    let e : eqb (slotOf (r .name)) h ≡ false = ne-eqb _ _ (λ e. n zero (suc-le-suc zero-le) (sym e)) in
+    let l = nowhere rs (k + 1) h (λ j m. n (suc j) (suc-le-suc m)) in
+    rw e (l ∙ omega arith)
+
+pub no-slot : (h : ℕ) → ((k : ℕ) → k < count → h ≡ slotOf (nameAt k) → ⊥) → rowOfSlot h ≡ count
+unfolding names nameAt rowOfSlot
+no-slot h n = nowhere names 0 h (λ j m. n j (rw counted at m)) ∙ counted
+
+-- every name is found at its own row
+pub own-row : (k : ℕ) → k < count → rowOfSlot (slotOf (nameAt k)) ≡ k
+unfolding bytes names nameAt both mixedFrom slotOf firstFrom rowOfSlot
+own-row k h = eqb→eq _ _ (below count (λ k. eqb (rowOfSlot (slotOf (nameAt k))) k) tt k h)
+
+-- A NAME IS LOOKED FOR AT THE ROW OF ITS SLOT and nowhere else: where that row is none, or has another name, the name has no rule
+
+at-its-slot : (s : List ℕ) (row : ℕ) → row ≡ rowOfSlot (slotOf s) → (k : ℕ) → k < count → nameAt k ≡ s → row ≡ k
+at-its-slot s row r k h e = r ∙ ap (λ (s : List ℕ). rowOfSlot (slotOf s)) (sym e) ∙ own-row k h
+
+pub too-long : (s : List ℕ) → width < length s → ruleOf s ≡ unknown
+too-long s h = missing s (λ k l e. let m = short k l in let n : length (nameAt k) ≡ length s = ap length e in omega arith)
+
+pub no-row : (s : List ℕ) (row : ℕ) → row ≡ rowOfSlot (slotOf s) → count ≤ row → ruleOf s ≡ unknown
+no-row s row r h = missing s (λ k l e. let m : row ≡ k = at-its-slot s row r k l e in omega arith)
+
+pub other-name : (s : List ℕ) (row : ℕ) → row ≡ rowOfSlot (slotOf s) → sameBytes (nameAt row) s ≡ false → ruleOf s ≡ unknown
+other-name s row r h = missing s (λ k l e. not-same _ _ h (ap nameAt (at-its-slot s row r k l e) ∙ e))
