@@ -1,11 +1,12 @@
 -- What the code's tables hold, and where a name is looked for. Assumes nothing.
-use Prim.Native.Nat.{ℕ, _+_, _*_, _/_, _%_, _<_}
+use Prim.Native.Nat.{ℕ, _+_, _-_, _*_, _/_, _%_, _^_, _<_}
 use mathlib.Core.Path.{_≡_}
-use mathlib.Core.Bool.{cond}
+use mathlib.Core.Bool.{Bool, true, false, cond}
 use mathlib.Core.List.{List, [], _∷_}
-use lib.Dec.{eqb}
+use lib.Dec.{eqb, ltb}
 use lib.ListN.{length, getD}
-use Rattle.names.specs.Names.{Row, names, noRow, nameAt, count}
+use Rattle.names.specs.Names.{Row, names, noRow, nameAt}
+use Rattle.names.specs.declared.tables.NameRow.{NameRow}
 
 -- the rule at a place, and a letter of the name there, which past its end is 0
 unfoldable pub ruleAt : ℕ → ℕ
@@ -14,22 +15,32 @@ ruleAt k = getD names k noRow .rule
 unfoldable pub letterAt : ℕ → ℕ → ℕ
 letterAt k i = getD (nameAt k) i 0
 
--- the letters of eight names, each in a row of the width; and a table of the lengths of all
-
+-- the width of a row
 abbrev pub width : ℕ
-width = 32
+width = 24
 
-abbrev pub leafRows : ℕ
-leafRows = 8
+-- a letter of a number that holds eight, the first on the left
+unfoldable pub letterOf : ℕ → ℕ → ℕ
+letterOf eight i = eight / 2 ^ (56 - 8 * i) % 256
 
-abbrev pub leaves : ℕ
-leaves = 12
+-- of a row of three such numbers, the letter at a place
+unfoldable pub letterIn : NameRow → ℕ → ℕ
+letterIn r i = cond (ltb i 8) (letterOf (r .0) i) (cond (ltb i 16) (letterOf (r .1) (i - 8)) (letterOf (r .2) (i - 16)))
 
-pub record HoldsLetters (leaf : ℕ) (t : List ℕ) : Type 0 where
-  pub letter : (k i : ℕ) → k < leafRows → i < width → getD t (k * width + i) 0 ≡ letterAt (leaf * leafRows + k) i
+-- a row of the code's table: the letters of the name at a place, how many they are, and its rule
+pub record HoldsRow (k : ℕ) (r : NameRow) : Type 0 where
+  pub letters : (i : ℕ) → i < width → letterIn r i ≡ letterAt k i
+  pub size : r .3 ≡ length (nameAt k)
+  pub rule : r .4 ≡ ruleAt k
 
-abbrev pub HoldsLengths : List ℕ → Type 0
-HoldsLengths t = (k : ℕ) → k < count → getD t k 0 ≡ length (nameAt k)
+-- whether a name has the letters of eight from a place on, as far as it goes
+
+abbrev pub Has : ℕ → ℕ → List ℕ → Type 0
+Has eight from s = (i : ℕ) → i < 8 → from + i < length s → letterOf eight i ≡ getD s (from + i) 0
+
+unfoldable pub HasEight : ℕ → ℕ → List ℕ → Bool → Type 0
+HasEight eight from s true = Has eight from s
+HasEight eight from s false = Has eight from s → ⊥
 
 -- THE SLOT OF A NAME: its bytes mixed into a number below 65,536, and that spread over 235 slots. The numbers were searched for, so that no two names meet.
 

@@ -1,8 +1,8 @@
-// The names as rows of one width, sorted by their bytes, with a column for what belongs to each, and the functions that read them.
+// The names as rows of one width, sorted by their bytes, each with what belongs to it, and the row of each slot.
 ghost use mathlib.Core.Path.{_≡_};
 ghost use Prim.Native.Nat.{_<_};
 ghost use Rattle.names.specs.Names.{count};
-ghost use Rattle.names.specs.Search.{leaves, ruleAt, rowOfSlot, HoldsLetters, HoldsLengths};
+ghost use Rattle.names.specs.Search.{rowOfSlot, HoldsRow};
 
 // The crate rules. The rule of any other name is its row of overloads, below 47.
 pub const RULE_BITCAST: u8 = 100;
@@ -17,378 +17,444 @@ pub const RULE_TEXTURE_BARRIER: u8 = 104;
 
 pub const RULE_WORKGROUP_BARRIER: u8 = 105;
 
-// How many names there are.
+// How many names there are, and the width of a row.
 pub const NAME_COUNT: usize = 94;
-// The width of a row.
-pub const NAME_WIDTH: usize = 32;
-// The rows stand in leaves of so many: a constant array is written to the stack whole where it is read, and a leaf is small.
-pub const LEAF_ROWS: usize = 8;
 
-pub type Letters = [u8; LEAF_ROWS * NAME_WIDTH];
+pub const NAME_WIDTH: usize = 24;
 
-pub type Lengths = [u8; NAME_COUNT];
+// A row: a name of 24 letters as three numbers of eight, the first letter on the left, filled up with zeros; how many letters it has; its rule.
+pub struct NameRow(pub u64, pub u64, pub u64, pub usize, pub u8);
 
-// The names, filled up with zeros.
-const LEAF_0: Letters = *b"\
-    abs\0\0\0\0\0\0\0\0\0\0\0\0\0\0\0\0\0\0\0\0\0\0\0\0\0\0\0\0\0\
-    acos\0\0\0\0\0\0\0\0\0\0\0\0\0\0\0\0\0\0\0\0\0\0\0\0\0\0\0\0\
-    acosh\0\0\0\0\0\0\0\0\0\0\0\0\0\0\0\0\0\0\0\0\0\0\0\0\0\0\0\
-    all\0\0\0\0\0\0\0\0\0\0\0\0\0\0\0\0\0\0\0\0\0\0\0\0\0\0\0\0\0\
-    any\0\0\0\0\0\0\0\0\0\0\0\0\0\0\0\0\0\0\0\0\0\0\0\0\0\0\0\0\0\
-    arrayLength\0\0\0\0\0\0\0\0\0\0\0\0\0\0\0\0\0\0\0\0\0\
-    asin\0\0\0\0\0\0\0\0\0\0\0\0\0\0\0\0\0\0\0\0\0\0\0\0\0\0\0\0\
-    asinh\0\0\0\0\0\0\0\0\0\0\0\0\0\0\0\0\0\0\0\0\0\0\0\0\0\0\0\
-    ";
-
-const LEAF_1: Letters = *b"\
-    atan\0\0\0\0\0\0\0\0\0\0\0\0\0\0\0\0\0\0\0\0\0\0\0\0\0\0\0\0\
-    atan2\0\0\0\0\0\0\0\0\0\0\0\0\0\0\0\0\0\0\0\0\0\0\0\0\0\0\0\
-    atanh\0\0\0\0\0\0\0\0\0\0\0\0\0\0\0\0\0\0\0\0\0\0\0\0\0\0\0\
-    bitcast\0\0\0\0\0\0\0\0\0\0\0\0\0\0\0\0\0\0\0\0\0\0\0\0\0\
-    ceil\0\0\0\0\0\0\0\0\0\0\0\0\0\0\0\0\0\0\0\0\0\0\0\0\0\0\0\0\
-    clamp\0\0\0\0\0\0\0\0\0\0\0\0\0\0\0\0\0\0\0\0\0\0\0\0\0\0\0\
-    cos\0\0\0\0\0\0\0\0\0\0\0\0\0\0\0\0\0\0\0\0\0\0\0\0\0\0\0\0\0\
-    cosh\0\0\0\0\0\0\0\0\0\0\0\0\0\0\0\0\0\0\0\0\0\0\0\0\0\0\0\0\
-    ";
-
-const LEAF_2: Letters = *b"\
-    countLeadingZeros\0\0\0\0\0\0\0\0\0\0\0\0\0\0\0\
-    countOneBits\0\0\0\0\0\0\0\0\0\0\0\0\0\0\0\0\0\0\0\0\
-    countTrailingZeros\0\0\0\0\0\0\0\0\0\0\0\0\0\0\
-    cross\0\0\0\0\0\0\0\0\0\0\0\0\0\0\0\0\0\0\0\0\0\0\0\0\0\0\0\
-    degrees\0\0\0\0\0\0\0\0\0\0\0\0\0\0\0\0\0\0\0\0\0\0\0\0\0\
-    determinant\0\0\0\0\0\0\0\0\0\0\0\0\0\0\0\0\0\0\0\0\0\
-    distance\0\0\0\0\0\0\0\0\0\0\0\0\0\0\0\0\0\0\0\0\0\0\0\0\
-    dot\0\0\0\0\0\0\0\0\0\0\0\0\0\0\0\0\0\0\0\0\0\0\0\0\0\0\0\0\0\
-    ";
-
-const LEAF_3: Letters = *b"\
-    dot4I8Packed\0\0\0\0\0\0\0\0\0\0\0\0\0\0\0\0\0\0\0\0\
-    dot4U8Packed\0\0\0\0\0\0\0\0\0\0\0\0\0\0\0\0\0\0\0\0\
-    dpdx\0\0\0\0\0\0\0\0\0\0\0\0\0\0\0\0\0\0\0\0\0\0\0\0\0\0\0\0\
-    dpdxCoarse\0\0\0\0\0\0\0\0\0\0\0\0\0\0\0\0\0\0\0\0\0\0\
-    dpdxFine\0\0\0\0\0\0\0\0\0\0\0\0\0\0\0\0\0\0\0\0\0\0\0\0\
-    dpdy\0\0\0\0\0\0\0\0\0\0\0\0\0\0\0\0\0\0\0\0\0\0\0\0\0\0\0\0\
-    dpdyCoarse\0\0\0\0\0\0\0\0\0\0\0\0\0\0\0\0\0\0\0\0\0\0\
-    dpdyFine\0\0\0\0\0\0\0\0\0\0\0\0\0\0\0\0\0\0\0\0\0\0\0\0\
-    ";
-
-const LEAF_4: Letters = *b"\
-    exp\0\0\0\0\0\0\0\0\0\0\0\0\0\0\0\0\0\0\0\0\0\0\0\0\0\0\0\0\0\
-    exp2\0\0\0\0\0\0\0\0\0\0\0\0\0\0\0\0\0\0\0\0\0\0\0\0\0\0\0\0\
-    extractBits\0\0\0\0\0\0\0\0\0\0\0\0\0\0\0\0\0\0\0\0\0\
-    faceForward\0\0\0\0\0\0\0\0\0\0\0\0\0\0\0\0\0\0\0\0\0\
-    firstLeadingBit\0\0\0\0\0\0\0\0\0\0\0\0\0\0\0\0\0\
-    firstTrailingBit\0\0\0\0\0\0\0\0\0\0\0\0\0\0\0\0\
-    floor\0\0\0\0\0\0\0\0\0\0\0\0\0\0\0\0\0\0\0\0\0\0\0\0\0\0\0\
-    fma\0\0\0\0\0\0\0\0\0\0\0\0\0\0\0\0\0\0\0\0\0\0\0\0\0\0\0\0\0\
-    ";
-
-const LEAF_5: Letters = *b"\
-    fract\0\0\0\0\0\0\0\0\0\0\0\0\0\0\0\0\0\0\0\0\0\0\0\0\0\0\0\
-    frexp\0\0\0\0\0\0\0\0\0\0\0\0\0\0\0\0\0\0\0\0\0\0\0\0\0\0\0\
-    fwidth\0\0\0\0\0\0\0\0\0\0\0\0\0\0\0\0\0\0\0\0\0\0\0\0\0\0\
-    fwidthCoarse\0\0\0\0\0\0\0\0\0\0\0\0\0\0\0\0\0\0\0\0\
-    fwidthFine\0\0\0\0\0\0\0\0\0\0\0\0\0\0\0\0\0\0\0\0\0\0\
-    insertBits\0\0\0\0\0\0\0\0\0\0\0\0\0\0\0\0\0\0\0\0\0\0\
-    inverseSqrt\0\0\0\0\0\0\0\0\0\0\0\0\0\0\0\0\0\0\0\0\0\
-    ldexp\0\0\0\0\0\0\0\0\0\0\0\0\0\0\0\0\0\0\0\0\0\0\0\0\0\0\0\
-    ";
-
-const LEAF_6: Letters = *b"\
-    length\0\0\0\0\0\0\0\0\0\0\0\0\0\0\0\0\0\0\0\0\0\0\0\0\0\0\
-    log\0\0\0\0\0\0\0\0\0\0\0\0\0\0\0\0\0\0\0\0\0\0\0\0\0\0\0\0\0\
-    log2\0\0\0\0\0\0\0\0\0\0\0\0\0\0\0\0\0\0\0\0\0\0\0\0\0\0\0\0\
-    max\0\0\0\0\0\0\0\0\0\0\0\0\0\0\0\0\0\0\0\0\0\0\0\0\0\0\0\0\0\
-    min\0\0\0\0\0\0\0\0\0\0\0\0\0\0\0\0\0\0\0\0\0\0\0\0\0\0\0\0\0\
-    mix\0\0\0\0\0\0\0\0\0\0\0\0\0\0\0\0\0\0\0\0\0\0\0\0\0\0\0\0\0\
-    modf\0\0\0\0\0\0\0\0\0\0\0\0\0\0\0\0\0\0\0\0\0\0\0\0\0\0\0\0\
-    normalize\0\0\0\0\0\0\0\0\0\0\0\0\0\0\0\0\0\0\0\0\0\0\0\
-    ";
-
-const LEAF_7: Letters = *b"\
-    pack2x16float\0\0\0\0\0\0\0\0\0\0\0\0\0\0\0\0\0\0\0\
-    pack2x16snorm\0\0\0\0\0\0\0\0\0\0\0\0\0\0\0\0\0\0\0\
-    pack2x16unorm\0\0\0\0\0\0\0\0\0\0\0\0\0\0\0\0\0\0\0\
-    pack4x8snorm\0\0\0\0\0\0\0\0\0\0\0\0\0\0\0\0\0\0\0\0\
-    pack4x8unorm\0\0\0\0\0\0\0\0\0\0\0\0\0\0\0\0\0\0\0\0\
-    pack4xI8\0\0\0\0\0\0\0\0\0\0\0\0\0\0\0\0\0\0\0\0\0\0\0\0\
-    pack4xI8Clamp\0\0\0\0\0\0\0\0\0\0\0\0\0\0\0\0\0\0\0\
-    pack4xU8\0\0\0\0\0\0\0\0\0\0\0\0\0\0\0\0\0\0\0\0\0\0\0\0\
-    ";
-
-const LEAF_8: Letters = *b"\
-    pack4xU8Clamp\0\0\0\0\0\0\0\0\0\0\0\0\0\0\0\0\0\0\0\
-    pow\0\0\0\0\0\0\0\0\0\0\0\0\0\0\0\0\0\0\0\0\0\0\0\0\0\0\0\0\0\
-    quantizeToF16\0\0\0\0\0\0\0\0\0\0\0\0\0\0\0\0\0\0\0\
-    radians\0\0\0\0\0\0\0\0\0\0\0\0\0\0\0\0\0\0\0\0\0\0\0\0\0\
-    reflect\0\0\0\0\0\0\0\0\0\0\0\0\0\0\0\0\0\0\0\0\0\0\0\0\0\
-    refract\0\0\0\0\0\0\0\0\0\0\0\0\0\0\0\0\0\0\0\0\0\0\0\0\0\
-    reverseBits\0\0\0\0\0\0\0\0\0\0\0\0\0\0\0\0\0\0\0\0\0\
-    round\0\0\0\0\0\0\0\0\0\0\0\0\0\0\0\0\0\0\0\0\0\0\0\0\0\0\0\
-    ";
-
-const LEAF_9: Letters = *b"\
-    saturate\0\0\0\0\0\0\0\0\0\0\0\0\0\0\0\0\0\0\0\0\0\0\0\0\
-    select\0\0\0\0\0\0\0\0\0\0\0\0\0\0\0\0\0\0\0\0\0\0\0\0\0\0\
-    sign\0\0\0\0\0\0\0\0\0\0\0\0\0\0\0\0\0\0\0\0\0\0\0\0\0\0\0\0\
-    sin\0\0\0\0\0\0\0\0\0\0\0\0\0\0\0\0\0\0\0\0\0\0\0\0\0\0\0\0\0\
-    sinh\0\0\0\0\0\0\0\0\0\0\0\0\0\0\0\0\0\0\0\0\0\0\0\0\0\0\0\0\
-    smoothstep\0\0\0\0\0\0\0\0\0\0\0\0\0\0\0\0\0\0\0\0\0\0\
-    sqrt\0\0\0\0\0\0\0\0\0\0\0\0\0\0\0\0\0\0\0\0\0\0\0\0\0\0\0\0\
-    step\0\0\0\0\0\0\0\0\0\0\0\0\0\0\0\0\0\0\0\0\0\0\0\0\0\0\0\0\
-    ";
-
-const LEAF_10: Letters = *b"\
-    storageBarrier\0\0\0\0\0\0\0\0\0\0\0\0\0\0\0\0\0\0\
-    tan\0\0\0\0\0\0\0\0\0\0\0\0\0\0\0\0\0\0\0\0\0\0\0\0\0\0\0\0\0\
-    tanh\0\0\0\0\0\0\0\0\0\0\0\0\0\0\0\0\0\0\0\0\0\0\0\0\0\0\0\0\
-    textureBarrier\0\0\0\0\0\0\0\0\0\0\0\0\0\0\0\0\0\0\
-    transpose\0\0\0\0\0\0\0\0\0\0\0\0\0\0\0\0\0\0\0\0\0\0\0\
-    trunc\0\0\0\0\0\0\0\0\0\0\0\0\0\0\0\0\0\0\0\0\0\0\0\0\0\0\0\
-    unpack2x16float\0\0\0\0\0\0\0\0\0\0\0\0\0\0\0\0\0\
-    unpack2x16snorm\0\0\0\0\0\0\0\0\0\0\0\0\0\0\0\0\0\
-    ";
-
-const LEAF_11: Letters = *b"\
-    unpack2x16unorm\0\0\0\0\0\0\0\0\0\0\0\0\0\0\0\0\0\
-    unpack4x8snorm\0\0\0\0\0\0\0\0\0\0\0\0\0\0\0\0\0\0\
-    unpack4x8unorm\0\0\0\0\0\0\0\0\0\0\0\0\0\0\0\0\0\0\
-    unpack4xI8\0\0\0\0\0\0\0\0\0\0\0\0\0\0\0\0\0\0\0\0\0\0\
-    unpack4xU8\0\0\0\0\0\0\0\0\0\0\0\0\0\0\0\0\0\0\0\0\0\0\
-    workgroupBarrier\0\0\0\0\0\0\0\0\0\0\0\0\0\0\0\0\
-    \0\0\0\0\0\0\0\0\0\0\0\0\0\0\0\0\0\0\0\0\0\0\0\0\0\0\0\0\0\0\0\0\
-    \0\0\0\0\0\0\0\0\0\0\0\0\0\0\0\0\0\0\0\0\0\0\0\0\0\0\0\0\0\0\0\0\
-    ";
-
-// The length of each name.
-const LENGTHS: Lengths = [
-    3, // abs
-    4, // acos
-    5, // acosh
-    3, // all
-    3, // any
-    11, // arrayLength
-    4, // asin
-    5, // asinh
-    4, // atan
-    5, // atan2
-    5, // atanh
-    7, // bitcast
-    4, // ceil
-    5, // clamp
-    3, // cos
-    4, // cosh
-    17, // countLeadingZeros
-    12, // countOneBits
-    18, // countTrailingZeros
-    5, // cross
-    7, // degrees
-    11, // determinant
-    8, // distance
-    3, // dot
-    12, // dot4I8Packed
-    12, // dot4U8Packed
-    4, // dpdx
-    10, // dpdxCoarse
-    8, // dpdxFine
-    4, // dpdy
-    10, // dpdyCoarse
-    8, // dpdyFine
-    3, // exp
-    4, // exp2
-    11, // extractBits
-    11, // faceForward
-    15, // firstLeadingBit
-    16, // firstTrailingBit
-    5, // floor
-    3, // fma
-    5, // fract
-    5, // frexp
-    6, // fwidth
-    12, // fwidthCoarse
-    10, // fwidthFine
-    10, // insertBits
-    11, // inverseSqrt
-    5, // ldexp
-    6, // length
-    3, // log
-    4, // log2
-    3, // max
-    3, // min
-    3, // mix
-    4, // modf
-    9, // normalize
-    13, // pack2x16float
-    13, // pack2x16snorm
-    13, // pack2x16unorm
-    12, // pack4x8snorm
-    12, // pack4x8unorm
-    8, // pack4xI8
-    13, // pack4xI8Clamp
-    8, // pack4xU8
-    13, // pack4xU8Clamp
-    3, // pow
-    13, // quantizeToF16
-    7, // radians
-    7, // reflect
-    7, // refract
-    11, // reverseBits
-    5, // round
-    8, // saturate
-    6, // select
-    4, // sign
-    3, // sin
-    4, // sinh
-    10, // smoothstep
-    4, // sqrt
-    4, // step
-    14, // storageBarrier
-    3, // tan
-    4, // tanh
-    14, // textureBarrier
-    9, // transpose
-    5, // trunc
-    15, // unpack2x16float
-    15, // unpack2x16snorm
-    15, // unpack2x16unorm
-    14, // unpack4x8snorm
-    14, // unpack4x8unorm
-    10, // unpack4xI8
-    10, // unpack4xU8
-    16, // workgroupBarrier
-];
-
-// The rule of each name.
-const RULES: [u8; NAME_COUNT] = [
-    16, // abs
-    12, // acos
-    12, // acosh
-    45, // all
-    45, // any
-    RULE_ARRAY_LENGTH, // arrayLength
-    12, // asin
-    12, // asinh
-    12, // atan
-    13, // atan2
-    12, // atanh
-    RULE_BITCAST, // bitcast
-    12, // ceil
-    18, // clamp
-    12, // cos
-    12, // cosh
-    19, // countLeadingZeros
-    19, // countOneBits
-    19, // countTrailingZeros
-    29, // cross
-    12, // degrees
-    30, // determinant
-    23, // distance
-    24, // dot
-    44, // dot4I8Packed
-    43, // dot4U8Packed
-    32, // dpdx
-    32, // dpdxCoarse
-    32, // dpdxFine
-    32, // dpdy
-    32, // dpdyCoarse
-    32, // dpdyFine
-    12, // exp
-    12, // exp2
-    20, // extractBits
-    27, // faceForward
-    19, // firstLeadingBit
-    19, // firstTrailingBit
-    12, // floor
-    14, // fma
-    12, // fract
-    33, // frexp
-    32, // fwidth
-    32, // fwidthCoarse
-    32, // fwidthFine
-    21, // insertBits
-    12, // inverseSqrt
-    RULE_LDEXP, // ldexp
-    22, // length
-    12, // log
-    12, // log2
-    17, // max
-    17, // min
-    15, // mix
-    34, // modf
-    25, // normalize
-    38, // pack2x16float
-    38, // pack2x16snorm
-    38, // pack2x16unorm
-    35, // pack4x8snorm
-    35, // pack4x8unorm
-    36, // pack4xI8
-    36, // pack4xI8Clamp
-    37, // pack4xU8
-    37, // pack4xU8Clamp
-    13, // pow
-    32, // quantizeToF16
-    12, // radians
-    26, // reflect
-    28, // refract
-    19, // reverseBits
-    12, // round
-    12, // saturate
-    46, // select
-    1, // sign
-    12, // sin
-    12, // sinh
-    14, // smoothstep
-    12, // sqrt
-    13, // step
-    RULE_STORAGE_BARRIER, // storageBarrier
-    12, // tan
-    12, // tanh
-    RULE_TEXTURE_BARRIER, // textureBarrier
-    31, // transpose
-    12, // trunc
-    42, // unpack2x16float
-    42, // unpack2x16snorm
-    42, // unpack2x16unorm
-    39, // unpack4x8snorm
-    39, // unpack4x8unorm
-    40, // unpack4xI8
-    41, // unpack4xU8
-    RULE_WORKGROUP_BARRIER, // workgroupBarrier
-];
-
-// The rows from 8 times a leaf's number on.
-pub fn letters(leaf: usize) -> Letters
-    requires { ⌜ leaf < leaves ⌝ }
-    ensures { λ r. ⌜ HoldsLetters leaf r ⌝ }
-{
-    match leaf {
-        0 => LEAF_0,
-        1 => LEAF_1,
-        2 => LEAF_2,
-        3 => LEAF_3,
-        4 => LEAF_4,
-        5 => LEAF_5,
-        6 => LEAF_6,
-        7 => LEAF_7,
-        8 => LEAF_8,
-        9 => LEAF_9,
-        10 => LEAF_10,
-        _ => LEAF_11,
-    }
-}
-
-pub fn lengths() -> Lengths
-    ensures { λ r. ⌜ HoldsLengths r ⌝ }
-{
-    LENGTHS
-}
-
-pub fn rule_at(row: usize) -> u8
+// The row of a number. A `match` is read where it stands; a constant array would be written to the stack whole at each call.
+pub fn row_at(row: usize) -> NameRow
     requires { ⌜ row < count ⌝ }
-    ensures { λ r. ⌜ r ≡ ruleAt row ⌝ }
+    ensures { λ r. ⌜ HoldsRow row r ⌝ }
 {
-    RULES[row]
+    match row {
+        // abs
+        0 => NameRow(0x61_62_73_00_00_00_00_00, 0, 0, 3, 16),
+        // acos
+        1 => NameRow(0x61_63_6f_73_00_00_00_00, 0, 0, 4, 12),
+        // acosh
+        2 => NameRow(0x61_63_6f_73_68_00_00_00, 0, 0, 5, 12),
+        // all
+        3 => NameRow(0x61_6c_6c_00_00_00_00_00, 0, 0, 3, 45),
+        // any
+        4 => NameRow(0x61_6e_79_00_00_00_00_00, 0, 0, 3, 45),
+        // arrayLength
+        5 => NameRow(
+            0x61_72_72_61_79_4c_65_6e,
+            0x67_74_68_00_00_00_00_00,
+            0,
+            11,
+            RULE_ARRAY_LENGTH,
+        ),
+        // asin
+        6 => NameRow(0x61_73_69_6e_00_00_00_00, 0, 0, 4, 12),
+        // asinh
+        7 => NameRow(0x61_73_69_6e_68_00_00_00, 0, 0, 5, 12),
+        // atan
+        8 => NameRow(0x61_74_61_6e_00_00_00_00, 0, 0, 4, 12),
+        // atan2
+        9 => NameRow(0x61_74_61_6e_32_00_00_00, 0, 0, 5, 13),
+        // atanh
+        10 => NameRow(0x61_74_61_6e_68_00_00_00, 0, 0, 5, 12),
+        // bitcast
+        11 => NameRow(0x62_69_74_63_61_73_74_00, 0, 0, 7, RULE_BITCAST),
+        // ceil
+        12 => NameRow(0x63_65_69_6c_00_00_00_00, 0, 0, 4, 12),
+        // clamp
+        13 => NameRow(0x63_6c_61_6d_70_00_00_00, 0, 0, 5, 18),
+        // cos
+        14 => NameRow(0x63_6f_73_00_00_00_00_00, 0, 0, 3, 12),
+        // cosh
+        15 => NameRow(0x63_6f_73_68_00_00_00_00, 0, 0, 4, 12),
+        // countLeadingZeros
+        16 => NameRow(
+            0x63_6f_75_6e_74_4c_65_61,
+            0x64_69_6e_67_5a_65_72_6f,
+            0x73_00_00_00_00_00_00_00,
+            17,
+            19,
+        ),
+        // countOneBits
+        17 => NameRow(
+            0x63_6f_75_6e_74_4f_6e_65,
+            0x42_69_74_73_00_00_00_00,
+            0,
+            12,
+            19,
+        ),
+        // countTrailingZeros
+        18 => NameRow(
+            0x63_6f_75_6e_74_54_72_61,
+            0x69_6c_69_6e_67_5a_65_72,
+            0x6f_73_00_00_00_00_00_00,
+            18,
+            19,
+        ),
+        // cross
+        19 => NameRow(0x63_72_6f_73_73_00_00_00, 0, 0, 5, 29),
+        // degrees
+        20 => NameRow(0x64_65_67_72_65_65_73_00, 0, 0, 7, 12),
+        // determinant
+        21 => NameRow(
+            0x64_65_74_65_72_6d_69_6e,
+            0x61_6e_74_00_00_00_00_00,
+            0,
+            11,
+            30,
+        ),
+        // distance
+        22 => NameRow(0x64_69_73_74_61_6e_63_65, 0, 0, 8, 23),
+        // dot
+        23 => NameRow(0x64_6f_74_00_00_00_00_00, 0, 0, 3, 24),
+        // dot4I8Packed
+        24 => NameRow(
+            0x64_6f_74_34_49_38_50_61,
+            0x63_6b_65_64_00_00_00_00,
+            0,
+            12,
+            44,
+        ),
+        // dot4U8Packed
+        25 => NameRow(
+            0x64_6f_74_34_55_38_50_61,
+            0x63_6b_65_64_00_00_00_00,
+            0,
+            12,
+            43,
+        ),
+        // dpdx
+        26 => NameRow(0x64_70_64_78_00_00_00_00, 0, 0, 4, 32),
+        // dpdxCoarse
+        27 => NameRow(
+            0x64_70_64_78_43_6f_61_72,
+            0x73_65_00_00_00_00_00_00,
+            0,
+            10,
+            32,
+        ),
+        // dpdxFine
+        28 => NameRow(0x64_70_64_78_46_69_6e_65, 0, 0, 8, 32),
+        // dpdy
+        29 => NameRow(0x64_70_64_79_00_00_00_00, 0, 0, 4, 32),
+        // dpdyCoarse
+        30 => NameRow(
+            0x64_70_64_79_43_6f_61_72,
+            0x73_65_00_00_00_00_00_00,
+            0,
+            10,
+            32,
+        ),
+        // dpdyFine
+        31 => NameRow(0x64_70_64_79_46_69_6e_65, 0, 0, 8, 32),
+        // exp
+        32 => NameRow(0x65_78_70_00_00_00_00_00, 0, 0, 3, 12),
+        // exp2
+        33 => NameRow(0x65_78_70_32_00_00_00_00, 0, 0, 4, 12),
+        // extractBits
+        34 => NameRow(
+            0x65_78_74_72_61_63_74_42,
+            0x69_74_73_00_00_00_00_00,
+            0,
+            11,
+            20,
+        ),
+        // faceForward
+        35 => NameRow(
+            0x66_61_63_65_46_6f_72_77,
+            0x61_72_64_00_00_00_00_00,
+            0,
+            11,
+            27,
+        ),
+        // firstLeadingBit
+        36 => NameRow(
+            0x66_69_72_73_74_4c_65_61,
+            0x64_69_6e_67_42_69_74_00,
+            0,
+            15,
+            19,
+        ),
+        // firstTrailingBit
+        37 => NameRow(
+            0x66_69_72_73_74_54_72_61,
+            0x69_6c_69_6e_67_42_69_74,
+            0,
+            16,
+            19,
+        ),
+        // floor
+        38 => NameRow(0x66_6c_6f_6f_72_00_00_00, 0, 0, 5, 12),
+        // fma
+        39 => NameRow(0x66_6d_61_00_00_00_00_00, 0, 0, 3, 14),
+        // fract
+        40 => NameRow(0x66_72_61_63_74_00_00_00, 0, 0, 5, 12),
+        // frexp
+        41 => NameRow(0x66_72_65_78_70_00_00_00, 0, 0, 5, 33),
+        // fwidth
+        42 => NameRow(0x66_77_69_64_74_68_00_00, 0, 0, 6, 32),
+        // fwidthCoarse
+        43 => NameRow(
+            0x66_77_69_64_74_68_43_6f,
+            0x61_72_73_65_00_00_00_00,
+            0,
+            12,
+            32,
+        ),
+        // fwidthFine
+        44 => NameRow(
+            0x66_77_69_64_74_68_46_69,
+            0x6e_65_00_00_00_00_00_00,
+            0,
+            10,
+            32,
+        ),
+        // insertBits
+        45 => NameRow(
+            0x69_6e_73_65_72_74_42_69,
+            0x74_73_00_00_00_00_00_00,
+            0,
+            10,
+            21,
+        ),
+        // inverseSqrt
+        46 => NameRow(
+            0x69_6e_76_65_72_73_65_53,
+            0x71_72_74_00_00_00_00_00,
+            0,
+            11,
+            12,
+        ),
+        // ldexp
+        47 => NameRow(0x6c_64_65_78_70_00_00_00, 0, 0, 5, RULE_LDEXP),
+        // length
+        48 => NameRow(0x6c_65_6e_67_74_68_00_00, 0, 0, 6, 22),
+        // log
+        49 => NameRow(0x6c_6f_67_00_00_00_00_00, 0, 0, 3, 12),
+        // log2
+        50 => NameRow(0x6c_6f_67_32_00_00_00_00, 0, 0, 4, 12),
+        // max
+        51 => NameRow(0x6d_61_78_00_00_00_00_00, 0, 0, 3, 17),
+        // min
+        52 => NameRow(0x6d_69_6e_00_00_00_00_00, 0, 0, 3, 17),
+        // mix
+        53 => NameRow(0x6d_69_78_00_00_00_00_00, 0, 0, 3, 15),
+        // modf
+        54 => NameRow(0x6d_6f_64_66_00_00_00_00, 0, 0, 4, 34),
+        // normalize
+        55 => NameRow(
+            0x6e_6f_72_6d_61_6c_69_7a,
+            0x65_00_00_00_00_00_00_00,
+            0,
+            9,
+            25,
+        ),
+        // pack2x16float
+        56 => NameRow(
+            0x70_61_63_6b_32_78_31_36,
+            0x66_6c_6f_61_74_00_00_00,
+            0,
+            13,
+            38,
+        ),
+        // pack2x16snorm
+        57 => NameRow(
+            0x70_61_63_6b_32_78_31_36,
+            0x73_6e_6f_72_6d_00_00_00,
+            0,
+            13,
+            38,
+        ),
+        // pack2x16unorm
+        58 => NameRow(
+            0x70_61_63_6b_32_78_31_36,
+            0x75_6e_6f_72_6d_00_00_00,
+            0,
+            13,
+            38,
+        ),
+        // pack4x8snorm
+        59 => NameRow(
+            0x70_61_63_6b_34_78_38_73,
+            0x6e_6f_72_6d_00_00_00_00,
+            0,
+            12,
+            35,
+        ),
+        // pack4x8unorm
+        60 => NameRow(
+            0x70_61_63_6b_34_78_38_75,
+            0x6e_6f_72_6d_00_00_00_00,
+            0,
+            12,
+            35,
+        ),
+        // pack4xI8
+        61 => NameRow(0x70_61_63_6b_34_78_49_38, 0, 0, 8, 36),
+        // pack4xI8Clamp
+        62 => NameRow(
+            0x70_61_63_6b_34_78_49_38,
+            0x43_6c_61_6d_70_00_00_00,
+            0,
+            13,
+            36,
+        ),
+        // pack4xU8
+        63 => NameRow(0x70_61_63_6b_34_78_55_38, 0, 0, 8, 37),
+        // pack4xU8Clamp
+        64 => NameRow(
+            0x70_61_63_6b_34_78_55_38,
+            0x43_6c_61_6d_70_00_00_00,
+            0,
+            13,
+            37,
+        ),
+        // pow
+        65 => NameRow(0x70_6f_77_00_00_00_00_00, 0, 0, 3, 13),
+        // quantizeToF16
+        66 => NameRow(
+            0x71_75_61_6e_74_69_7a_65,
+            0x54_6f_46_31_36_00_00_00,
+            0,
+            13,
+            32,
+        ),
+        // radians
+        67 => NameRow(0x72_61_64_69_61_6e_73_00, 0, 0, 7, 12),
+        // reflect
+        68 => NameRow(0x72_65_66_6c_65_63_74_00, 0, 0, 7, 26),
+        // refract
+        69 => NameRow(0x72_65_66_72_61_63_74_00, 0, 0, 7, 28),
+        // reverseBits
+        70 => NameRow(
+            0x72_65_76_65_72_73_65_42,
+            0x69_74_73_00_00_00_00_00,
+            0,
+            11,
+            19,
+        ),
+        // round
+        71 => NameRow(0x72_6f_75_6e_64_00_00_00, 0, 0, 5, 12),
+        // saturate
+        72 => NameRow(0x73_61_74_75_72_61_74_65, 0, 0, 8, 12),
+        // select
+        73 => NameRow(0x73_65_6c_65_63_74_00_00, 0, 0, 6, 46),
+        // sign
+        74 => NameRow(0x73_69_67_6e_00_00_00_00, 0, 0, 4, 1),
+        // sin
+        75 => NameRow(0x73_69_6e_00_00_00_00_00, 0, 0, 3, 12),
+        // sinh
+        76 => NameRow(0x73_69_6e_68_00_00_00_00, 0, 0, 4, 12),
+        // smoothstep
+        77 => NameRow(
+            0x73_6d_6f_6f_74_68_73_74,
+            0x65_70_00_00_00_00_00_00,
+            0,
+            10,
+            14,
+        ),
+        // sqrt
+        78 => NameRow(0x73_71_72_74_00_00_00_00, 0, 0, 4, 12),
+        // step
+        79 => NameRow(0x73_74_65_70_00_00_00_00, 0, 0, 4, 13),
+        // storageBarrier
+        80 => NameRow(
+            0x73_74_6f_72_61_67_65_42,
+            0x61_72_72_69_65_72_00_00,
+            0,
+            14,
+            RULE_STORAGE_BARRIER,
+        ),
+        // tan
+        81 => NameRow(0x74_61_6e_00_00_00_00_00, 0, 0, 3, 12),
+        // tanh
+        82 => NameRow(0x74_61_6e_68_00_00_00_00, 0, 0, 4, 12),
+        // textureBarrier
+        83 => NameRow(
+            0x74_65_78_74_75_72_65_42,
+            0x61_72_72_69_65_72_00_00,
+            0,
+            14,
+            RULE_TEXTURE_BARRIER,
+        ),
+        // transpose
+        84 => NameRow(
+            0x74_72_61_6e_73_70_6f_73,
+            0x65_00_00_00_00_00_00_00,
+            0,
+            9,
+            31,
+        ),
+        // trunc
+        85 => NameRow(0x74_72_75_6e_63_00_00_00, 0, 0, 5, 12),
+        // unpack2x16float
+        86 => NameRow(
+            0x75_6e_70_61_63_6b_32_78,
+            0x31_36_66_6c_6f_61_74_00,
+            0,
+            15,
+            42,
+        ),
+        // unpack2x16snorm
+        87 => NameRow(
+            0x75_6e_70_61_63_6b_32_78,
+            0x31_36_73_6e_6f_72_6d_00,
+            0,
+            15,
+            42,
+        ),
+        // unpack2x16unorm
+        88 => NameRow(
+            0x75_6e_70_61_63_6b_32_78,
+            0x31_36_75_6e_6f_72_6d_00,
+            0,
+            15,
+            42,
+        ),
+        // unpack4x8snorm
+        89 => NameRow(
+            0x75_6e_70_61_63_6b_34_78,
+            0x38_73_6e_6f_72_6d_00_00,
+            0,
+            14,
+            39,
+        ),
+        // unpack4x8unorm
+        90 => NameRow(
+            0x75_6e_70_61_63_6b_34_78,
+            0x38_75_6e_6f_72_6d_00_00,
+            0,
+            14,
+            39,
+        ),
+        // unpack4xI8
+        91 => NameRow(
+            0x75_6e_70_61_63_6b_34_78,
+            0x49_38_00_00_00_00_00_00,
+            0,
+            10,
+            40,
+        ),
+        // unpack4xU8
+        92 => NameRow(
+            0x75_6e_70_61_63_6b_34_78,
+            0x55_38_00_00_00_00_00_00,
+            0,
+            10,
+            41,
+        ),
+        // workgroupBarrier
+        93 => NameRow(
+            0x77_6f_72_6b_67_72_6f_75,
+            0x70_42_61_72_72_69_65_72,
+            0,
+            16,
+            RULE_WORKGROUP_BARRIER,
+        ),
+        _ => NameRow(0, 0, 0, 0, 0),
+    }
 }
 
 // The row whose name has this slot, or NAME_COUNT. No two names share a slot.

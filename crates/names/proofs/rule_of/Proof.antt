@@ -26,28 +26,22 @@ returns-2 : tie.Need-returns-2
 unfolding said
 returns-2 c = sym (no-row _ _ (c .before .row-of-slot .ensures ∙ ap rowOfSlot (c .before .before .slot-of .ensures)) (c .if2 .taken))
 
-letters-requires : tie.Need-letters-requires
-letters-requires c κs = omega (arith, c .if2 .left)
-
-lengths-requires : tie.Need-lengths-requires
-lengths-requires c κs = search needs
+row-at-requires : tie.Need-row-at-requires
+row-at-requires c κs = c .if2 .left
 
 is-named-requires : tie.Need-is-named-requires
-is-named-requires c κs = (c .before .before .before .before .if2 .left, c .before .before .before .letters .ensures, c .before .before .lengths .ensures)
-
-rule-at-requires : tie.Need-rule-at-requires
-rule-at-requires c κs = c .before .before .before .before .before .before .if2 .left
+is-named-requires c κs = (c .before .if2 .left, c .row-at .ensures)
 
 returns-3 : tie.Need-returns-3
 unfolding said
 returns-3 c =
-    let e = same-bytes _ _ (sym (c .before .before .is-named .ensures) ∙ c .before .if3 .taken) in
-    ap known (c .rule-at .ensures) ∙ sym (found _ (c .before .before .before .before .before .before .before .if2 .left)) ∙ ap ruleOf e
+    let e = same-bytes _ _ (sym (c .before .is-named .ensures) ∙ c .if3 .taken) in
+    ap known (c .before .before .row-at .ensures .rule) ∙ sym (found _ (c .before .before .before .if2 .left)) ∙ ap ruleOf e
 
 returns-4 : tie.Need-returns-4
 unfolding said
 returns-4 c =
-    sym (other-name _ _ (c .before .before .before .before .before .before .before .row-of-slot .ensures ∙ ap rowOfSlot (c .before .before .before .before .before .before .before .before .slot-of .ensures)) (sym (c .before .is-named .ensures) ∙ c .if3 .left))
+    sym (other-name _ _ (c .before .before .before .before .row-of-slot .ensures ∙ ap rowOfSlot (c .before .before .before .before .before .slot-of .ensures)) (sym (c .before .is-named .ensures) ∙ c .if3 .left))
 
 pub rule-of-spec : {M : Type 1} → statement M
-rule-of-spec = tie.close (tie.spec returns slot-of-requires row-of-slot-requires returns-2 letters-requires lengths-requires is-named-requires rule-at-requires returns-3 returns-4)
+rule-of-spec = tie.close (tie.spec returns slot-of-requires row-of-slot-requires returns-2 row-at-requires is-named-requires returns-3 returns-4)
