@@ -148,7 +148,7 @@ names =
 abbrev pub count : ℕ
 count = 94
 
--- THE RULE OF A NAME. "Names are compared byte for byte"
+-- THE RULE OF A NAME: names are compared byte for byte
 
 unfoldable pub sameBytes : List ℕ → List ℕ → Bool
 sameBytes [] [] = true

@@ -1,4 +1,4 @@
--- What the code's tables hold, and what a search among the names answers. Assumes nothing.
+-- What the code's tables hold, and what a search among the names answers. The promise of `rule_of` is read without it. Assumes nothing.
 use Prim.Native.Nat.{ℕ, _+_, _*_, _<_}
 use mathlib.Core.Path.{_≡_}
 use mathlib.Core.List.{List}

@@ -1,4 +1,4 @@
-// A sheet typed item by item. The stack belongs to `type_sheet` and is lent inwards as a slice; an item is typed by the single call that it stands for.
+// A sheet typed item by item. The stack belongs to `run` and is lent inwards as a slice; an item is typed by the single call that it stands for.
 use frame::HEADER;
 use frame::Item;
 use frame::Placed;
