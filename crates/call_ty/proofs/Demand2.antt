@@ -1,5 +1,5 @@
--- "The type answered is the type that the definitions give": the number that a call of a builtin answers stands, in the table afterwards, for the
--- type that the name's rule gives on the types of the operands. Assumes nothing.
+-- DEMAND 2 for builtins, "Types are those of the WGSL standard, proved against definitions written from it": the number that a call of a builtin answers
+-- stands, in the table afterwards, for the type that the name's rule gives on the types of the operands. Assumes nothing.
 use Prim.Native.Nat.{ℕ}
 use mathlib.Core.Path.{_≡_, sym, _∙_, ap}
 use mathlib.Core.List.{List}

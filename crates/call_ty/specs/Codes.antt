@@ -1,4 +1,5 @@
--- What the code goes by: operands by their numbers, and the lists that a caller of `call_at` has checked. Assumes nothing.
+-- What the code goes by: operands by their numbers, and the lists that a caller of `call_at` has checked. The promise of a call is read without it.
+-- Assumes nothing.
 use Prim.Native.Nat.{ℕ, _%_, _<_}
 use mathlib.Core.Path.{_≡_}
 use mathlib.Core.Bool.{Bool, true, _&&_, _||_, not}

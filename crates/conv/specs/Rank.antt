@@ -192,6 +192,6 @@ commonOf a b =
 unfoldable pub plainRank : ℕ → ℕ → ℕ
 plainRank a b = pick (both (ltb a 28) (ltb b 28)) (conversionRank (plain a) (plain b)) none
 
--- does the plain number convert to the vector of its width, or the scalar, that has the component t? No other number does
+-- does the type of the plain number k convert to the type of the same shape with the component t? From 28 on a number is not plain, and converts to none
 abbrev pub accepts : ℕ → ℕ → Bool
 accepts k t = both (ltb k 28) (ltb (rankOf (k % 7) t) none)

@@ -143,9 +143,10 @@ formed (ref space access t) = leb space handle && leb access readWrite && isValu
 formed (frexp t) = isFract t && formed t
 formed (modf t) = isFract t && formed t
 
--- the members of a result: that of frexp has `fract` and `exp`, that of modf `fract` and `whole`. No call asks for one
+-- the members of a result: that of frexp has `fract` and `exp`, that of modf `fract` and `whole`. No call asks for one. A type that is no result has no
+-- members: what is written for it stands for nothing
 
--- `exp` is AbstractInt for an abstract `fract`, else i32, with the same width
+-- `exp` is AbstractInt for an abstract `fract`, else i32, with the same width: of `fract` itself, the type that has its width and this component
 abbrev pub exponent : ℕ → ℕ
 exponent s = cond (isAbstract s) abstractInt i32
 

@@ -75,7 +75,7 @@ kindTemplate = 5
 abbrev pub kindTake : ℕ
 kindTake = 6
 
--- "a length byte, a kind and a payload": the payload p begins two bytes after the place, and the next item begins where it ends
+-- "An item is a length byte (bytes following), a kind and a payload": the payload p begins two bytes after the place, and the next item begins where it ends
 module _ (at : ℕ) (p : List ℕ) where
   abbrev pub follows : Item → Placed
   follows i = record { item = i; at = place at; next = place (at + 2 + length p) }

@@ -15,8 +15,8 @@ unfoldable pub bytes : String → List ℕ
 bytes noText = []
 bytes (c then s) = code c ∷ bytes s
 
--- A RULE is a number of its own, which a name put in later does not move: of a ruled name its row of overloads, which is below 47, of a crate rule one
--- of the numbers from 100 on
+-- A RULE is a number of its own, which a name put in later does not move: of a ruled name its row of overloads, which is below 47 and whose place and names
+-- the comments of `overload/specs/Rows.antt` give; of a crate rule one of the numbers from 100 on
 
 abbrev pub overloadRows : ℕ
 overloadRows = 47
@@ -148,7 +148,7 @@ names =
 abbrev pub count : ℕ
 count = 94
 
--- THE RULE OF A NAME. "Names are compared byte for byte"
+-- THE RULE OF A NAME: names are compared byte for byte
 
 unfoldable pub sameBytes : List ℕ → List ℕ → Bool
 sameBytes [] [] = true

@@ -1,4 +1,4 @@
--- What the code's tables hold, and where a name is looked for. Assumes nothing.
+-- What the code's tables hold, and where a name is looked for. The promise of `rule_of` is read without it. Assumes nothing.
 use Prim.Native.Nat.{ℕ, _+_, _-_, _*_, _/_, _%_, _^_, _<_}
 use mathlib.Core.Path.{_≡_}
 use mathlib.Core.Bool.{Bool, true, false, cond}

@@ -1,4 +1,5 @@
--- How the code numbers what Rows writes: shapes, operands, sizes, patterns, families. Assumes nothing.
+-- How the code numbers what Rows writes: shapes, operands, sizes, patterns, families. Of these only `operand`, `codeOf`, `outOf` and `judgedOf` stand in
+-- public promises; the rest says what the tables of the code hold. Assumes nothing.
 use Prim.Native.Nat.{ℕ, _+_, _-_, _*_, _/_, _%_, _^_, _<_}
 use mathlib.Core.Path.{_≡_}
 use mathlib.Core.Bool.{Bool, true, false, cond}

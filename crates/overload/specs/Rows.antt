@@ -132,9 +132,11 @@ integer = abstractInt ∷ i32 ∷ u32 ∷ []
 abbrev pub numeric : List ℕ
 numeric = abstractInt ∷ abstractFloat ∷ i32 ∷ u32 ∷ f32 ∷ f16 ∷ []
 
+-- numeric but u32
 abbrev pub signed : List ℕ
 signed = abstractInt ∷ abstractFloat ∷ i32 ∷ f32 ∷ f16 ∷ []
 
+-- i32 and u32 alone
 abbrev pub bits : List ℕ
 bits = i32 ∷ u32 ∷ []
 

@@ -1,4 +1,4 @@
--- Entering a result by its number: the reply and the words. Assumes nothing.
+-- What the inner functions promise: entering a result by its number, the reply and the words. The promise of a call is read without it. Assumes nothing.
 use Prim.Native.Nat.{ℕ, _+_, _-_, _/_, _%_}
 use mathlib.Core.Path.{_≡_}
 use mathlib.Core.Bool.{cond}

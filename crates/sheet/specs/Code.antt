@@ -1,4 +1,5 @@
--- What the code goes by: a stack is the first values of a lent slice. Assumes nothing.
+-- What the code goes by: a stack is the first values of a lent slice. The promise of `type_sheet` is read without it; `Good` stands in the laws of runs.
+-- Assumes nothing.
 use Prim.Native.Nat.{ℕ, _≤_, _<_, _^_}
 use mathlib.Core.Path.{_≡_}
 use mathlib.Core.List.{List}

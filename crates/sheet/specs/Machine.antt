@@ -26,7 +26,7 @@ use Rattle.call_ty.specs.Calls.{callOutcome}
 
 -- THE STACK
 
--- "its stack holds 64 values"
+-- "a 65th value" is 11: the stack holds 64
 abbrev pub most : ℕ
 most = 64
 

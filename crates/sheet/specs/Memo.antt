@@ -1,6 +1,6 @@
 -- The memo of a run: results of operators that it has met. A slot is 0, or an operator, the values of its operands and the value of its result, a byte each.
 -- What it holds is true of the table as it stands and of every table that grows from it, so a result that is recalled is the one that typing would give.
--- Assumes nothing.
+-- The promise of `type_sheet` is read without it. Assumes nothing.
 use Prim.Native.Nat.{ℕ, _+_, _-_, _*_, _<_, _≤_}
 use mathlib.Core.Path.{_≡_}
 use mathlib.Core.Logic.{_⊎_}

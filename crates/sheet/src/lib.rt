@@ -1,4 +1,4 @@
-// A sheet typed item by item. The stack belongs to `type_sheet` and is lent inwards as a slice; an item is typed by the single call that it stands for.
+// A sheet typed item by item. The stack belongs to `run` and is lent inwards as a slice; an item is typed by the single call that it stands for.
 use frame::HEADER;
 use frame::Item;
 use frame::Placed;
@@ -66,7 +66,7 @@ fn wide32(x: u8) -> u32
     x as u32
 }
 
-// A value of the stack, of a type's number. This and `number` are the only two that know what a value is.
+// A value of the stack, of a type's number. This and `number` are the only two that know what a value is; the memo knows besides that a value is a byte.
 fn value(t: TypeNo) -> u32
     requires { ⌜ t .0 < 2 ^ 32 ⌝ }
     ensures { λ r. ⌜ r ≡ valueOf (t .0) ⌝ }

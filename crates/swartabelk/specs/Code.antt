@@ -1,4 +1,4 @@
--- What the code goes by: an answer's numbers fit into 32 bits. Assumes nothing.
+-- What the code goes by: an answer's numbers fit into 32 bits. The promise of an export is read without it. Assumes nothing.
 use Prim.Native.Nat.{_<_, _^_}
 use Rattle.answer.specs.declared.Answer.{Answer}
 use Rattle.answer.specs.declared.Answer.the-variants.{Value, NoValue, Refused}

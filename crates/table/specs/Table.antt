@@ -114,11 +114,11 @@ runtimeRow e ek = plain e && sized ek
 abbrev pub atomicRow : Entry → Bool
 atomicRow e = plain e && (eqb (e .elem) i32 || eqb (e .elem) u32)
 
--- kind 12: "pointer: p space, q access"; "elem neither 12 nor 13, nor abstract at any depth"; handle is for references only
+-- kind 12: "pointer, reference: p space, q access"; "elem neither 12 nor 13, nor abstract at any depth"; handle is for references only
 abbrev pub ptrRow : Entry → ℕ → ℕ → Bool
 ptrRow e ek eb = leb (e .p) storage && leb (e .q) readWrite && stored ek && not (isAbstract eb)
 
--- kind 13: "reference", likewise; "handle (references only)"
+-- kind 13, likewise; "handle (references only)"
 abbrev pub refRow : Entry → ℕ → ℕ → Bool
 refRow e ek eb = leb (e .p) handle && leb (e .q) readWrite && stored ek && not (isAbstract eb)
 
@@ -139,7 +139,7 @@ rowOk e ek eb =
     (cond (eqb (e .kind) kindFrexp || eqb (e .kind) kindModf) (resultRow e ek eb) false)))))))
 
 -- the fold over elem. What entry j comes to: a scalar by `leaf`, any other entry by `node` from what its elem comes to.
--- Where an elem does not fall, as in no sound table, it is a leaf
+-- Where an elem does not fall, which happens in no sound table, the entry counts as a leaf
 unfoldable pub chainBy : {A : Type 0} → (ℕ → A) → (Entry → A → A) → List ℕ → ℕ → ℕ → A
 chainBy leaf node w zero j = leaf j
 chainBy leaf node w (suc f) j =

@@ -11,7 +11,8 @@ use Rattle.tplt.specs.declared.head.Head.the-variants.{Vector, Matrix, A
 abbrev pub digit : ℕ → ℕ
 digit k = 48 + k
 
--- the name of a head, in bytes: vecN, matCxR, atomic, array
+-- the name of a head, in bytes: vecN, matCxR, atomic, array. Letters by their ASCII numbers: a 97, c 99, e 101, i 105, m 109, o 111, r 114, t 116, v 118,
+-- x 120, y 121
 abbrev pub nameOf : Head → List ℕ
 nameOf (Vector n) = 118 ∷ 101 ∷ 99 ∷ digit n ∷ []
 nameOf (Matrix c r) = 109 ∷ 97 ∷ 116 ∷ digit c ∷ 120 ∷ digit r ∷ []

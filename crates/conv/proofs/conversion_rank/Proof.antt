@@ -9,25 +9,20 @@ use Rattle.conv.proofs.conversion_rank.Reads as reads
 use Rattle.conv.proofs.conversion_rank.Lts as lts
 use Rattle.conv.proofs.board.Reads as board-reads
 
--- src/lib.rt:81:9
 returns : tie.Need-returns
 returns c = sym (plain-from _ _ (c .if1 .taken))
 
--- src/lib.rt:84:9
 returns-2 : tie.Need-returns-2
 returns-2 c = sym (plain-to _ _ (omega arith) (c .if2 .taken))
 
--- src/lib.rt:87:9
 returns-3 : tie.Need-returns-3
 returns-3 c =
     let a = c .before .before .before .args in
     sym (plain-rank (a .from) (a .to) (omega arith) (omega arith) ∙ rw (ne-eqb _ _ (c .if3 .taken)))
 
--- src/lib.rt:89:5
 board-requires : tie.Need-board-requires
 board-requires c κs = search needs
 
--- src/lib.rt:77:1
 returns-4 : tie.Need-returns-4
 returns-4 c =
     let a = c .before .before .before .before .args in

@@ -8,19 +8,15 @@ use Rattle.conv.proofs.convert_ty.Reads as reads
 use Rattle.conv.proofs.convert_ty.Lts as lts
 use Rattle.conv.proofs.common.Reads as common-reads
 
--- src/lib.rt:104:9
 returns : tie.Need-returns
 returns c = sym (common-from _ _ (c .if1 .taken))
 
--- src/lib.rt:107:9
 returns-2 : tie.Need-returns-2
 returns-2 c = sym (common-to _ _ (omega arith) (c .if2 .taken))
 
--- src/lib.rt:109:5
 common-requires : tie.Need-common-requires
 common-requires c κs = search needs
 
--- src/lib.rt:100:1
 returns-3 : tie.Need-returns-3
 returns-3 c = search needs
 

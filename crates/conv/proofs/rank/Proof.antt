@@ -7,19 +7,15 @@ use Rattle.conv.proofs.rank.Reads as reads
 use Rattle.conv.proofs.rank.Lts as lts
 use Rattle.conv.proofs.board.Reads as board-reads
 
--- src/lib.rt:68:9
 returns : tie.Need-returns
 returns c = sym (rank-from _ _ (c .if1 .taken))
 
--- src/lib.rt:71:9
 returns-2 : tie.Need-returns-2
 returns-2 c = sym (rank-to _ _ (c .if2 .taken))
 
--- src/lib.rt:73:5
 board-requires : tie.Need-board-requires
 board-requires c κs = search needs
 
--- src/lib.rt:64:1
 returns-3 : tie.Need-returns-3
 returns-3 c = search needs
 
