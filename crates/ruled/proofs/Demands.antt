@@ -1,6 +1,7 @@
 -- What every call that ends in a judgment keeps of demands 1, 2 and 3. Assumes nothing.
 use Prim.Native.Nat.{ℕ, _-_, _≤_, _<_}
 use mathlib.Core.Path.{_≡_, refl, sym, _∙_, ap, subst}
+use mathlib.Core.Logic.{_≢_}
 use mathlib.Core.Bool.{Bool, true, false, cond}
 use mathlib.Core.List.{List}
 use native.Mathlib.Omega.{arith}
@@ -11,9 +12,9 @@ use Rattle.overload.specs.Overload.{Overload, fits, Preferred, Judged, Resolved
 use Rattle.overload.specs.Overload.Judged.{gives, noneFits, nonePreferred}
 use Rattle.overload.specs.Rows.{overloadsOf, ofRow, judgeRow}
 use Rattle.overload.proofs.Operands.{allFormed, never-thirteen}
-use Rattle.overload.proofs.Judge.{judge-resolved, judge-is}
+use Rattle.overload.proofs.Judge.{judge-resolved}
 use Rattle.overload.proofs.Results.{gives-formed}
-use Rattle.answer.specs.Answer.{accept}
+use Rattle.answer.specs.Answer.{accept, reasonNo}
 use Rattle.table.specs.Table.{Sound}
 use Rattle.table.specs.Denote.{typeAt}
 use Rattle.table.specs.Enter.{free}
@@ -21,7 +22,7 @@ use Rattle.table.specs.Stands.{Stands}
 use Rattle.table.specs.Placing.{Outcome, turnedDown, placed, entering}
 use Rattle.answer.specs.declared.TypeNo.{TypeNo}
 use Rattle.answer.specs.declared.Reason.{Reason}
-use Rattle.answer.specs.declared.Reason.the-variants.{NoOverload}
+use Rattle.answer.specs.declared.Reason.the-variants.{NoOverload, Reference, NoRoom}
 use Rattle.answer.specs.declared.Refusal.{Refusal}
 use Rattle.answer.specs.declared.Answer.{Answer}
 use Rattle.answer.specs.declared.Answer.the-variants.{Value, NoValue, Refused}
@@ -84,24 +85,20 @@ unfold-gives row ts R q = q
 preferred-of : (row : ℕ) (ts : List Ty) (R : Ty) → judgeRow row ts ≡ gives R → (o : Overload) × Preferred (ofRow row) ts o × (R ≡ o .result)
 preferred-of row ts R e = unfold-gives row ts R (subst (Resolved (ofRow row) ts) e (judge-resolved (overloadsOf row) ts))
 
-none-fitting : (row : ℕ) (ts : List Ty) → Resolved (ofRow row) ts noneFits → (p : Overload) → ofRow row p → T (fits (p .params) ts) → ⊥
-unfolding Resolved
-none-fitting row ts q = q
+-- a judgment of any set of overloads, of which it is known that some overload is preferred where one fits
 
-fitting-gives : (row : ℕ) (ts : List Ty) → allFormed ts ≡ true → (p : Overload) → ofRow row p → T (fits (p .params) ts) → (R : Ty) × (judgeRow row ts ≡ gives R)
-fitting-gives row ts f p k h = go (judgeRow row ts) refl
-  where
-    go : (j : Judged) → judgeRow row ts ≡ j → (R : Ty) × (judgeRow row ts ≡ gives R)
-    go (gives R) e = (R, e)
-    go noneFits e = absurd (none-fitting row ts (subst (Resolved (ofRow row) ts) e (judge-resolved (overloadsOf row) ts)) p k h)
-    go nonePreferred e = absurd (never-thirteen ts f row (subst (Resolved (ofRow row) ts) e (judge-resolved (overloadsOf row) ts)))
+module _ (set : Overload → Type 0) (ts : List Ty) (never : Resolved set ts nonePreferred → ⊥) where
+  fitting-gives : (j : Judged) → Resolved set ts j → (p : Overload) → set p → T (fits (p .params) ts) → (R : Ty) × (j ≡ gives R)
+  unfolding Resolved
+  fitting-gives (gives R) q p k h = (R, refl)
+  fitting-gives noneFits q p k h = absurd (q p k h)
+  fitting-gives nonePreferred q p k h = absurd (never q)
 
-is-none-fits : (row : ℕ) (ts : List Ty) → ((p : Overload) → ofRow row p → T (fits (p .params) ts) → ⊥) → Resolved (ofRow row) ts noneFits
-unfolding Resolved
-is-none-fits row ts h = h
-
-nothing-gives : (row : ℕ) (ts : List Ty) → ((p : Overload) → ofRow row p → T (fits (p .params) ts) → ⊥) → judgeRow row ts ≡ noneFits
-nothing-gives row ts h = sym (judge-is (overloadsOf row) ts noneFits (is-none-fits row ts h))
+  nothing-gives : (j : Judged) → Resolved set ts j → ((p : Overload) → set p → T (fits (p .params) ts) → ⊥) → j ≡ noneFits
+  unfolding Resolved
+  nothing-gives (gives R) q h = absurd (h (q .0) (q .1 .among) (q .1 .fitting))
+  nothing-gives noneFits q h = refl
+  nothing-gives nonePreferred q h = absurd (never q)
 
 -- DEMANDS 2 AND 3 for a judged call: the type that is answered is the one that the judgment gives; and what the judgment gives is answered where there is room
 
@@ -130,6 +127,16 @@ module _ (place : ℕ) (w : List ℕ) (n : ℕ) (s : Sound w n) where
   unfolding judgedOutcome
   judged-none = refl
 
+  -- an overload fits, and there is room for the result: accepted; none fits: refused with 8; and 13 is never given
+  module _ (set : Overload → Type 0) (ts : List Ty) (never : Resolved set ts nonePreferred → ⊥) (j : Judged) (resolved : Resolved set ts j) where
+    pub judged-fits : (p : Overload) → set p → T (fits (p .params) ts) → ((R : Ty) → j ≡ gives R → Room R) → (t : ℕ) × (m : ℕ) × (judgedOutcome place w n j .answer ≡ accept t m)
+    judged-fits p k h room =
+        let g = fitting-gives set ts never j resolved p k h in
+        (placed w n (g .0) .number, placed w n (g .0) .used, ap (λ (o : Outcome). o .answer) (ap (judgedOutcome place w n) (g .1) ∙ judged-gives (g .0)) ∙ room-answers (g .0) (room (g .0) (g .1)))
+
+    pub judged-nothing : ((p : Overload) → set p → T (fits (p .params) ts) → ⊥) → judgedOutcome place w n j ≡ turnedDown NoOverload place w n
+    judged-nothing h = ap (judgedOutcome place w n) (nothing-gives set ts never j resolved h) ∙ judged-none
+
   -- a ruled call on loaded operands, none of them a reference
 
   module _ (row : ℕ) (ts : List Ty) (f : allFormed ts ≡ true) (loaded : anyReference ts ≡ false) where
@@ -149,9 +156,43 @@ module _ (place : ℕ) (w : List ℕ) (n : ℕ) (s : Sound w n) where
     pub ruled-fits : (p : Overload) → ofRow row p → T (fits (p .params) ts) → ((R : Ty) → judgeRow row ts ≡ gives R → Room R)
         → (t : ℕ) × (m : ℕ) × (ruledOutcome place w n row ts .answer ≡ accept t m)
     ruled-fits p k h room =
-        let g = fitting-gives row ts f p k h in
-        (placed w n (g .0) .number, placed w n (g .0) .used, ap (λ (o : Outcome). o .answer) (ruled-is ∙ ap (judgedOutcome place w n) (g .1) ∙ judged-gives (g .0)) ∙ room-answers (g .0) (room (g .0) (g .1)))
+        let q = judged-fits (ofRow row) ts (never-thirteen ts f row) (judgeRow row ts) (judge-resolved (overloadsOf row) ts) p k h room in
+        (q .0, q .1, ap (λ (o : Outcome). o .answer) ruled-is ∙ q .2)
 
-    -- no overload fits: refused with 8, and 13 is never given
+    -- no overload fits: refused with 8
     pub ruled-none : ((p : Overload) → ofRow row p → T (fits (p .params) ts) → ⊥) → ruledOutcome place w n row ts ≡ turnedDown NoOverload place w n
-    ruled-none h = ruled-is ∙ ap (judgedOutcome place w n) (nothing-gives row ts h) ∙ judged-none
+    ruled-none h = ruled-is ∙ judged-nothing (ofRow row) ts (never-thirteen ts f row) (judgeRow row ts) (judge-resolved (overloadsOf row) ts) h
+
+-- REFUSAL 13 IS NEVER GIVEN, by what a call that is judged can end in
+
+abbrev pub Never13 : Outcome → Type 0
+Never13 o = (r : Refusal) → o .answer ≡ Refused r → reasonNo (r .reason) ≢ 13
+
+module _ (w : List ℕ) (n : ℕ) where
+  pub never-refused : (reason : Reason) (place : ℕ) → reasonNo reason ≢ 13 → Never13 (turnedDown reason place w n)
+  never-refused reason place h r e q =
+      let a : record { reason = reason; place = record { 0 = place }; used = n } ≡ r = cc in
+      h (ap (λ (x : Refusal). reasonNo (x .reason)) a ∙ q)
+
+  pub never-by : (b : Bool) (x y : Outcome) → (b ≡ true → Never13 x) → (b ≡ false → Never13 y) → Never13 (cond b x y)
+  never-by true x y f g = f refl
+  never-by false x y f g = g refl
+
+  module _ (s : Sound w n) where
+    never-entering : (place : ℕ) (R : Ty) → formed R ≡ true → Never13 (entering place w n R)
+    never-entering place R f r e q =
+        let y = entering-refused place w n s R f r (entering place w n R .words) (λ i. record { answer = e i; words = entering place w n R .words }) .1 in
+        let a : reasonNo (r .reason) ≡ reasonNo NoRoom = ap (λ (z : Refusal). reasonNo (z .reason)) y in omega arith
+
+    pub never-judged : (place : ℕ) (set : Overload → Type 0) (ts : List Ty) → (Resolved set ts nonePreferred → ⊥) → (j : Judged) → Resolved set ts j
+        → ((R : Ty) → j ≡ gives R → formed R ≡ true) → Never13 (judgedOutcome place w n j)
+    unfolding judgedOutcome
+    never-judged place set ts never (gives R) q f = never-entering place R (f R refl)
+    never-judged place set ts never noneFits q f = never-refused NoOverload place (λ e. omega arith)
+    never-judged place set ts never nonePreferred q f = absurd (never q)
+
+    pub never-ruled : (place row : ℕ) (ts : List Ty) → allFormed ts ≡ true → Never13 (ruledOutcome place w n row ts)
+    unfolding ruledOutcome
+    never-ruled place row ts f =
+        never-by (anyReference ts) _ _ (λ e. never-refused Reference place (λ e. omega arith))
+        (λ e. never-judged place (ofRow row) ts (never-thirteen ts f row) (judgeRow row ts) (judge-resolved (overloadsOf row) ts) (λ R q. gives-formed row ts R q .0))
