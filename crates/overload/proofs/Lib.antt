@@ -3,6 +3,7 @@ pub mod Slots
 pub mod Lines
 pub mod Families
 pub mod Listing
+pub mod ListedOnce
 pub mod Places
 pub mod Found
 pub mod Demand3
