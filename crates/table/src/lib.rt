@@ -3,7 +3,11 @@ ghost use mathlib.Core.Path.{_≡_};
 ghost use Prim.Native.Nat.{ℕ, _+_, _*_, _≤_, _<_};
 ghost use lib.ListN.{length};
 ghost use Rattle.conv.specs.Types.{isWidth, isFloat, isAbstract};
-ghost use Rattle.table.specs.Table.{stride, ceiling, entryAt, putEntry, sameb, rowOk, baseOf, scalarOk, madeOk, entryOk, findIn, isNothing, goodAt, soundb, allowedb, Sound};
+ghost use Rattle.table.specs.Table.{stride, scalars, ceiling, entryAt, putEntry, sameb, rowOk, baseOf, scalarOk, madeOk, findIn, isNothing, goodAt, soundb, allowedb, Sound};
+ghost use mathlib.Core.Bool.{true};
+ghost use Rattle.table.specs.Tools.{allBelow};
+ghost use Rattle.table.specs.Slots.{scalarAt, slotOf, lastIn, Links, Slotted};
+ghost use Rattle.table.specs.declared.Found.the-variants.{Nothing};
 ghost use Rattle.table.specs.Enter.{free, container, EnterDone, EnterTwoDone, entryAnswer, EnterTypeDone};
 pub use answer::Answer;
 pub use answer::Place;
@@ -19,6 +23,9 @@ pub use answer::refused;
 pub const STRIDE: usize = 4;
 
 pub const CEILING: usize = 256;
+
+// How many slots the soundness test sorts the entries into.
+const SLOTS: usize = 256;
 
 // The scalars are the entries below this number, each by its own.
 pub const SCALARS: usize = 7;
@@ -100,6 +107,12 @@ pub fn wide(x: u32) -> usize
     ensures { λ r. ⌜ r ≡ x ⌝ }
 {
     x as usize
+}
+
+fn long(link: u16) -> usize
+    ensures { λ r. ⌜ r ≡ link ⌝ }
+{
+    link as usize
 }
 
 // Entry i. This and `put_entry` are the only two that know how an entry lies in the words.
@@ -225,16 +238,6 @@ fn made_ok(words: &[u32], i: usize, e: Entry) -> bool
     row_ok(e, f.kind, base_of(words, el))
 }
 
-fn entry_ok(words: &[u32], i: usize, e: Entry) -> bool
-    requires { ⌜ i * stride ≤ length (now words) ⌝ }
-    ensures { λ r. ⌜ r ≡ entryOk (now (words .entry)) i e ⌝ }
-{
-    if i < SCALARS {
-        return scalar_ok(i, e);
-    }
-    made_ok(words, i, e)
-}
-
 // The number of the first of the first n entries that has e's key.
 pub fn find(words: &[u32], n: usize, e: Entry) -> Found
     requires { ⌜ n * stride ≤ length (now words) ⌝ }
@@ -250,21 +253,82 @@ pub fn find(words: &[u32], n: usize, e: Entry) -> Found
     Found::Nothing
 }
 
-fn is_nothing(f: Found) -> bool
-    ensures { λ r. ⌜ r ≡ isNothing f ⌝ }
+// Whether entries 0 to 6 are the scalars.
+fn scalars_stand(words: &[u32]) -> bool
+    requires { ⌜ scalars * stride ≤ length (now words) ⌝ }
+    ensures { λ r. ⌜ r ≡ allBelow (scalarAt (now (words .entry))) scalars ⌝ }
 {
-    match f {
-        Found::At(_) => false,
-        Found::Nothing => true,
+    let mut i = 0;
+    while i < SCALARS {
+        if !scalar_ok(i, entry_at(words, i)) {
+            return false;
+        }
+        i += 1;
     }
+    true
 }
 
-fn good_at(words: &[u32], i: usize) -> bool
-    requires { ⌜ (i + 1) * stride ≤ length (now words) ⌝ }
-    ensures { λ r. ⌜ r ≡ goodAt (now (words .entry)) i ⌝ }
+// The slot of an entry: equal entries have one slot.
+fn slot_of(e: Entry) -> usize
+    ensures { λ r. ⌜ r ≡ slotOf e ⌝ }
+{
+    wide((e.kind % 256 * 37 + e.p % 256 * 11 + e.q % 256 * 101 + e.elem % 256) % 256)
+}
+
+// Whether none of the first i entries has e's key, for an e that is no scalar. Only the entries of e's slot are looked at, from the last one back.
+fn is_new(words: &[u32], before: &[u16], i: usize, last: usize, e: Entry) -> bool
+    requires { ⌜ (i * stride ≤ length (now words)) × (i ≤ length (now before)) × Links (now words) i (now before) × (last ≡ lastIn (now words) i (slotOf e)) ⌝ }
+    ensures { λ r. ⌜ (findIn (now (words .entry)) scalars e ≡ Nothing → scalars ≤ i → r ≡ isNothing (findIn (now (words .entry)) i e)) ⌝ }
+{
+    let mut at = last;
+    while 0 < at {
+        let k = at - 1;
+        if same(entry_at(words, k), e) {
+            return false;
+        }
+        at = long(before[k]);
+    }
+    true
+}
+
+// Whether entry i is good, which is put into its slot.
+fn good_next(words: &[u32], i: usize, last: &mut [u16], before: &mut [u16]) -> bool
+    requires { ⌜ ((i + 1) * stride ≤ length (now words)) × (scalars ≤ i) × (i < ceiling) × (allBelow (scalarAt (now words)) scalars ≡ true) × Slotted (now words) i (now last) (now before) ⌝ }
+    ensures { λ r. ⌜ (r ≡ goodAt (now (words .entry)) i) × Slotted (now (words .entry)) (i + 1) (now (last .exit)) (now (before .exit)) ⌝ }
 {
     let e = entry_at(words, i);
-    entry_ok(words, i, e) & is_nothing(find(words, i, e))
+    let s = slot_of(e);
+    let t = last[s];
+    before[i] = t;
+    last[s] = (i + 1) as u16;
+    made_ok(words, i, e) & is_new(words, before, i, long(t), e)
+}
+
+// Whether the first n entries are good, where the scalars stand and the slots are empty.
+fn rest_good(words: &[u32], n: usize, last: &mut [u16], before: &mut [u16]) -> bool
+    requires { ⌜ (n * stride ≤ length (now words)) × (scalars ≤ n) × (n ≤ ceiling) × (allBelow (scalarAt (now words)) scalars ≡ true) × Slotted (now words) scalars (now last) (now before) ⌝ }
+    ensures { λ r. ⌜ r ≡ allBelow (goodAt (now (words .entry))) n ⌝ }
+{
+    let mut i = SCALARS;
+    while i < n {
+        if !good_next(words, i, last, before) {
+            return false;
+        }
+        i += 1;
+    }
+    true
+}
+
+// `rest_good`, with slots of its own.
+fn rest_sorted(words: &[u32], n: usize) -> bool
+    requires { ⌜ (n * stride ≤ length (now words)) × (scalars ≤ n) × (n ≤ ceiling) × (allBelow (scalarAt (now words)) scalars ≡ true) ⌝ }
+    ensures { λ r. ⌜ r ≡ allBelow (goodAt (now (words .entry))) n ⌝ }
+{
+    let mut lasts = [0u16; SLOTS];
+    let last: &mut [u16] = &mut lasts;
+    let mut befores = [0u16; CEILING];
+    let before: &mut [u16] = &mut befores;
+    rest_good(words, n, last, before)
 }
 
 // Whether the words hold a sound table of n entries.
@@ -280,14 +344,13 @@ pub fn sound(words: &[u32], n: usize) -> bool
     if words.len() < n * STRIDE {
         return false;
     }
-    let mut i = 0;
-    while i < n {
-        if !good_at(words, i) {
-            return false;
-        }
-        i += 1;
+    if !scalars_stand(words) {
+        return false;
     }
-    true
+    if n == SCALARS {
+        return true;
+    }
+    rest_sorted(words, n)
 }
 
 // Whether e may be taken into a table of n entries.
