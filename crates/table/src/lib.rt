@@ -3,7 +3,7 @@ ghost use mathlib.Core.Path.{_≡_};
 ghost use Prim.Native.Nat.{ℕ, _+_, _*_, _≤_, _<_};
 ghost use lib.ListN.{length};
 ghost use Rattle.conv.specs.Types.{isWidth, isFloat, isAbstract};
-ghost use Rattle.table.specs.Table.{stride, scalars, ceiling, entryAt, putEntry, sameb, rowOk, baseOf, scalarOk, madeOk, findIn, isNothing, goodAt, soundb, allowedb, Sound};
+ghost use Rattle.table.specs.Table.{stride, scalars, ceiling, kindPtr, entryAt, putEntry, sameb, plain, stored, sized, rowOk, baseOf, scalarOk, madeOk, findIn, isNothing, goodAt, soundb, allowedb, Sound};
 ghost use mathlib.Core.Bool.{true};
 ghost use Rattle.table.specs.Tools.{allBelow};
 ghost use Rattle.table.specs.Slots.{scalarAt, slotOf, lastIn, Links, Slotted};
@@ -165,15 +165,33 @@ fn is_abstract(s: usize) -> bool
     (s == ABSTRACT_INT) | (s == ABSTRACT_FLOAT)
 }
 
-// The rule of the entry's row: `ek` is the kind of its elem, `eb` the innermost scalar of its elem.
-fn row_ok(e: Entry, ek: u32, eb: usize) -> bool
-    ensures { λ r. ⌜ r ≡ rowOk e ek eb ⌝ }
+// p and q are unused.
+fn is_plain(e: Entry) -> bool
+    ensures { λ r. ⌜ r ≡ plain e ⌝ }
+{
+    (e.p == 0) & (e.q == 0)
+}
+
+// No kind of a pointer or a reference; and none of an array without count either.
+fn is_stored(ek: u32) -> bool
+    ensures { λ r. ⌜ r ≡ stored ek ⌝ }
+{
+    (ek != KIND_PTR) & (ek != KIND_REF)
+}
+
+fn is_sized(ek: u32) -> bool
+    ensures { λ r. ⌜ r ≡ sized ek ⌝ }
+{
+    is_stored(ek) & (ek != KIND_RUNTIME)
+}
+
+// The rule of the entry's row, for the kinds that ask only for `ek`, the kind of elem.
+fn flat_ok(e: Entry, ek: u32) -> bool
+    requires { ⌜ e .kind < kindPtr ⌝ }
+    ensures { λ r. ⌜ ((eb : ℕ) → r ≡ rowOk e ek eb) ⌝ }
 {
     let k = e.kind;
     let el = wide(e.elem);
-    let plain = (e.p == 0) & (e.q == 0);
-    let stored = (ek != KIND_PTR) & (ek != KIND_REF);
-    let sized = stored & (ek != KIND_RUNTIME);
     if k == KIND_VEC {
         return is_width(e.p) & (e.q == 0) & (el < SCALARS);
     }
@@ -181,22 +199,38 @@ fn row_ok(e: Entry, ek: u32, eb: usize) -> bool
         return is_width(e.p) & is_width(e.q) & is_float(el);
     }
     if k == KIND_ARRAY {
-        return (1 <= e.p) & (e.q == 0) & sized;
+        return (1 <= e.p) & (e.q == 0) & is_sized(ek);
     }
     if k == KIND_RUNTIME {
-        return plain & sized;
+        return is_plain(e) & is_sized(ek);
     }
     if k == KIND_ATOMIC {
-        return plain & ((el == I32) | (el == U32));
+        return is_plain(e) & ((el == I32) | (el == U32));
     }
+    false
+}
+
+// The same for the kinds that ask for `eb` too, the innermost scalar of elem.
+fn deep_ok(e: Entry, ek: u32, eb: usize) -> bool
+    requires { ⌜ kindPtr ≤ e .kind ⌝ }
+    ensures { λ r. ⌜ r ≡ rowOk e ek eb ⌝ }
+{
+    let k = e.kind;
+    let el = wide(e.elem);
     if k == KIND_PTR {
-        return (e.p <= SPACE_STORAGE) & (e.q <= ACCESS_READ_WRITE) & stored & !is_abstract(eb);
+        return (e.p <= SPACE_STORAGE)
+            & (e.q <= ACCESS_READ_WRITE)
+            & is_stored(ek)
+            & !is_abstract(eb);
     }
     if k == KIND_REF {
-        return (e.p <= SPACE_HANDLE) & (e.q <= ACCESS_READ_WRITE) & stored & !is_abstract(eb);
+        return (e.p <= SPACE_HANDLE)
+            & (e.q <= ACCESS_READ_WRITE)
+            & is_stored(ek)
+            & !is_abstract(eb);
     }
     if (k == KIND_FREXP) | (k == KIND_MODF) {
-        return plain & is_float(eb) & ((el < SCALARS) | (ek == KIND_VEC));
+        return is_plain(e) & is_float(eb) & ((el < SCALARS) | (ek == KIND_VEC));
     }
     false
 }
@@ -235,7 +269,10 @@ fn made_ok(words: &[u32], i: usize, e: Entry) -> bool
         return false;
     }
     let f = entry_at(words, el);
-    row_ok(e, f.kind, base_of(words, el))
+    if e.kind < KIND_PTR {
+        return flat_ok(e, f.kind);
+    }
+    deep_ok(e, f.kind, base_of(words, el))
 }
 
 // The number of the first of the first n entries that has e's key.
@@ -408,6 +445,19 @@ fn over(outer: Entry, t: usize) -> Entry
     }
 }
 
+// The number of the container `outer` over `inner`, which is absent: both are entered, or neither where room lacks for one.
+fn enter_both(words: &mut [u32], n: usize, inner: Entry, outer: Entry) -> Entered
+    requires { ⌜ Sound (now words) n × (findIn (now words) n inner ≡ Nothing) ⌝ }
+    ensures { λ r. ⌜ EnterTwoDone (now (words .entry)) n inner outer r (now (words .exit)) ⌝ }
+{
+    if free_of(words, n) < 2 {
+        return Entered::Full;
+    }
+    put_entry(words, n, inner);
+    put_entry(words, n + 1, over(outer, n));
+    Entered::There(TypeNo(n + 1), n + 2)
+}
+
 // The number of the container `outer` over `inner`: each is entered where it is absent, or neither where room lacks for one.
 pub fn enter_two(words: &mut [u32], n: usize, inner: Entry, outer: Entry) -> Entered
     requires { ⌜ Sound (now words) n ⌝ }
@@ -416,14 +466,7 @@ pub fn enter_two(words: &mut [u32], n: usize, inner: Entry, outer: Entry) -> Ent
     let f = find(words, n, inner);
     match f {
         Found::At(t) => enter(words, n, over(outer, t.0)),
-        Found::Nothing => {
-            if free_of(words, n) < 2 {
-                return Entered::Full;
-            }
-            put_entry(words, n, inner);
-            put_entry(words, n + 1, over(outer, n));
-            Entered::There(TypeNo(n + 1), n + 2)
-        }
+        Found::Nothing => enter_both(words, n, inner, outer),
     }
 }
 

@@ -4,8 +4,8 @@ use mathlib.Core.Path.{_≡_, sym, _∙_, ap}
 use mathlib.Core.Bool.{true, false}
 use native.Mathlib.Omega.{arith}
 use borrow.Author.Needs.{needs}
-use borrow.Author.Tests.{not-true, not-false}
 use Rattle.table.specs.Table.{sameb, entryAt}
+use Rattle.table.specs.declared.Entry.{Entry}
 use Rattle.table.proofs.SlotLaws.{Walk, walk-start, walk-hit, walk-step, walk-end}
 use Rattle.table.proofs.is_new.Statement.{statement}
 use Rattle.table.proofs.is_new.Tie as tie
@@ -32,7 +32,7 @@ returns : tie.Need-returns Inv-loop μ-loop
 returns c =
     let a = c .before .before .before .before .before .before .before .args in
     let l = c .before .before .before .before .loop in
-    let s : sameb (entryAt (a .words .now) (l .at - 1)) (a .e) ≡ true = cc in
+    let s : sameb (entryAt (a .words .now) (l .at - 1)) (a .e) ≡ true = ap (λ (x : Entry). sameb x (a .e)) (sym (c .before .before .entry-at .ensures)) ∙ sym (c .before .same .ensures) ∙ c .if1 .taken in
     walk-hit (a .words .now) (a .i) (a .e) (l .at) (l .at - 1) (omega arith) (l .inv) s
 
 mul-long : tie.Need-mul-long Inv-loop μ-loop
@@ -48,7 +48,7 @@ step : (c : tie.After-long Inv-loop μ-loop) → Walk (c .before .before .before
 step c =
     let a = c .before .before .before .before .before .before .before .before .before .args in
     let l = c .before .before .before .before .before .before .loop in
-    let s : sameb (entryAt (a .words .now) (l .at - 1)) (a .e) ≡ false = cc in
+    let s : sameb (entryAt (a .words .now) (l .at - 1)) (a .e) ≡ false = ap (λ (x : Entry). sameb x (a .e)) (sym (c .before .before .before .before .entry-at .ensures)) ∙ sym (c .before .before .before .same .ensures) ∙ c .before .before .if1 .left in
     walk-step (a .words .now) (a .i) (a .e) (l .at) (l .at - 1) (omega arith) (l .inv) (a .before .now) (c .before .before .before .before .before .before .before .before .before .pre .2) s (c .long .result) (c .long .ensures)
 
 loop-less : tie.Need-loop-less Inv-loop μ-loop
