@@ -1,12 +1,12 @@
--- `table::enter_both` meets its contract: no room, or both written. Assumes nothing.
+-- `entering::enter_both` meets its contract: no room, or both written. Assumes nothing.
 use mathlib.Core.Path.{_≡_, ap, _∙_}
 use native.Mathlib.Omega.{arith}
 use lib.ListN.{length}
 use Rattle.table.proofs.SoundLaws.{put-length}
 use Rattle.table.proofs.EnterCases.{free-room, two-full, two-new}
 use borrow.Author.Needs.{needs}
-use Rattle.table.proofs.enter_both.Statement.{statement}
-use Rattle.table.proofs.enter_both.Tie as tie
+use Rattle.entering.proofs.enter_both.Statement.{statement}
+use Rattle.entering.proofs.enter_both.Tie as tie
 
 free-of-requires : tie.Need-free-of-requires
 free-of-requires c κs = c .before .before .pre .0

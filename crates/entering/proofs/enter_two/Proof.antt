@@ -1,12 +1,12 @@
--- `table::enter_two` meets its contract: the container alone, or both. Assumes nothing.
+-- `entering::enter_two` meets its contract: the container alone, or both. Assumes nothing.
 use mathlib.Core.Path.{_≡_, sym, _∙_}
 use native.Mathlib.Omega.{arith}
 use Rattle.table.specs.Enter.{container}
 use Rattle.table.proofs.SoundLaws.{find-at}
 use Rattle.table.proofs.EnterCases.{two-found}
 use borrow.Author.Needs.{needs}
-use Rattle.table.proofs.enter_two.Statement.{statement}
-use Rattle.table.proofs.enter_two.Tie as tie
+use Rattle.entering.proofs.enter_two.Statement.{statement}
+use Rattle.entering.proofs.enter_two.Tie as tie
 
 find-requires : tie.Need-find-requires
 find-requires c κs = search needs
