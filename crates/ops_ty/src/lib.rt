@@ -51,7 +51,7 @@ fn type_ref(words: &mut [u32], n: usize, place: Place, a: usize) -> Answer
     if e.p == table::SPACE_HANDLE {
         return table::refused(Reason::NoOverload, place, n);
     }
-    let r = table::enter(
+    let r = entering::enter(
         words,
         n,
         Entry {
@@ -61,7 +61,7 @@ fn type_ref(words: &mut [u32], n: usize, place: Place, a: usize) -> Answer
             elem: e.elem,
         },
     );
-    table::answer_of(place, n, r)
+    entering::answer_of(place, n, r)
 }
 
 // `op_deref`: from a pointer the reference.
@@ -73,7 +73,7 @@ fn type_deref(words: &mut [u32], n: usize, place: Place, a: usize) -> Answer
     if e.kind != table::KIND_PTR {
         return table::refused(Reason::NoOverload, place, n);
     }
-    let r = table::enter(
+    let r = entering::enter(
         words,
         n,
         Entry {
@@ -83,7 +83,7 @@ fn type_deref(words: &mut [u32], n: usize, place: Place, a: usize) -> Answer
             elem: e.elem,
         },
     );
-    table::answer_of(place, n, r)
+    entering::answer_of(place, n, r)
 }
 
 // A unary operator on a loaded operand, at a place.

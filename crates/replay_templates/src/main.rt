@@ -161,7 +161,7 @@ fn entered(words: &mut [u32], n: usize, kind: u32) -> usize {
         q: ACCESS_READ,
         elem: 3,
     };
-    write_answer(table::enter_type(words, n, e))
+    write_answer(entering::enter_type(words, n, e))
 }
 
 // Neither is a pointer or a reference.

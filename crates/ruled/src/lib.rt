@@ -84,7 +84,7 @@ fn enter_result(words: &mut [u32], n: usize, kind: u32, x: u8) -> Entered
     ensures { λ r. ⌜ ResultDone (now (words .entry)) n kind x r (now (words .exit)) ⌝ }
 {
     if x < SCALARS {
-        return table::enter(
+        return entering::enter(
             words,
             n,
             Entry {
@@ -95,7 +95,7 @@ fn enter_result(words: &mut [u32], n: usize, kind: u32, x: u8) -> Entered
             },
         );
     }
-    table::enter_two(
+    entering::enter_two(
         words,
         n,
         vec_entry(x),
@@ -117,9 +117,9 @@ fn enter_plain(words: &mut [u32], n: usize, x: u8) -> Entered
         return Entered::There(TypeNo(x as usize), n);
     }
     if x < PLAINS {
-        return table::enter(words, n, vec_entry(x));
+        return entering::enter(words, n, vec_entry(x));
     }
-    table::enter(words, n, mat_entry(x))
+    entering::enter(words, n, mat_entry(x))
 }
 
 // The type of a result, entered where it is absent.
@@ -128,9 +128,13 @@ fn enter_out(words: &mut [u32], n: usize, place: Place, out: Out) -> Answer
     ensures { λ r. ⌜ Gave (entering (place .0) (now (words .entry)) n (outOf out)) r (now (words .exit)) ⌝ }
 {
     match out {
-        Out::Plain(x) => table::answer_of(place, n, enter_plain(words, n, x)),
-        Out::Frexp(x) => table::answer_of(place, n, enter_result(words, n, table::KIND_FREXP, x)),
-        Out::Modf(x) => table::answer_of(place, n, enter_result(words, n, table::KIND_MODF, x)),
+        Out::Plain(x) => entering::answer_of(place, n, enter_plain(words, n, x)),
+        Out::Frexp(x) => entering::answer_of(
+            place,
+            n,
+            enter_result(words, n, table::KIND_FREXP, x),
+        ),
+        Out::Modf(x) => entering::answer_of(place, n, enter_result(words, n, table::KIND_MODF, x)),
     }
 }
 

@@ -363,8 +363,8 @@ fn take_in(
     if VALUES <= count {
         return stopped(Reason::Stack, place, used);
     }
-    let r = table::enter(table, used, e);
-    settle(stack, count, table::answer_of(place, used, r))
+    let r = entering::enter(table, used, e);
+    settle(stack, count, entering::answer_of(place, used, r))
 }
 
 // What stands at a place of the sheet, on the stack of `count` values and the table.

@@ -105,7 +105,7 @@ fn word(k: usize, j: usize) -> u32
 
 // The used count after entering one entry.
 fn enter(words: &mut [u32], n: usize, e: Entry) -> usize {
-    let r = table::enter_type(words, n, e);
+    let r = entering::enter_type(words, n, e);
     match r {
         Answer::Value(_, m) => m,
         Answer::NoValue(m) => m,

@@ -2,6 +2,7 @@ pub mod TableLaws
 pub mod SoundLaws
 pub mod EnterCases
 pub mod KindLaws
+pub mod SlotLaws
 pub mod TypeLaws
 pub mod FormedLaws
 pub mod ReadLaws

@@ -1,5 +1,6 @@
 pub mod Tools
 pub mod Table
+pub mod Slots
 pub mod Denote
 pub mod Enter
 pub mod Stands

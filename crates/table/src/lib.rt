@@ -3,8 +3,11 @@ ghost use mathlib.Core.Path.{_≡_};
 ghost use Prim.Native.Nat.{ℕ, _+_, _*_, _≤_, _<_};
 ghost use lib.ListN.{length};
 ghost use Rattle.conv.specs.Types.{isWidth, isFloat, isAbstract};
-ghost use Rattle.table.specs.Table.{stride, ceiling, entryAt, putEntry, sameb, rowOk, baseOf, scalarOk, madeOk, entryOk, findIn, isNothing, goodAt, soundb, allowedb, Sound};
-ghost use Rattle.table.specs.Enter.{free, container, EnterDone, EnterTwoDone, entryAnswer, EnterTypeDone};
+ghost use Rattle.table.specs.Table.{stride, scalars, ceiling, kindPtr, entryAt, sameb, plain, stored, sized, rowOk, baseOf, scalarOk, madeOk, findIn, isNothing, goodAt, soundb, allowedb, Sound};
+ghost use mathlib.Core.Bool.{true};
+ghost use Rattle.table.specs.Tools.{allBelow};
+ghost use Rattle.table.specs.Slots.{scalarAt, slotOf, lastIn, Links, Slotted};
+ghost use Rattle.table.specs.declared.Found.the-variants.{Nothing};
 pub use answer::Answer;
 pub use answer::Place;
 pub use answer::Reason;
@@ -19,6 +22,9 @@ pub use answer::refused;
 pub const STRIDE: usize = 4;
 
 pub const CEILING: usize = 256;
+
+// How many slots the soundness test sorts the entries into.
+const SLOTS: usize = 256;
 
 // The scalars are the entries below this number, each by its own.
 pub const SCALARS: usize = 7;
@@ -102,7 +108,13 @@ pub fn wide(x: u32) -> usize
     x as usize
 }
 
-// Entry i. This and `put_entry` are the only two that know how an entry lies in the words.
+fn long(link: u16) -> usize
+    ensures { λ r. ⌜ r ≡ link ⌝ }
+{
+    link as usize
+}
+
+// Entry i. This and `entering::put_entry` are the only two that know how an entry lies in the words.
 pub fn entry_at(words: &[u32], i: usize) -> Entry
     requires { ⌜ (i + 1) * stride ≤ length (now words) ⌝ }
     ensures { λ r. ⌜ r ≡ entryAt (now (words .entry)) i ⌝ }
@@ -114,17 +126,6 @@ pub fn entry_at(words: &[u32], i: usize) -> Entry
         q: words[at + 2],
         elem: words[at + 3],
     }
-}
-
-fn put_entry(words: &mut [u32], i: usize, e: Entry)
-    requires { ⌜ (i + 1) * stride ≤ length (now words) ⌝ }
-    ensures { λ _. ⌜ now (words .exit) ≡ putEntry (now (words .entry)) i e ⌝ }
-{
-    let at = i * STRIDE;
-    words[at] = e.kind;
-    words[at + 1] = e.p;
-    words[at + 2] = e.q;
-    words[at + 3] = e.elem;
 }
 
 // Two entries have one key.
@@ -152,15 +153,33 @@ fn is_abstract(s: usize) -> bool
     (s == ABSTRACT_INT) | (s == ABSTRACT_FLOAT)
 }
 
-// The rule of the entry's row: `ek` is the kind of its elem, `eb` the innermost scalar of its elem.
-fn row_ok(e: Entry, ek: u32, eb: usize) -> bool
-    ensures { λ r. ⌜ r ≡ rowOk e ek eb ⌝ }
+// p and q are unused.
+fn is_plain(e: Entry) -> bool
+    ensures { λ r. ⌜ r ≡ plain e ⌝ }
+{
+    (e.p == 0) & (e.q == 0)
+}
+
+// No kind of a pointer or a reference; and none of an array without count either.
+fn is_stored(ek: u32) -> bool
+    ensures { λ r. ⌜ r ≡ stored ek ⌝ }
+{
+    (ek != KIND_PTR) & (ek != KIND_REF)
+}
+
+fn is_sized(ek: u32) -> bool
+    ensures { λ r. ⌜ r ≡ sized ek ⌝ }
+{
+    is_stored(ek) & (ek != KIND_RUNTIME)
+}
+
+// The rule of the entry's row, for the kinds that ask only for `ek`, the kind of elem.
+fn flat_ok(e: Entry, ek: u32) -> bool
+    requires { ⌜ e .kind < kindPtr ⌝ }
+    ensures { λ r. ⌜ ((eb : ℕ) → r ≡ rowOk e ek eb) ⌝ }
 {
     let k = e.kind;
     let el = wide(e.elem);
-    let plain = (e.p == 0) & (e.q == 0);
-    let stored = (ek != KIND_PTR) & (ek != KIND_REF);
-    let sized = stored & (ek != KIND_RUNTIME);
     if k == KIND_VEC {
         return is_width(e.p) & (e.q == 0) & (el < SCALARS);
     }
@@ -168,22 +187,38 @@ fn row_ok(e: Entry, ek: u32, eb: usize) -> bool
         return is_width(e.p) & is_width(e.q) & is_float(el);
     }
     if k == KIND_ARRAY {
-        return (1 <= e.p) & (e.q == 0) & sized;
+        return (1 <= e.p) & (e.q == 0) & is_sized(ek);
     }
     if k == KIND_RUNTIME {
-        return plain & sized;
+        return is_plain(e) & is_sized(ek);
     }
     if k == KIND_ATOMIC {
-        return plain & ((el == I32) | (el == U32));
+        return is_plain(e) & ((el == I32) | (el == U32));
     }
+    false
+}
+
+// The same for the kinds that ask for `eb` too, the innermost scalar of elem.
+fn deep_ok(e: Entry, ek: u32, eb: usize) -> bool
+    requires { ⌜ kindPtr ≤ e .kind ⌝ }
+    ensures { λ r. ⌜ r ≡ rowOk e ek eb ⌝ }
+{
+    let k = e.kind;
+    let el = wide(e.elem);
     if k == KIND_PTR {
-        return (e.p <= SPACE_STORAGE) & (e.q <= ACCESS_READ_WRITE) & stored & !is_abstract(eb);
+        return (e.p <= SPACE_STORAGE)
+            & (e.q <= ACCESS_READ_WRITE)
+            & is_stored(ek)
+            & !is_abstract(eb);
     }
     if k == KIND_REF {
-        return (e.p <= SPACE_HANDLE) & (e.q <= ACCESS_READ_WRITE) & stored & !is_abstract(eb);
+        return (e.p <= SPACE_HANDLE)
+            & (e.q <= ACCESS_READ_WRITE)
+            & is_stored(ek)
+            & !is_abstract(eb);
     }
     if (k == KIND_FREXP) | (k == KIND_MODF) {
-        return plain & is_float(eb) & ((el < SCALARS) | (ek == KIND_VEC));
+        return is_plain(e) & is_float(eb) & ((el < SCALARS) | (ek == KIND_VEC));
     }
     false
 }
@@ -222,17 +257,10 @@ fn made_ok(words: &[u32], i: usize, e: Entry) -> bool
         return false;
     }
     let f = entry_at(words, el);
-    row_ok(e, f.kind, base_of(words, el))
-}
-
-fn entry_ok(words: &[u32], i: usize, e: Entry) -> bool
-    requires { ⌜ i * stride ≤ length (now words) ⌝ }
-    ensures { λ r. ⌜ r ≡ entryOk (now (words .entry)) i e ⌝ }
-{
-    if i < SCALARS {
-        return scalar_ok(i, e);
+    if e.kind < KIND_PTR {
+        return flat_ok(e, f.kind);
     }
-    made_ok(words, i, e)
+    deep_ok(e, f.kind, base_of(words, el))
 }
 
 // The number of the first of the first n entries that has e's key.
@@ -250,21 +278,82 @@ pub fn find(words: &[u32], n: usize, e: Entry) -> Found
     Found::Nothing
 }
 
-fn is_nothing(f: Found) -> bool
-    ensures { λ r. ⌜ r ≡ isNothing f ⌝ }
+// Whether entries 0 to 6 are the scalars.
+fn scalars_stand(words: &[u32]) -> bool
+    requires { ⌜ scalars * stride ≤ length (now words) ⌝ }
+    ensures { λ r. ⌜ r ≡ allBelow (scalarAt (now (words .entry))) scalars ⌝ }
 {
-    match f {
-        Found::At(_) => false,
-        Found::Nothing => true,
+    let mut i = 0;
+    while i < SCALARS {
+        if !scalar_ok(i, entry_at(words, i)) {
+            return false;
+        }
+        i += 1;
     }
+    true
 }
 
-fn good_at(words: &[u32], i: usize) -> bool
-    requires { ⌜ (i + 1) * stride ≤ length (now words) ⌝ }
-    ensures { λ r. ⌜ r ≡ goodAt (now (words .entry)) i ⌝ }
+// The slot of an entry: equal entries have one slot.
+fn slot_of(e: Entry) -> usize
+    ensures { λ r. ⌜ r ≡ slotOf e ⌝ }
+{
+    wide((e.kind % 256 * 37 + e.p % 256 * 11 + e.q % 256 * 101 + e.elem % 256) % 256)
+}
+
+// Whether none of the first i entries has e's key, for an e that is no scalar. Only the entries of e's slot are looked at, from the last one back.
+fn is_new(words: &[u32], before: &[u16], i: usize, last: usize, e: Entry) -> bool
+    requires { ⌜ (i * stride ≤ length (now words)) × (i ≤ length (now before)) × Links (now words) i (now before) × (last ≡ lastIn (now words) i (slotOf e)) ⌝ }
+    ensures { λ r. ⌜ (findIn (now (words .entry)) scalars e ≡ Nothing → scalars ≤ i → r ≡ isNothing (findIn (now (words .entry)) i e)) ⌝ }
+{
+    let mut at = last;
+    while 0 < at {
+        let k = at - 1;
+        if same(entry_at(words, k), e) {
+            return false;
+        }
+        at = long(before[k]);
+    }
+    true
+}
+
+// Whether entry i is good, which is put into its slot.
+fn good_next(words: &[u32], i: usize, last: &mut [u16], before: &mut [u16]) -> bool
+    requires { ⌜ ((i + 1) * stride ≤ length (now words)) × (scalars ≤ i) × (i < ceiling) × (allBelow (scalarAt (now words)) scalars ≡ true) × Slotted (now words) i (now last) (now before) ⌝ }
+    ensures { λ r. ⌜ (r ≡ goodAt (now (words .entry)) i) × Slotted (now (words .entry)) (i + 1) (now (last .exit)) (now (before .exit)) ⌝ }
 {
     let e = entry_at(words, i);
-    entry_ok(words, i, e) & is_nothing(find(words, i, e))
+    let s = slot_of(e);
+    let t = last[s];
+    before[i] = t;
+    last[s] = (i + 1) as u16;
+    made_ok(words, i, e) & is_new(words, before, i, long(t), e)
+}
+
+// Whether the first n entries are good, where the scalars stand and the slots are empty.
+fn rest_good(words: &[u32], n: usize, last: &mut [u16], before: &mut [u16]) -> bool
+    requires { ⌜ (n * stride ≤ length (now words)) × (scalars ≤ n) × (n ≤ ceiling) × (allBelow (scalarAt (now words)) scalars ≡ true) × Slotted (now words) scalars (now last) (now before) ⌝ }
+    ensures { λ r. ⌜ r ≡ allBelow (goodAt (now (words .entry))) n ⌝ }
+{
+    let mut i = SCALARS;
+    while i < n {
+        if !good_next(words, i, last, before) {
+            return false;
+        }
+        i += 1;
+    }
+    true
+}
+
+// `rest_good`, with slots of its own.
+fn rest_sorted(words: &[u32], n: usize) -> bool
+    requires { ⌜ (n * stride ≤ length (now words)) × (scalars ≤ n) × (n ≤ ceiling) × (allBelow (scalarAt (now words)) scalars ≡ true) ⌝ }
+    ensures { λ r. ⌜ r ≡ allBelow (goodAt (now (words .entry))) n ⌝ }
+{
+    let mut lasts = [0u16; SLOTS];
+    let last: &mut [u16] = &mut lasts;
+    let mut befores = [0u16; CEILING];
+    let before: &mut [u16] = &mut befores;
+    rest_good(words, n, last, before)
 }
 
 // Whether the words hold a sound table of n entries.
@@ -280,14 +369,13 @@ pub fn sound(words: &[u32], n: usize) -> bool
     if words.len() < n * STRIDE {
         return false;
     }
-    let mut i = 0;
-    while i < n {
-        if !good_at(words, i) {
-            return false;
-        }
-        i += 1;
+    if !scalars_stand(words) {
+        return false;
     }
-    true
+    if n == SCALARS {
+        return true;
+    }
+    rest_sorted(words, n)
 }
 
 // Whether e may be taken into a table of n entries.
@@ -300,89 +388,4 @@ pub fn allowed(words: &[u32], n: usize, e: Entry) -> bool
         return scalar_ok(k, e);
     }
     made_ok(words, n, e)
-}
-
-// How many entries more the slice and the ceiling leave room for.
-fn free_of(words: &[u32], n: usize) -> usize
-    requires { ⌜ Sound (now words) n ⌝ }
-    ensures { λ r. ⌜ r ≡ free (now (words .entry)) n ⌝ }
-{
-    let whole = words.len() / STRIDE;
-    if CEILING <= whole {
-        return CEILING - n;
-    }
-    whole - n
-}
-
-// The number of e, which is entered where it is absent.
-pub fn enter(words: &mut [u32], n: usize, e: Entry) -> Entered
-    requires { ⌜ Sound (now words) n ⌝ }
-    ensures { λ r. ⌜ EnterDone (now (words .entry)) n e r (now (words .exit)) ⌝ }
-{
-    let f = find(words, n, e);
-    match f {
-        Found::At(t) => Entered::There(t, n),
-        Found::Nothing => {
-            if free_of(words, n) < 1 {
-                return Entered::Full;
-            }
-            put_entry(words, n, e);
-            Entered::There(TypeNo(n), n + 1)
-        }
-    }
-}
-
-// `outer` with the element t.
-fn over(outer: Entry, t: usize) -> Entry
-    requires { ⌜ t ≤ ceiling ⌝ }
-    ensures { λ r. ⌜ r ≡ container outer t ⌝ }
-{
-    Entry {
-        kind: outer.kind,
-        p: outer.p,
-        q: outer.q,
-        elem: t as u32,
-    }
-}
-
-// The number of the container `outer` over `inner`: each is entered where it is absent, or neither where room lacks for one.
-pub fn enter_two(words: &mut [u32], n: usize, inner: Entry, outer: Entry) -> Entered
-    requires { ⌜ Sound (now words) n ⌝ }
-    ensures { λ r. ⌜ EnterTwoDone (now (words .entry)) n inner outer r (now (words .exit)) ⌝ }
-{
-    let f = find(words, n, inner);
-    match f {
-        Found::At(t) => enter(words, n, over(outer, t.0)),
-        Found::Nothing => {
-            if free_of(words, n) < 2 {
-                return Entered::Full;
-            }
-            put_entry(words, n, inner);
-            put_entry(words, n + 1, over(outer, n));
-            Entered::There(TypeNo(n + 1), n + 2)
-        }
-    }
-}
-
-// The answer of a call at a place by the reply of entering.
-pub fn answer_of(place: Place, n: usize, r: Entered) -> Answer
-    ensures { λ a. ⌜ a ≡ entryAnswer (place .0) r n ⌝ }
-{
-    match r {
-        Entered::There(t, m) => accepted(t, m),
-        Entered::Full => refused(Reason::NoRoom, place, n),
-    }
-}
-
-// For a host: the type that e stands for, entered where it is absent.
-pub fn enter_type(words: &mut [u32], n: usize, e: Entry) -> Answer
-    ensures { λ r. ⌜ EnterTypeDone (now (words .entry)) n e r (now (words .exit)) ⌝ }
-{
-    if !sound(words, n) {
-        return refused(Reason::Unsound, Place(0), n);
-    }
-    if !allowed(words, n, e) {
-        return refused(Reason::Template, Place(0), n);
-    }
-    answer_of(Place(0), n, enter(words, n, e))
 }

@@ -11,6 +11,8 @@ ghost use Rattle.tplt.specs.Steps.{vecEntry, matEntry, atomicEntry, arra
 pub mod head;
 pub mod param;
 
+use entering::answer_of;
+use entering::enter;
 use head::Head;
 use head::head_of;
 use param::Arguments;
@@ -23,8 +25,6 @@ use table::Entry;
 use table::Place;
 use table::Reason;
 use table::TypeNo;
-use table::answer_of;
-use table::enter;
 use table::entry_at;
 use table::refused;
 use table::sound;

@@ -109,7 +109,7 @@ pub fn fill(words: &mut [u32]) -> usize
 {
     let mut used = table::SCALARS;
     for i in SCALARS..END {
-        used = used_of(table::enter_type(words, used, entry_of(i)));
+        used = used_of(entering::enter_type(words, used, entry_of(i)));
     }
     used
 }

@@ -9,11 +9,11 @@ use Rattle.sheet.proofs.take_in.Statement.{statement}
 use Rattle.sheet.proofs.take_in.Tie as tie
 use Rattle.sheet.proofs.take_in.Reads as reads
 use Rattle.sheet.proofs.take_in.Lts as lts
-use Rattle.table.proofs.answer_of.Reads as answer-of-reads
+use Rattle.entering.proofs.answer_of.Reads as answer-of-reads
 use Rattle.sheet.proofs.settle.Reads as settle-reads
 use Rattle.sheet.proofs.stopped.Reads as stopped-reads
 use Rattle.table.proofs.allowed.Reads as allowed-reads
-use Rattle.table.proofs.enter.Reads as enter-reads
+use Rattle.entering.proofs.enter.Reads as enter-reads
 
 allowed-requires : tie.Need-allowed-requires
 allowed-requires c κs = search needs

@@ -1,9 +1,11 @@
 -- `table::find` meets its contract. The loop has found nothing yet. Assumes nothing.
-use mathlib.Core.Path.{_≡_, sym}
+use mathlib.Core.Path.{_≡_, sym, _∙_, ap}
+use mathlib.Core.Bool.{true, false}
 use Prim.Native.Nat.{ℕ, _≤_, _-_}
 use native.Mathlib.Omega.{arith}
 use borrow.Author.Needs.{needs}
-use Rattle.table.specs.Table.{findIn}
+use Rattle.table.specs.Table.{entryAt, sameb, findIn}
+use Rattle.table.specs.declared.Entry.{Entry}
 use Rattle.table.specs.declared.Found.the-variants.{At, Nothing}
 use Rattle.table.proofs.TableLaws.{find-none, find-more, find-stop}
 use Rattle.table.proofs.find.Statement.{statement}
@@ -28,7 +30,8 @@ returns : tie.Need-returns Inv-loop μ-loop
 returns c =
     let l = c .before .before .before .before in
     let a = l .before .before .args in
-    sym (find-stop (a .words .now) (a .e) (l .loop .i) (a .n) (l .loop .inv .1) (cc) (omega arith))
+    let s : sameb (entryAt (a .words .now) (l .loop .i)) (a .e) ≡ true = ap (λ (x : Entry). sameb x (a .e)) (sym (c .before .before .entry-at .ensures)) ∙ sym (c .before .same .ensures) ∙ c .if1 .taken in
+    sym (find-stop (a .words .now) (a .e) (l .loop .i) (a .n) (l .loop .inv .1) s (omega arith))
 
 add-i : tie.Need-add-i Inv-loop μ-loop
 add-i c = omega arith
@@ -40,7 +43,8 @@ loop-again : tie.Need-loop-again Inv-loop μ-loop
 loop-again c =
     let l = c .before .before .before .before in
     let a = l .before .before .args in
-    (omega arith, find-more (a .words .now) (a .e) (l .loop .i) (l .loop .inv .1) (cc))
+    let s : sameb (entryAt (a .words .now) (l .loop .i)) (a .e) ≡ false = ap (λ (x : Entry). sameb x (a .e)) (sym (c .before .before .entry-at .ensures)) ∙ sym (c .before .same .ensures) ∙ c .if1 .left in
+    (omega arith, find-more (a .words .now) (a .e) (l .loop .i) (l .loop .inv .1) s)
 
 returns-2 : tie.Need-returns-2 Inv-loop μ-loop
 returns-2 c =

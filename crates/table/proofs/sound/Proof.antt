@@ -1,87 +1,72 @@
--- `table::sound` meets its contract. The loop has passed good entries alone. Assumes nothing.
-use Prim.Native.Nat.{ℕ, _≤_, _-_, _*_}
-use mathlib.Core.Path.{_≡_, sym, _∙_}
-use lib.ListN.{length}
+-- `table::sound` meets its contract: the scalars, then the entries above them. Assumes nothing.
+use Prim.Native.Nat.{ℕ, _≤_, _*_}
+use mathlib.Core.Path.{_≡_, sym, _∙_, ap}
 use mathlib.Core.Bool.{true, false}
+use mathlib.Core.List.{List}
+use lib.ListN.{length}
 use native.Mathlib.Omega.{arith}
-use borrow.Author.Needs.{needs}
 use borrow.Author.Tests.{le-leb, lt-leb, not-true, not-false}
 use Rattle.table.specs.Tools.{allBelow}
-use Rattle.table.specs.Table.{stride, soundb, goodAt}
-use Rattle.table.proofs.TableLaws.{all-none, all-more, all-stop}
+use Rattle.table.specs.Table.{stride, scalars, ceiling, soundb, goodAt}
+use Rattle.table.proofs.SlotLaws.{scalars-good, scalars-bad}
 use Rattle.table.proofs.sound.Statement.{statement}
 use Rattle.table.proofs.sound.Tie as tie
 
-abbrev Inv-loop : tie.InvT-loop
-Inv-loop words n i₀ i = (i ≤ n) × (allBelow (goodAt words) i ≡ true)
+-- in range, the entries decide
+by-entries : (w : List ℕ) (n : ℕ) → scalars ≤ n → n ≤ ceiling → n * stride ≤ length w → allBelow (goodAt w) n ≡ soundb w n
+unfolding soundb
+by-entries w n low high room = rw (le-leb 7 n low, le-leb n 256 high, le-leb (n * stride) (length w) room)
 
-abbrev μ-loop : tie.MeasureT-loop
-μ-loop words n i₀ i = n - i
-
-returns : tie.Need-returns Inv-loop μ-loop
+returns : tie.Need-returns
 unfolding soundb
 returns c = rw (lt-leb 7 _ (c .if1 .taken))
 
-returns-2 : tie.Need-returns-2 Inv-loop μ-loop
+returns-2 : tie.Need-returns-2
 unfolding soundb
 returns-2 c = rw (le-leb 7 _ (c .before .if1 .left), lt-leb _ 256 (c .if2 .taken))
 
-mul-if3 : tie.Need-mul-if3 Inv-loop μ-loop
+mul-if3 : tie.Need-mul-if3
 mul-if3 c = omega arith
 
-returns-3 : tie.Need-returns-3 Inv-loop μ-loop
+returns-3 : tie.Need-returns-3
 unfolding soundb
 returns-3 c = rw (le-leb 7 _ (c .before .before .if1 .left), le-leb _ 256 (c .before .if2 .left), lt-leb _ _ (c .if3 .taken))
 
-loop-holds : tie.Need-loop-holds Inv-loop μ-loop
-loop-holds c = (omega arith, all-none _)
+scalars-stand-requires : tie.Need-scalars-stand-requires
+scalars-stand-requires c κs = let low = c .before .before .if1 .left in let room = c .if3 .left in omega arith
 
-good-at-requires : tie.Need-good-at-requires Inv-loop μ-loop
-good-at-requires c κs = omega arith
-
-returns-4 : tie.Need-returns-4 Inv-loop μ-loop
-unfolding soundb
+returns-4 : tie.Need-returns-4
 returns-4 c =
-    let l = c .before .before .before in
-    let a = l .before .before .before .before .before .args in
-    let e : goodAt (a .words .now) (l .loop .i) ≡ false = sym (c .before .good-at .ensures) ∙ not-true _ (c .if4 .taken) in
-    rw
-    (le-leb 7 (a .n) (omega arith), le-leb (a .n) 256 (omega arith), le-leb (a .n * stride) (length (a .words .now)) (omega arith), all-stop (goodAt (a .words .now)) (l .loop .i) (a .n) e (omega arith))
+    let a = c .before .before .before .before .before .before .args in
+    let w = a .words .now in
+    sym (scalars-bad w (a .n) (c .before .before .before .before .if1 .left) (sym (c .before .scalars-stand .ensures) ∙ not-true _ (c .if4 .taken)))
+    ∙ by-entries w (a .n) (c .before .before .before .before .if1 .left) (c .before .before .before .if2 .left) (c .before .before .if3 .left)
 
-add-i : tie.Need-add-i Inv-loop μ-loop
-add-i c = omega arith
-
-loop-less : tie.Need-loop-less Inv-loop μ-loop
-loop-less c = omega arith
-
-loop-again : tie.Need-loop-again Inv-loop μ-loop
-loop-again c =
-    let l = c .before .before .before in
-    (omega arith, all-more (goodAt _) (l .loop .i) (l .loop .inv .1) (sym (c .before .good-at .ensures) ∙ not-false _ (c .if4 .left)))
-
-returns-5 : tie.Need-returns-5 Inv-loop μ-loop
-unfolding soundb
+returns-5 : tie.Need-returns-5
 returns-5 c =
-    let l = c .before in
-    let a = l .before .before .before .before .before .args in
-    let e : l .loop .i ≡ a .n = omega arith in
-    rw
-    (le-leb 7 (a .n) (omega arith), le-leb (a .n) 256 (omega arith), le-leb (a .n * stride) (length (a .words .now)) (omega arith), ← e, l .loop .inv .1)
+    let a = c .before .before .before .before .before .before .before .args in
+    let w = a .words .now in
+    sym (ap (allBelow (goodAt w)) (c .if5 .taken) ∙ scalars-good w (sym (c .before .before .scalars-stand .ensures) ∙ not-false _ (c .before .if4 .left)))
+    ∙ by-entries w (a .n) (c .before .before .before .before .before .if1 .left) (c .before .before .before .before .if2 .left) (c .before .before .before .if3 .left)
+
+rest-sorted-requires : tie.Need-rest-sorted-requires
+rest-sorted-requires c κs = (c .before .before .before .if3 .left, c .before .before .before .before .before .if1 .left, c .before .before .before .before .if2 .left, sym (c .before .before .scalars-stand .ensures) ∙ not-false _ (c .before .if4 .left))
+
+returns-6 : tie.Need-returns-6
+returns-6 c =
+    let a = c .before .before .before .before .before .before .before .before .args in
+    c .rest-sorted .ensures ∙ by-entries (a .words .now) (a .n) (c .before .before .before .before .before .before .if1 .left) (c .before .before .before .before .before .if2 .left) (c .before .before .before .before .if3 .left)
 
 pub sound-spec : {M : Type 1} → statement M
 sound-spec =
     tie.close
     (tie.spec
-    Inv-loop
-    μ-loop
     returns
     returns-2
     mul-if3
     returns-3
-    loop-holds
-    good-at-requires
+    scalars-stand-requires
     returns-4
-    add-i
-    loop-less
-    loop-again
-    returns-5)
+    returns-5
+    rest-sorted-requires
+    returns-6)

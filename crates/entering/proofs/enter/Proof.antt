@@ -1,12 +1,12 @@
--- `table::enter` meets its contract: found, no room, or written as the next entry. Assumes nothing.
+-- `entering::enter` meets its contract: found, no room, or written as the next entry. Assumes nothing.
 use mathlib.Core.Path.{_≡_, sym, _∙_}
 use native.Mathlib.Omega.{arith}
 use Rattle.table.specs.Table.{findIn}
 use Rattle.table.specs.declared.Found.the-variants.{Nothing}
 use Rattle.table.proofs.EnterCases.{free-room, enter-found, enter-full, enter-new}
 use borrow.Author.Needs.{needs}
-use Rattle.table.proofs.enter.Statement.{statement}
-use Rattle.table.proofs.enter.Tie as tie
+use Rattle.entering.proofs.enter.Statement.{statement}
+use Rattle.entering.proofs.enter.Tie as tie
 
 find-requires : tie.Need-find-requires
 find-requires c κs = search needs

@@ -1,10 +1,10 @@
--- `table::answer_of` meets its contract: the two cases of entering. Assumes nothing.
+-- `entering::answer_of` meets its contract: the two cases of entering. Assumes nothing.
 use borrow.Author.Needs.{needs}
 use mathlib.Core.Path.{_≡_, sym, _∙_, ap}
 use Rattle.table.specs.Enter.{entryAnswer}
 use Rattle.table.specs.declared.Entered.{Entered}
-use Rattle.table.proofs.answer_of.Statement.{statement}
-use Rattle.table.proofs.answer_of.Tie as tie
+use Rattle.entering.proofs.answer_of.Statement.{statement}
+use Rattle.entering.proofs.answer_of.Tie as tie
 
 enum-known-r : tie.Need-enum-known-r
 enum-known-r c = search needs

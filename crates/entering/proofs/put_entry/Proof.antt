@@ -1,9 +1,9 @@
--- `table::put_entry` meets its contract: the four words are set one after the other. Assumes nothing.
+-- `entering::put_entry` meets its contract: the four words are set one after the other. Assumes nothing.
 use native.Mathlib.Omega.{arith}
 use lib.ListN.{length-set}
 use borrow.Author.Needs.{needs}
-use Rattle.table.proofs.put_entry.Statement.{statement}
-use Rattle.table.proofs.put_entry.Tie as tie
+use Rattle.entering.proofs.put_entry.Statement.{statement}
+use Rattle.entering.proofs.put_entry.Tie as tie
 
 mul-at : tie.Need-mul-at
 mul-at c = search needs

@@ -1,10 +1,10 @@
--- `table::free_of` meets its contract: the least of the two, less the count. Assumes nothing.
+-- `entering::free_of` meets its contract: the least of the two, less the count. Assumes nothing.
 use native.Mathlib.Omega.{arith}
 use borrow.Author.Tests.{le-leb, lt-leb}
 use Rattle.table.specs.Enter.{free}
 use borrow.Author.Needs.{needs}
-use Rattle.table.proofs.free_of.Statement.{statement}
-use Rattle.table.proofs.free_of.Tie as tie
+use Rattle.entering.proofs.free_of.Statement.{statement}
+use Rattle.entering.proofs.free_of.Tie as tie
 
 sub-result : tie.Need-sub-result
 sub-result c = search needs

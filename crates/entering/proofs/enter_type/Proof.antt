@@ -1,13 +1,13 @@
--- `table::enter_type` meets its contract: unsound, not allowed, no room, or entered. Assumes nothing.
+-- `entering::enter_type` meets its contract: unsound, not allowed, no room, or entered. Assumes nothing.
 use mathlib.Core.Path.{_≡_, sym, _∙_}
 use mathlib.Core.Bool.{true, false}
 use borrow.Author.Tests.{not-true, not-false}
 use Rattle.table.specs.Table.{soundb, allowedb}
 use Rattle.table.proofs.SoundLaws.{sound-of}
 use Rattle.table.proofs.EnterCases.{host-unsound, host-forbidden, host-entered}
 use borrow.Author.Needs.{needs}
-use Rattle.table.proofs.enter_type.Statement.{statement}
-use Rattle.table.proofs.enter_type.Tie as tie
+use Rattle.entering.proofs.enter_type.Statement.{statement}
+use Rattle.entering.proofs.enter_type.Tie as tie
 
 sound-requires : tie.Need-sound-requires
 sound-requires c κs = search needs
