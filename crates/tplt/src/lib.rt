@@ -57,14 +57,6 @@ pub enum Parsed {
     Wrong(Reason),
 }
 
-// The word of a type's number.
-fn word_of(t: TypeNo) -> u32
-    requires { ⌜ t .0 < ceiling ⌝ }
-    ensures { λ r. ⌜ r ≡ t .0 ⌝ }
-{
-    t.0 as u32
-}
-
 // A scalar that is not abstract.
 fn is_concrete(t: TypeNo) -> bool
     ensures { λ r. ⌜ r ≡ isConcrete (t .0) ⌝ }
@@ -145,7 +137,7 @@ impl VecTemplate {
             kind: table::KIND_VEC,
             p: n,
             q: 0,
-            elem: word_of(t),
+            elem: t.0 as u32,
         }
     }
 }
@@ -172,7 +164,7 @@ impl MatTemplate {
             kind: table::KIND_MAT,
             p: c,
             q: r,
-            elem: word_of(t),
+            elem: t.0 as u32,
         }
     }
 }
@@ -197,7 +189,7 @@ impl AtomicTemplate {
             kind: table::KIND_ATOMIC,
             p: 0,
             q: 0,
-            elem: word_of(t),
+            elem: t.0 as u32,
         }
     }
 }
@@ -221,7 +213,7 @@ impl ArrayTemplate {
     {
         let n = self.n;
         let t = self.ty;
-        let elem = word_of(t);
+        let elem = t.0 as u32;
         match n {
             ArrayCount::Of(count) => Entry {
                 kind: table::KIND_ARRAY,

@@ -2,7 +2,7 @@
 ghost use Prim.Native.Nat.{_+_, _<_};
 ghost use mathlib.Core.Path.{_≡_};
 ghost use lib.ListN.{length};
-ghost use Rattle.tplt.specs.Params.{typeParam, i32Param, u32Param, paramOf, isKnown, isTyped, paramsOf, typesKnown, argumentsOf, countZ, countOf};
+ghost use Rattle.tplt.specs.Params.{typeParam, i32Param, u32Param, paramOf, paramsOf, typesKnown, argumentsOf, countZ, countOf};
 ghost use Rattle.tplt.specs.Steps.{paramAt};
 use table::TypeNo;
 
@@ -101,25 +101,6 @@ fn param_of(n: usize, tag: i64, value: i64) -> TpltParam
     TpltParam::Other
 }
 
-fn is_known(p: TpltParam) -> bool
-    ensures { λ r. ⌜ r ≡ isKnown p ⌝ }
-{
-    match p {
-        TpltParam::NoType => false,
-        _ => true,
-    }
-}
-
-fn is_typed(p: TpltParam) -> bool
-    ensures { λ r. ⌜ r ≡ isTyped p ⌝ }
-{
-    match p {
-        TpltParam::NoType => true,
-        TpltParam::Typed(_) => true,
-        _ => false,
-    }
-}
-
 // The argument of the pair at a place.
 fn param_at(n: usize, args: &[i64], at: usize) -> TpltParam
     requires { ⌜ at + 1 < length (now args) ⌝ }
@@ -134,7 +115,8 @@ pub fn types_known(n: usize, args: &[i64]) -> bool
 {
     let mut at = 0;
     while at + 1 < args.len() {
-        if !is_known(param_at(n, args, at)) {
+        let p = param_at(n, args, at);
+        if let TpltParam::NoType = p {
             return false;
         }
         at += 2;
@@ -161,10 +143,11 @@ pub fn arguments_of(n: usize, args: &[i64]) -> Arguments
         return Arguments::Amiss;
     }
     let second = param_at(n, args, 2);
-    if is_typed(second) {
-        return Arguments::Amiss;
+    match second {
+        TpltParam::Typed(_) => Arguments::Amiss,
+        TpltParam::NoType => Arguments::Amiss,
+        _ => Arguments::Two(t, second),
     }
-    Arguments::Two(t, second)
 }
 
 // The sign is tested before the cast, which then loses nothing.

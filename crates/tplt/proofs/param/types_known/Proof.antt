@@ -4,9 +4,8 @@ use mathlib.Core.Path.{_≡_, refl, sym, _∙_, ap}
 use native.Mathlib.Omega.{arith}
 use lib.ListN.{length, drop}
 use borrow.Author.Needs.{needs}
-use borrow.Author.Tests.{not-true, not-false}
 use Rattle.tplt.specs.Params.{paramsOf, isKnown, typesKnown}
-use Rattle.tplt.proofs.ParamLaws.{known-fails, known-next, known-end}
+use Rattle.tplt.proofs.ParamLaws.{known-other, known-fails, known-next, known-end}
 use Rattle.tplt.proofs.param.types_known.Statement.{statement}
 use Rattle.tplt.proofs.param.types_known.Tie as tie
 
@@ -25,25 +24,25 @@ add-loop c = omega (arith, c .loop .inv .0)
 param-at-requires : tie.Need-param-at-requires Inv-loop μ-loop
 param-at-requires c κs = search needs
 
-is-known-requires : tie.Need-is-known-requires Inv-loop μ-loop
-is-known-requires c κs = search needs
+enum-told : tie.Need-enum-told Inv-loop μ-loop
+enum-told c = search needs
 
 returns : tie.Need-returns Inv-loop μ-loop
 returns c = let a = c .before .before .before .before .before .args in
     let l = c .before .before .before .before .loop in
-    sym (l .inv .1 ∙ known-fails (a .n) (a .args .now) (l .at) (c .before .before .before .loop-test .taken) (sym (c .before .is-known .ensures ∙ ap isKnown (c .before .before .param-at .ensures)) ∙ not-true _ (c .if1 .taken)))
+    sym (l .inv .1 ∙ known-fails (a .n) (a .args .now) (l .at) (c .before .before .before .loop-test .taken) (ap isKnown (sym (c .before .before .param-at .ensures) ∙ c .enum-told .given .1)))
 
 add-at : tie.Need-add-at Inv-loop μ-loop
-add-at c = omega (arith, c .before .before .before .loop-test .taken)
+add-at c = omega (arith, c .before .before .loop-test .taken)
 
 loop-less : tie.Need-loop-less Inv-loop μ-loop
-loop-less c = omega (arith, c .before .before .before .loop-test .taken)
+loop-less c = omega (arith, c .before .before .loop-test .taken)
 
 loop-again : tie.Need-loop-again Inv-loop μ-loop
-loop-again c = let a = c .before .before .before .before .before .args in
-    let l = c .before .before .before .before .loop in (
-      omega (arith, c .before .before .before .loop-test .taken),
-      l .inv .1 ∙ known-next (a .n) (a .args .now) (l .at) (c .before .before .before .loop-test .taken) (sym (c .before .is-known .ensures ∙ ap isKnown (c .before .before .param-at .ensures)) ∙ not-false _ (c .if1 .left)),
+loop-again c = let a = c .before .before .before .before .args in
+    let l = c .before .before .before .loop in (
+      omega (arith, c .before .before .loop-test .taken),
+      l .inv .1 ∙ known-next (a .n) (a .args .now) (l .at) (c .before .before .loop-test .taken) (ap isKnown (sym (c .before .param-at .ensures)) ∙ sym (known-other (c .before .param-at .result) (c .match .keys2))),
     )
 
 returns-2 : tie.Need-returns-2 Inv-loop μ-loop
@@ -58,7 +57,7 @@ types-known-spec =
     loop-holds
     add-loop
     param-at-requires
-    is-known-requires
+    enum-told
     returns
     add-at
     loop-less
