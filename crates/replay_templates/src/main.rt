@@ -1,309 +1,260 @@
-// Runs the template types: every head with every scalar, counts of every kind of literal, nested arrays, wrong lists, heads that are
-// none, numbers that are no type, tables that are full and tables that are not sound. A line for each call: the head, and its answer.
+// Runs the template types from standard input, a line for each call: the head, and the tags and values of its arguments in decimal, a blank before each.
+// A line `= SIZE N FILLED` begins a table of so many words and entries, with the seven scalars in it (1) or with nothing but 0 (0).
+// A line `enter KIND` enters a pointer to i32 (12) or a reference (13). For a call and an entry a line is written: the head, and the answer.
+ghost use Prim.Native.Nat.{_≤_};
+ghost use lib.ListN.{length};
 use libc::STDOUT_FILENO;
 use table::ACCESS_READ;
 use table::Answer;
 use table::Entry;
 use table::KIND_PTR;
 use table::KIND_REF;
+use table::Refusal;
 use table::SPACE_STORAGE;
-use tplt::param::TAG_ABSTRACT_INT;
-use tplt::param::TAG_I32;
-use tplt::param::TAG_TYPE;
-use tplt::param::TAG_U32;
 
-// A tag that is none of the four: another literal.
-const TAG_OTHER: i64 = 4;
+const BLANK: u8 = b' ';
 
-fn write_digit(d: usize) {
-    let b = [(48 + d % 10) as u8];
-    io::write_all(STDOUT_FILENO, &b);
+const LINE_END: u8 = 10;
+
+// The first bytes of the lines that are no call.
+const TABLE: u8 = b'=';
+
+const ENTER: u8 = b'e';
+
+// The largest i64, and the largest number that a digit may follow.
+const MOST: u64 = 9223372036854775807;
+
+const SHORT: u64 = 922337203685477580;
+
+// A table of so many words and entries.
+struct Table {
+    size: usize,
+    used: usize,
 }
 
-// A number below a thousand.
-fn write_number(x: usize) {
-    if 100 <= x {
-        write_digit(x / 100);
-    }
-    if 10 <= x {
-        write_digit(x / 10);
-    }
-    write_digit(x);
+fn write_number(before: &[u8], x: usize) {
+    io::write_all(STDOUT_FILENO, before);
+    io::print_decimal(STDOUT_FILENO, x as u64);
+}
+
+// The end of a line, and the used count.
+fn write_used(used: usize) -> usize {
+    write_number(b" entries ", used);
+    io::write_all(STDOUT_FILENO, b"\n");
+    used
+}
+
+fn write_refusal(f: Refusal) -> usize {
+    let why = f.reason;
+    let place = f.place;
+    let used = f.used;
+    write_number(b" refused ", table::reason_no(why) as usize);
+    write_number(b" at ", place.0);
+    write_used(used)
 }
 
 // The numbers of an answer, on the rest of the line, and the used count.
 fn write_answer(r: Answer) -> usize {
     match r {
         Answer::Value(t, used) => {
-            io::write_all(STDOUT_FILENO, b" type ");
-            write_number(t.0);
-            io::write_all(STDOUT_FILENO, b" entries ");
-            write_number(used);
-            io::write_all(STDOUT_FILENO, b"\n");
-            used
+            write_number(b" type ", t.0);
+            write_used(used)
         }
         Answer::NoValue(used) => {
-            io::write_all(STDOUT_FILENO, b" none entries ");
-            write_number(used);
-            io::write_all(STDOUT_FILENO, b"\n");
-            used
+            io::write_all(STDOUT_FILENO, b" none");
+            write_used(used)
         }
-        Answer::Refused(f) => {
-            let why = f.reason;
-            let place = f.place;
-            let used = f.used;
-            io::write_all(STDOUT_FILENO, b" refused ");
-            write_number(table::reason_no(why) as usize);
-            io::write_all(STDOUT_FILENO, b" at ");
-            write_number(place.0);
-            io::write_all(STDOUT_FILENO, b" entries ");
-            write_number(used);
-            io::write_all(STDOUT_FILENO, b"\n");
-            used
-        }
+        Answer::Refused(f) => write_refusal(f),
     }
 }
 
-// One call: its line, and the used count.
-fn call(words: &mut [u32], n: usize, head: &[u8], args: &[i64]) -> usize {
-    io::write_all(STDOUT_FILENO, head);
-    write_answer(tplt::type_template(words, n, head, args))
+// Where the part that begins at a place ends: before the next such byte, or at the end.
+fn end_of(s: &[u8], at: usize, b: u8) -> usize
+    requires { ⌜ at ≤ length (now s) ⌝ }
+    ensures { λ r. ⌜ (at ≤ r) × (r ≤ length (now (s .entry))) ⌝ }
+{
+    let mut end = at;
+    while end < s.len() {
+        if s[end] == b {
+            return end;
+        }
+        end += 1;
+    }
+    end
 }
 
-fn of_type(words: &mut [u32], n: usize, head: &[u8], t: i64) -> usize {
-    let args = [TAG_TYPE, t];
-    call(words, n, head, &args)
+// The number with one digit more.
+fn with_digit(x: u64, b: u8) -> u64 {
+    if b < b'0' {
+        return x;
+    }
+    if b'9' < b {
+        return x;
+    }
+    if SHORT < x {
+        return x;
+    }
+    x * 10 + (b - b'0') as u64
 }
 
-fn of_two(words: &mut [u32], n: usize, head: &[u8], t: i64, tag: i64, value: i64) -> usize {
-    let args = [TAG_TYPE, t, tag, value];
-    call(words, n, head, &args)
+fn signed(x: u64, minus: bool) -> i64 {
+    if MOST < x {
+        return 0;
+    }
+    if !minus {
+        return x as i64;
+    }
+    if x == 0 {
+        return 0;
+    }
+    !((x - 1) as i64)
 }
 
-// A head with each of the seven scalars.
-fn with_scalars(words: &mut [u32], n: usize, head: &[u8]) -> usize {
-    let mut used = of_type(words, n, head, 0);
-    used = of_type(words, used, head, 1);
-    used = of_type(words, used, head, 2);
-    used = of_type(words, used, head, 3);
-    used = of_type(words, used, head, 4);
-    used = of_type(words, used, head, 5);
-    of_type(words, used, head, 6)
+fn number(word: &[u8]) -> i64 {
+    let mut x: u64 = 0;
+    let mut minus = false;
+    for i in 0..word.len() {
+        let b = word[i];
+        minus = minus | (b == b'-');
+        x = with_digit(x, b);
+    }
+    signed(x, minus)
 }
 
-fn vectors(words: &mut [u32], n: usize) -> usize {
-    let mut used = with_scalars(words, n, b"vec2");
-    used = with_scalars(words, used, b"vec3");
-    with_scalars(words, used, b"vec4")
+// The numbers of a line from a place on, a blank before each, and how many they are.
+fn numbers(line: &[u8], from: usize, out: &mut [i64]) -> usize
+    ensures { λ r. ⌜ r ≤ length (now (out .entry)) ⌝ }
+{
+    let mut at = from;
+    let mut count = 0;
+    while at < line.len() {
+        if out.len() <= count {
+            return count;
+        }
+        let start = at + 1;
+        at = end_of(line, start, BLANK);
+        out[count] = number(&line[start..at]);
+        count += 1;
+    }
+    count
 }
 
-fn two_columns(words: &mut [u32], n: usize) -> usize {
-    let mut used = with_scalars(words, n, b"mat2x2");
-    used = with_scalars(words, used, b"mat2x3");
-    with_scalars(words, used, b"mat2x4")
+// A count, or 0 for a negative number.
+fn count_of(x: i64) -> usize {
+    if x < 0 {
+        return 0;
+    }
+    x as usize
 }
 
-fn three_columns(words: &mut [u32], n: usize) -> usize {
-    let mut used = with_scalars(words, n, b"mat3x2");
-    used = with_scalars(words, used, b"mat3x3");
-    with_scalars(words, used, b"mat3x4")
+// A count by its place among the numbers; 0 where there is none.
+fn count_at(args: &[i64], i: usize) -> usize {
+    if args.len() <= i {
+        return 0;
+    }
+    count_of(args[i])
 }
 
-fn four_columns(words: &mut [u32], n: usize) -> usize {
-    let mut used = with_scalars(words, n, b"mat4x2");
-    used = with_scalars(words, used, b"mat4x3");
-    with_scalars(words, used, b"mat4x4")
-}
-
-// The counts -3, 0, 1, 4,294,967,295 and 4,294,967,296 by one tag, of the type t.
-fn counts(words: &mut [u32], n: usize, t: i64, tag: i64) -> usize {
-    let mut used = of_two(words, n, b"array", t, tag, -3);
-    used = of_two(words, used, b"array", t, tag, 0);
-    used = of_two(words, used, b"array", t, tag, 1);
-    used = of_two(words, used, b"array", t, tag, 4294967295);
-    of_two(words, used, b"array", t, tag, 4294967296)
-}
-
-// Counts by each kind of literal, and the ends of i32.
-fn arrays(words: &mut [u32], n: usize) -> usize {
-    let mut used = counts(words, n, 3, TAG_ABSTRACT_INT);
-    used = counts(words, used, 4, TAG_I32);
-    used = of_two(words, used, b"array", 4, TAG_I32, 2147483647);
-    used = of_two(words, used, b"array", 4, TAG_I32, 2147483648);
-    used = of_two(words, used, b"array", 4, TAG_I32, -2147483648);
-    used = counts(words, used, 5, TAG_U32);
-    counts(words, used, 6, TAG_OTHER)
-}
-
-// Arrays of arrays and of a vector.
-fn nested(words: &mut [u32], n: usize) -> usize {
-    let mut used = of_type(words, n, b"array", 49);
-    used = of_two(words, used, b"array", 49, TAG_U32, 2);
-    used = of_two(words, used, b"array", 56, TAG_I32, 3);
-    used = of_two(words, used, b"array", 57, TAG_ABSTRACT_INT, 4);
-    of_two(words, used, b"array", 7, TAG_ABSTRACT_INT, 4)
-}
-
-// An array without count is no element: 5, also with a count that is none.
-fn open_ended(words: &mut [u32], n: usize) -> usize {
-    let mut used = of_type(words, n, b"array", 55);
-    used = of_two(words, used, b"array", 55, TAG_ABSTRACT_INT, 4);
-    used = of_two(words, used, b"array", 55, TAG_ABSTRACT_INT, 0);
-    of_type(words, used, b"array", 43)
+// The first byte of a head.
+fn mark_of(head: &[u8]) -> u8 {
+    if head.len() == 0 {
+        return 0;
+    }
+    head[0]
 }
 
 // The entry of a pointer or a reference.
-fn entered(words: &mut [u32], n: usize, kind: u32) -> usize {
-    io::write_all(STDOUT_FILENO, b"enter");
-    let e = Entry {
-        kind,
+fn entry_of(kind: usize) -> Entry {
+    if kind == 13 {
+        return Entry {
+            kind: KIND_REF,
+            p: SPACE_STORAGE,
+            q: ACCESS_READ,
+            elem: 3,
+        };
+    }
+    Entry {
+        kind: KIND_PTR,
         p: SPACE_STORAGE,
         q: ACCESS_READ,
         elem: 3,
-    };
-    write_answer(entering::enter_type(words, n, e))
-}
-
-// Neither is a pointer or a reference.
-fn pointers(words: &mut [u32], n: usize) -> usize {
-    let mut used = of_type(words, n, b"array", 60);
-    used = of_two(words, used, b"array", 60, TAG_ABSTRACT_INT, -3);
-    used = of_type(words, used, b"array", 61);
-    used = of_two(words, used, b"array", 61, TAG_OTHER, 0);
-    of_type(words, used, b"vec2", 60)
-}
-
-// Lists that are wrong for every head: empty, a tag alone, a literal alone, a tag too many, three arguments.
-fn short_lists(words: &mut [u32], n: usize) -> usize {
-    let tag = [TAG_TYPE];
-    let mut used = call(words, n, b"vec2", &tag[0..0]);
-    used = call(words, used, b"vec2", &tag);
-    call(words, used, b"array", &tag[0..0])
-}
-
-fn lists(words: &mut [u32], n: usize) -> usize {
-    let literal = [TAG_ABSTRACT_INT, 4];
-    let odd = [TAG_TYPE, 3, TAG_ABSTRACT_INT];
-    let three = [TAG_TYPE, 3, TAG_ABSTRACT_INT, 4, TAG_ABSTRACT_INT, 4];
-    let mut used = call(words, n, b"array", &literal);
-    used = call(words, used, b"array", &odd);
-    call(words, used, b"array", &three)
-}
-
-// A count where none is wanted, and a second type.
-fn pairs(words: &mut [u32], n: usize) -> usize {
-    let mut used = of_two(words, n, b"array", 3, TAG_TYPE, 3);
-    used = of_two(words, used, b"vec2", 3, TAG_ABSTRACT_INT, 4);
-    used = of_two(words, used, b"mat2x2", 5, TAG_ABSTRACT_INT, 4);
-    of_two(words, used, b"atomic", 3, TAG_ABSTRACT_INT, 4)
-}
-
-// Heads that are none.
-fn heads(words: &mut [u32], n: usize) -> usize {
-    let mut used = of_type(words, n, b"Vec2", 3);
-    used = of_type(words, used, b"vec1", 3);
-    used = of_type(words, used, b"vec5", 3);
-    used = of_type(words, used, b"vec", 3);
-    of_type(words, used, b"vec22", 3)
-}
-
-fn more_heads(words: &mut [u32], n: usize) -> usize {
-    let mut used = of_type(words, n, b"mat2x5", 5);
-    used = of_type(words, used, b"mat2y2", 5);
-    used = of_type(words, used, b"", 3);
-    used = of_type(words, used, b"ptr", 3);
-    used = of_type(words, used, b"Array", 3);
-    of_type(words, used, b"arrayarrayarrayarrayarrayarrayarrayarray", 3)
-}
-
-// Numbers that are no type come before a head that is none.
-fn numbers(words: &mut [u32], n: usize) -> usize {
-    let mut used = of_type(words, n, b"vec2", -1);
-    used = of_type(words, used, b"vec2", 62);
-    used = of_type(words, used, b"vec2", 9223372036854775807);
-    used = of_type(words, used, b"Vec2", 62);
-    of_two(words, used, b"array", 3, TAG_TYPE, -1)
-}
-
-// Also in a list that is wrong; and a head that is none comes before that.
-fn orders(words: &mut [u32], n: usize) -> usize {
-    let third = [TAG_ABSTRACT_INT, 0, TAG_TYPE, 3, TAG_TYPE, 256];
-    let odd = [TAG_TYPE, 62, TAG_TYPE];
-    let last = [TAG_TYPE, 3, TAG_TYPE];
-    let mut used = call(words, n, b"array", &third);
-    used = call(words, used, b"array", &odd);
-    used = call(words, used, b"Vec2", &last);
-    call(words, used, b"vec2", &last)
-}
-
-fn scalars(words: &mut [u32]) {
-    if 28 <= words.len() {
-        words[4] = 1;
-        words[8] = 2;
-        words[12] = 3;
-        words[16] = 4;
-        words[20] = 5;
-        words[24] = 6;
     }
 }
 
-// A table with room for one entry more: the second that is absent is refused with 9, the first is found.
-fn full() {
-    let mut words = [0u32; 35];
-    scalars(&mut words);
-    let n = of_type(&mut words, 7, b"vec2", 0);
-    let m = of_type(&mut words, n, b"vec3", 0);
-    let k = of_two(&mut words, m, b"array", 3, TAG_U32, 4);
-    let j = of_two(&mut words, k, b"array", 3, TAG_U32, 0);
-    of_type(&mut words, j, b"vec2", 0);
+fn answer(words: &mut [u32], n: usize, head: &[u8], args: &[i64]) -> Answer {
+    if mark_of(head) == ENTER {
+        return entering::enter_type(words, n, entry_of(count_at(args, 0)));
+    }
+    tplt::type_template(words, n, head, args)
 }
 
-// Tables that are not sound come before everything.
-fn unsound() {
-    let mut words = [0u32; 35];
-    of_type(&mut words, 7, b"vec2", 0);
-    scalars(&mut words);
-    of_type(&mut words, 6, b"Vec2", -1);
-    of_type(&mut words, 9, b"vec2", 0);
-    of_type(&mut words, 300, b"vec2", 0);
+// One call in a table: its line, and the table after it.
+fn call(words: &mut [u32], t: Table, head: &[u8], args: &[i64]) -> Table {
+    let size = t.size;
+    let used = t.used;
+    if words.len() < size {
+        return t;
+    }
+    io::write_all(STDOUT_FILENO, head);
+    Table {
+        size,
+        used: write_answer(answer(&mut words[0..size], used, head, args)),
+    }
 }
 
-fn accepted(words: &mut [u32]) -> usize {
-    let mut n = vectors(words, 7);
-    n = two_columns(words, n);
-    n = three_columns(words, n);
-    n = four_columns(words, n);
-    n = with_scalars(words, n, b"atomic");
-    with_scalars(words, n, b"array")
+fn clear(words: &mut [u32]) {
+    for i in 0..words.len() {
+        words[i] = 0;
+    }
 }
 
-fn counted(words: &mut [u32], n: usize) -> usize {
-    let mut used = arrays(words, n);
-    used = nested(words, used);
-    used = open_ended(words, used);
-    used = entered(words, used, KIND_PTR);
-    used = entered(words, used, KIND_REF);
-    pointers(words, used)
+// The seven scalars, where they are asked for.
+fn scalars(words: &mut [u32], filled: usize) {
+    if filled == 1 {
+        if 28 <= words.len() {
+            for i in 0..7 {
+                words[4 * i] = i as u32;
+            }
+        }
+    }
 }
 
-fn turned_down(words: &mut [u32], n: usize) -> usize {
-    let mut used = short_lists(words, n);
-    used = lists(words, used);
-    used = pairs(words, used);
-    used = heads(words, used);
-    used = more_heads(words, used);
-    used = numbers(words, used);
-    orders(words, used)
+fn table_of(words: &mut [u32], args: &[i64]) -> Table {
+    clear(words);
+    scalars(words, count_at(args, 2));
+    Table {
+        size: count_at(args, 0),
+        used: count_at(args, 1),
+    }
+}
+
+fn run(words: &mut [u32], t: Table, head: &[u8], args: &[i64]) -> Table {
+    if mark_of(head) == TABLE {
+        return table_of(words, args);
+    }
+    call(words, t, head, args)
+}
+
+fn run_line(words: &mut [u32], t: Table, line: &[u8]) -> Table {
+    let end = end_of(line, 0, BLANK);
+    let mut args = [0i64; 8];
+    let count = numbers(line, end, &mut args);
+    run(words, t, &line[0..end], &args[0..count])
+}
+
+fn replay(words: &mut [u32], s: &[u8]) {
+    let mut t = Table { size: 0, used: 0 };
+    let mut at = 0;
+    while at < s.len() {
+        let end = end_of(s, at, LINE_END);
+        t = run_line(words, t, &s[at..end]);
+        at = end + 1;
+    }
 }
 
 fn main() {
     let mut words = [0u32; 1024];
-    scalars(&mut words);
-    let n = accepted(&mut words);
-    let m = counted(&mut words, n);
-    let k = turned_down(&mut words, m);
-    // what stands already is found
-    of_type(&mut words, k, b"mat4x3", 5);
-    full();
-    unsound();
+    let mut buffer = io::large_buffer();
+    let n = io::read_full(0, &mut buffer);
+    replay(&mut words, &buffer[..n]);
 }

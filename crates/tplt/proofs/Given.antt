@@ -15,7 +15,7 @@ use Rattle.table.specs.Placing.{Outcome, turnedDown, entering}
 use Rattle.answer.specs.declared.Reason.the-variants.{Unknown, Template, Count}
 use Rattle.tplt.specs.Heads.{digit, nameOf, headOf, heads, amongst, named, bytes}
 use Rattle.tplt.specs.Params.{typeParam, i32Param, u32Param, paramOf, paramsOf, isKnown, isTyped, typesKnown, alone, paired, argumentsOf, countZ, countOf}
-use Rattle.tplt.specs.Templates.{isConcrete, isMatrixComponent, isAtomicComponent, isElement, vecParsed, matParsed, atomicParsed, arrayParsed, parsedOf, typeOf, outcomeOf, templateOutcome}
+use Rattle.tplt.specs.Templates.{isConcrete, isMatrixComponent, isAtomicComponent, isElement, vecParsed, matParsed, atomicParsed, arrayOfType, arrayParsed, parsedOf, typeOf, outcomeOf, templateOutcome}
 use Rattle.tplt.specs.declared.head.Head.{Head}
 use Rattle.tplt.specs.declared.head.Head.the-variants.{Vector, Matrix, Atomic, Array, NoHead}
 use Rattle.tplt.specs.declared.param.TpltParam.{TpltParam}
@@ -197,7 +197,7 @@ module _ (w : List ℕ) (n : ℕ) (sound : soundb w n ≡ true) where
   module _ (t : ℕ) (l : t < n) where
     -- array: a type alone
     pub array-alone : isElement (typeAt w t) ≡ true → templateOutcome w n (nameOf Array) (typeArg t) ≡ entering 0 w n (runtime (typeAt w t))
-    unfolding parsedOf arrayParsed outcomeOf typeOf
+    unfolding parsedOf arrayParsed arrayOfType outcomeOf typeOf
     array-alone e =
         given (nameOf Array) (typeArg t) Array (One (record { 0 = t })) (OfArray (record { n = Without; ty = record { 0 = t } })) (one-known t l) array-name (one-list t l) (rw e)
 
@@ -209,18 +209,18 @@ module _ (w : List ℕ) (n : ℕ) (sound : soundb w n ≡ true) where
       -- or with a literal that is a count
       pub array-counted : (k : ℕ) → isElement (typeAt w t) ≡ true → countOf (paramOf n tag z) ≡ Of k
           → templateOutcome w n (nameOf Array) (typeAndLiteral t tag z) ≡ entering 0 w n (array k (typeAt w t))
-      unfolding parsedOf arrayParsed outcomeOf typeOf
+      unfolding parsedOf arrayParsed arrayOfType outcomeOf typeOf
       array-counted k e c = by-list (OfArray (record { n = Of k; ty = record { 0 = t } })) (rw (e, c))
 
       -- a literal that is none: 6
       pub array-miscounted : isElement (typeAt w t) ≡ true → countOf (paramOf n tag z) ≡ Unfit
           → templateOutcome w n (nameOf Array) (typeAndLiteral t tag z) ≡ turnedDown Count 0 w n
-      unfolding parsedOf arrayParsed outcomeOf
+      unfolding parsedOf arrayParsed arrayOfType outcomeOf
       array-miscounted e c = by-list (Wrong Count) (rw (e, c))
 
       -- of a pointer, a reference or an array without count: 5, whatever the literal
       pub array-forbidden : isElement (typeAt w t) ≡ false → templateOutcome w n (nameOf Array) (typeAndLiteral t tag z) ≡ turnedDown Template 0 w n
-      unfolding parsedOf arrayParsed outcomeOf
+      unfolding parsedOf arrayParsed arrayOfType outcomeOf
       array-forbidden e = by-list (Wrong Template) (rw e)
 
   -- any other head: 4, whatever the list
@@ -253,7 +253,7 @@ module _ (w : List ℕ) (n : ℕ) (sound : soundb w n ≡ true) where
     atomic-refused a = by-type (nameOf Atomic) Atomic atomic-name (Wrong Template) (rw a)
 
     pub array-refused : isElement (typeAt w t) ≡ false → templateOutcome w n (nameOf Array) (typeArg t) ≡ turnedDown Template 0 w n
-    unfolding parsedOf arrayParsed outcomeOf
+    unfolding parsedOf arrayParsed arrayOfType outcomeOf
     array-refused e = by-type (nameOf Array) Array array-name (Wrong Template) (rw e)
 
     -- "A count of -3 or 0 is refused with 6, as is one above 4,294,967,295 or another literal; 1 and 4,294,967,295 pass"

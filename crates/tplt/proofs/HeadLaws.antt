@@ -1,183 +1,98 @@
--- The head of a name, by its length and its bytes. Assumes nothing.
-use Prim.Native.Nat.{ℕ, zero, suc, _≤_, _<_}
+-- The head of a name, by the name's number. Assumes nothing.
+use Prim.Native.Nat.{ℕ, zero, suc, _+_, _*_, _-_, _≤_, _<_}
 use mathlib.Core.Path.{_≡_, refl, sym, _∙_, ap}
-use mathlib.Core.Bool.{Bool, true, false, _&&_, _||_, cond}
+use mathlib.Core.Bool.{Bool, true, false, _&&_, cond}
 use mathlib.Core.List.{List, [], _∷_}
 use native.Mathlib.Omega.{arith}
-use lib.ListN.{length, getD}
-use lib.Dec.{eqb}
-use borrow.Author.Tests.{ne-eqb}
+use lib.ListN.{length, getD, drop, length-drop}
+use lib.Seq.{drop-cons, getD-drop}
+use lib.Dec.{eqb, leb, ltb}
+use mir.Val.{Fits}
+use mir.Syntax.{w8}
+use borrow.Author.Tests.{eq-eqb, ne-eqb, eqb-true, eqb-false, leb-true, ltb-true}
 use Rattle.conv.specs.Types.{isWidth}
+use Rattle.table.proofs.SoundLaws.{and-left, and-right}
+use Rattle.table.proofs.KindLaws.{split}
 use Rattle.tplt.specs.Heads.{nameOf, heads, bytes, named, amongst, headOf}
-use Rattle.tplt.specs.Steps.{widthOf, vectorHead, matrixHead}
+use Rattle.tplt.specs.Steps.{longest, keyOf, headAt}
 use Rattle.tplt.specs.declared.head.Head.{Head}
 use Rattle.tplt.specs.declared.head.Head.the-variants.{Vector, Matrix, Atomic, Array, NoHead}
 
--- the width by three tests
-abbrev widthBy : Bool → Bool → Bool → ℕ
-widthBy d2 d3 d4 = cond d2 2 (cond d3 3 (cond d4 4 0))
+-- THE NUMBER OF A NAME
 
-vec-law : (a b c d2 d3 d4 : Bool)
-    → cond (a && (b && (c && (d2 && true)))) (Vector 2) (cond (a && (b && (c && (d3 && true)))) (Vector 3) (cond (a && (b && (c && (d4 && true)))) (Vector 4) NoHead))
-    ≡ cond (a && b && c) (vectorHead (widthBy d2 d3 d4)) NoHead
-vec-law false b c d2 d3 d4 = refl
-vec-law true false c d2 d3 d4 = refl
-vec-law true true false d2 d3 d4 = refl
-vec-law true true true true d3 d4 = refl
-vec-law true true true false true d4 = refl
-vec-law true true true false false true = refl
-vec-law true true true false false false = refl
+-- bytes, as they stand in a slice
+abbrev pub Bytes : List ℕ → Type 0
+Bytes l = (i : ℕ) → Fits w8 (getD l i 0)
 
-five-law : (a b c d e : Bool) → cond (a && (b && (c && (d && (e && true))))) Array NoHead ≡ cond (a && b && c && d && e) Array NoHead
-five-law false b c d e = refl
-five-law true false c d e = refl
-five-law true true false d e = refl
-five-law true true true false e = refl
-five-law true true true true false = refl
-five-law true true true true true = refl
+key-positive : (l : List ℕ) → 1 ≤ keyOf l
+unfolding keyOf
+key-positive [] = omega arith
+key-positive (b ∷ l) = let h = key-positive l in omega arith
 
-six-law : (a b c d e f : Bool) (h : Head) → cond (a && (b && (c && (d && (e && (f && true)))))) Atomic h ≡ cond (a && b && c && d && e && f) Atomic h
-six-law false b c d e f h = refl
-six-law true false c d e f h = refl
-six-law true true false d e f h = refl
-six-law true true true false e f h = refl
-six-law true true true true false f h = refl
-six-law true true true true true false h = refl
-six-law true true true true true true h = refl
+-- the number of a name of k bytes is below this
+abbrev pub room : ℕ → ℕ
+room zero = 2
+room (suc k) = room k * 256
 
-mat-law : (a b c x c2 c3 c4 r2 r3 r4 : Bool)
-    → (cond (a && (b && (c && (c2 && (x && (r2 && true)))))) (Matrix 2 2)
-    (cond (a && (b && (c && (c2 && (x && (r3 && true)))))) (Matrix 2 3)
-    (cond (a && (b && (c && (c2 && (x && (r4 && true)))))) (Matrix 2 4)
-    (cond (a && (b && (c && (c3 && (x && (r2 && true)))))) (Matrix 3 2)
-    (cond (a && (b && (c && (c3 && (x && (r3 && true)))))) (Matrix 3 3)
-    (cond (a && (b && (c && (c3 && (x && (r4 && true)))))) (Matrix 3 4)
-    (cond (a && (b && (c && (c4 && (x && (r2 && true)))))) (Matrix 4 2)
-    (cond (a && (b && (c && (c4 && (x && (r3 && true)))))) (Matrix 4 3)
-    (cond (a && (b && (c && (c4 && (x && (r4 && true)))))) (Matrix 4 4)
-    NoHead)))))))))
-    ≡ cond (a && b && c && x) (matrixHead (widthBy c2 c3 c4) (widthBy r2 r3 r4)) NoHead
-mat-law false b c x c2 c3 c4 r2 r3 r4 = refl
-mat-law true false c x c2 c3 c4 r2 r3 r4 = refl
-mat-law true true false x c2 c3 c4 r2 r3 r4 = refl
-mat-law true true true false true true true r2 r3 r4 = refl
-mat-law true true true false true true false r2 r3 r4 = refl
-mat-law true true true false true false true r2 r3 r4 = refl
-mat-law true true true false true false false r2 r3 r4 = refl
-mat-law true true true false false true true r2 r3 r4 = refl
-mat-law true true true false false true false r2 r3 r4 = refl
-mat-law true true true false false false true r2 r3 r4 = refl
-mat-law true true true false false false false r2 r3 r4 = refl
-mat-law true true true true true true true true r3 r4 = refl
-mat-law true true true true true true true false true r4 = refl
-mat-law true true true true true true true false false true = refl
-mat-law true true true true true true true false false false = refl
-mat-law true true true true true true false true r3 r4 = refl
-mat-law true true true true true true false false true r4 = refl
-mat-law true true true true true true false false false true = refl
-mat-law true true true true true true false false false false = refl
-mat-law true true true true true false true true r3 r4 = refl
-mat-law true true true true true false true false true r4 = refl
-mat-law true true true true true false true false false true = refl
-mat-law true true true true true false true false false false = refl
-mat-law true true true true true false false true r3 r4 = refl
-mat-law true true true true true false false false true r4 = refl
-mat-law true true true true true false false false false true = refl
-mat-law true true true true true false false false false false = refl
-mat-law true true true true false true true true r3 r4 = refl
-mat-law true true true true false true true false true r4 = refl
-mat-law true true true true false true true false false true = refl
-mat-law true true true true false true true false false false = refl
-mat-law true true true true false true false true r3 r4 = refl
-mat-law true true true true false true false false true r4 = refl
-mat-law true true true true false true false false false true = refl
-mat-law true true true true false true false false false false = refl
-mat-law true true true true false false true true r3 r4 = refl
-mat-law true true true true false false true false true r4 = refl
-mat-law true true true true false false true false false true = refl
-mat-law true true true true false false true false false false = refl
-mat-law true true true true false false false true r3 r4 = refl
-mat-law true true true true false false false false true r4 = refl
-mat-law true true true true false false false false false true = refl
-mat-law true true true true false false false false false false = refl
+room-least : (k : ℕ) → 2 ≤ room k
+room-least zero = omega arith
+room-least (suc k) = let h = room-least k in omega arith
 
--- the tests that are made of a name
-abbrev pub isVec : List ℕ → Bool
-isVec h = eqb (getD h 0 0) 118 && eqb (getD h 1 0) 101 && eqb (getD h 2 0) 99
+key-below : (k : ℕ) (l : List ℕ) → Bytes l → length l ≤ k → keyOf l < room k
+unfolding keyOf
+key-below k [] h q = let r = room-least k in omega arith
+key-below zero (b ∷ l) h q = absurd (omega arith)
+key-below (suc k) (b ∷ l) h q =
+    let x = key-below k l (λ i. h (suc i)) (omega arith) in
+    let y : b < 256 = h 0 .fits in
+    omega arith
 
-abbrev pub isArray : List ℕ → Bool
-isArray h = eqb (getD h 0 0) 97 && eqb (getD h 1 0) 114 && eqb (getD h 2 0) 114 && eqb (getD h 3 0) 97 && eqb (getD h 4 0) 121
+-- two names are the same where their numbers are
+digits : (x y a b : ℕ) → a < 256 → b < 256 → eqb (x * 256 + a) (y * 256 + b) ≡ (eqb x y && eqb a b)
+digits x y a b ha hb =
+    split (eqb x y)
+    (λ p.
+    split (eqb a b)
+    (λ q. let e = eqb-true x y p in let f = eqb-true a b q in rw (p, q) (eq-eqb (x * 256 + a) (y * 256 + b) (omega arith)))
+    (λ q. let e = eqb-true x y p in let f = eqb-false a b q in rw (p, q) (ne-eqb (x * 256 + a) (y * 256 + b) (λ z. f (omega arith)))))
+    (λ p. let f = eqb-false x y p in rw p (ne-eqb (x * 256 + a) (y * 256 + b) (λ z. f (omega arith))))
 
-abbrev pub isAtomic : List ℕ → Bool
-isAtomic h = eqb (getD h 0 0) 97 && eqb (getD h 1 0) 116 && eqb (getD h 2 0) 111 && eqb (getD h 3 0) 109 && eqb (getD h 4 0) 105 && eqb (getD h 5 0) 99
+swapped : (n x t : Bool) → (n && (x && t)) ≡ ((n && t) && x)
+swapped false x t = refl
+swapped true false false = refl
+swapped true false true = refl
+swapped true true false = refl
+swapped true true true = refl
 
-abbrev pub isMat : List ℕ → Bool
-isMat h = eqb (getD h 0 0) 109 && eqb (getD h 1 0) 97 && eqb (getD h 2 0) 116 && eqb (getD h 4 0) 120
+one-more : (m n : ℕ) → eqb (suc m) (suc n) ≡ eqb m n
+one-more m n =
+    split (eqb m n)
+    (λ p. let e = eqb-true m n p in rw p (eq-eqb (suc m) (suc n) (omega arith)))
+    (λ p. let f = eqb-false m n p in rw p (ne-eqb (suc m) (suc n) (λ z. f (omega arith))))
 
-abbrev pub byFour : List ℕ → Head
-byFour h = cond (isVec h) (vectorHead (widthOf (getD h 3 0))) NoHead
+same-key : (a b : List ℕ) → Bytes a → Bytes b → named a b ≡ eqb (keyOf a) (keyOf b)
+unfolding keyOf
+same-key [] [] ha hb = refl
+same-key [] (y ∷ b) ha hb = let h = key-positive b in rw (ne-eqb 0 (suc (length b)) (λ z. omega arith), ne-eqb 1 (keyOf b * 256 + y) (λ z. omega arith))
+same-key (x ∷ a) [] ha hb = let h = key-positive a in rw (ne-eqb (suc (length a)) 0 (λ z. omega arith), ne-eqb (keyOf a * 256 + x) 1 (λ z. omega arith))
+same-key (x ∷ a) (y ∷ b) ha hb =
+    rw (one-more (length a) (length b)) (swapped (eqb (length a) (length b)) (eqb x y) (bytes a b))
+    ∙ ap (λ (t : Bool). t && eqb x y) (same-key a b (λ i. ha (suc i)) (λ i. hb (suc i)))
+    ∙ sym (digits (keyOf a) (keyOf b) x y (ha 0 .fits) (hb 0 .fits))
 
-abbrev pub byFive : List ℕ → Head
-byFive h = cond (isArray h) Array NoHead
+-- the loop over a name, from its end
+module _ (name : List ℕ) (b : Bytes name) (left : ℕ) (some : 0 < left) where
+  pub key-room : length name ≤ longest → keyOf (drop left name) < room 5
+  key-room l = key-below 5 (drop left name) (λ i. rw getD-drop (b (left + i))) (simp length-drop (omega arith))
 
-abbrev pub bySix : List ℕ → Head
-bySix h = cond (isAtomic h) Atomic (cond (isMat h) (matrixHead (widthOf (getD h 3 0)) (widthOf (getD h 5 0))) NoHead)
+  pub key-next : left ≤ length name → keyOf (drop left name) * 256 + getD name (left - 1) 0 ≡ keyOf (drop (left - 1) name)
+  unfolding keyOf
+  key-next l =
+      let q : suc (left - 1) ≡ left = omega arith in
+      let e : drop (left - 1) name ≡ getD name (left - 1) 0 ∷ drop left name = drop-cons name (left - 1) 0 (omega arith) ∙ ap (λ (k : ℕ). getD name (left - 1) 0 ∷ drop k name) q in
+      sym (ap keyOf e)
 
-pub four : (h : List ℕ) → length h ≡ 4 → headOf h ≡ byFour h
-unfolding headOf
-four [] q = absurd (omega arith)
-four (a ∷ []) q = absurd (omega arith)
-four (a ∷ b ∷ []) q = absurd (omega arith)
-four (a ∷ b ∷ c ∷ []) q = absurd (omega arith)
-four (a ∷ b ∷ c ∷ d ∷ []) q = vec-law (eqb a 118) (eqb b 101) (eqb c 99) (eqb d 50) (eqb d 51) (eqb d 52)
-four (a ∷ b ∷ c ∷ d ∷ e ∷ t) q = absurd (omega arith)
-
-pub five : (h : List ℕ) → length h ≡ 5 → headOf h ≡ byFive h
-unfolding headOf
-five [] q = absurd (omega arith)
-five (a ∷ []) q = absurd (omega arith)
-five (a ∷ b ∷ []) q = absurd (omega arith)
-five (a ∷ b ∷ c ∷ []) q = absurd (omega arith)
-five (a ∷ b ∷ c ∷ d ∷ []) q = absurd (omega arith)
-five (a ∷ b ∷ c ∷ d ∷ e ∷ []) q = five-law (eqb a 97) (eqb b 114) (eqb c 114) (eqb d 97) (eqb e 121)
-five (a ∷ b ∷ c ∷ d ∷ e ∷ f ∷ t) q = absurd (omega arith)
-
-pub six : (h : List ℕ) → length h ≡ 6 → headOf h ≡ bySix h
-unfolding headOf
-six [] q = absurd (omega arith)
-six (a ∷ []) q = absurd (omega arith)
-six (a ∷ b ∷ []) q = absurd (omega arith)
-six (a ∷ b ∷ c ∷ []) q = absurd (omega arith)
-six (a ∷ b ∷ c ∷ d ∷ []) q = absurd (omega arith)
-six (a ∷ b ∷ c ∷ d ∷ e ∷ []) q = absurd (omega arith)
-six (a ∷ b ∷ c ∷ d ∷ e ∷ f ∷ []) q =
-    six-law (eqb a 97) (eqb b 116) (eqb c 111) (eqb d 109) (eqb e 105) (eqb f 99) _
-    ∙ ap (λ (h : Head). cond (eqb a 97 && eqb b 116 && eqb c 111 && eqb d 109 && eqb e 105 && eqb f 99) Atomic h)
-    (mat-law (eqb a 109) (eqb b 97) (eqb c 116) (eqb e 120) (eqb d 50) (eqb d 51) (eqb d 52) (eqb f 50) (eqb f 51) (eqb f 52))
-six (a ∷ b ∷ c ∷ d ∷ e ∷ f ∷ g ∷ t) q = absurd (omega arith)
-
--- a name of another length is none
-no-name : (hs : List Head) (h : List ℕ) → ((k : ℕ) → named h (nameOf (Vector k)) ≡ false) → ((c r : ℕ) → named h (nameOf (Matrix c r)) ≡ false)
-    → named h (nameOf Atomic) ≡ false → named h (nameOf Array) ≡ false → amongst hs h ≡ NoHead
-no-name [] h v m a b = refl
-no-name (Vector k ∷ hs) h v m a b = rw (v k) (no-name hs h v m a b)
-no-name (Matrix c r ∷ hs) h v m a b = rw (m c r) (no-name hs h v m a b)
-no-name (Atomic ∷ hs) h v m a b = rw a (no-name hs h v m a b)
-no-name (Array ∷ hs) h v m a b = rw b (no-name hs h v m a b)
-no-name (NoHead ∷ hs) h v m a b = go (named h []) (no-name hs h v m a b)
-  where
-    go : (t : Bool) → amongst hs h ≡ NoHead → cond t NoHead (amongst hs h) ≡ NoHead
-    go true q = refl
-    go false q = q
-
-other-length : (h n : List ℕ) → (length h ≡ length n → ⊥) → named h n ≡ false
-other-length h n q = rw (ne-eqb (length h) (length n) q)
-
-pub no-length : (h : List ℕ) → (length h ≡ 4 → ⊥) → (length h ≡ 5 → ⊥) → (length h ≡ 6 → ⊥) → headOf h ≡ NoHead
-unfolding headOf
-no-length h four five six =
-    no-name heads h (λ k. other-length h (nameOf (Vector k)) four) (λ c r. other-length h (nameOf (Matrix c r)) six)
-    (other-length h (nameOf Atomic) six) (other-length h (nameOf Array) five)
+-- THE HEADS
 
 -- the widths of a head are 2 to 4
 abbrev pub wellSized : Head → Bool
@@ -187,28 +102,59 @@ wellSized Atomic = true
 wellSized Array = true
 wellSized NoHead = true
 
-all-sized : List Head → Bool
-all-sized [] = true
-all-sized (h ∷ hs) = wellSized h && all-sized hs
+all-bytes : List ℕ → Bool
+all-bytes [] = true
+all-bytes (b ∷ l) = ltb b 256 && all-bytes l
 
-among-sized : (hs : List Head) (h : List ℕ) → all-sized hs ≡ true → wellSized (amongst hs h) ≡ true
-unfolding all-sized
-among-sized [] h q = refl
-among-sized (x ∷ hs) h q = go (named h (nameOf x)) (wellSized x) refl q (among-sized hs h)
-  where
-    go : (t s : Bool) → wellSized x ≡ s → (s && all-sized hs) ≡ true → (all-sized hs ≡ true → wellSized (amongst hs h) ≡ true) → wellSized (cond t x (amongst hs h)) ≡ true
-    go true true e q ih = e
-    go true false e q ih = absurd (let z : _≡_ {A = ℕ} 0 1 = cc in omega arith)
-    go false true e q ih = ih q
-    go false false e q ih = absurd (let z : _≡_ {A = ℕ} 0 1 = cc in omega arith)
+bytes-all : (l : List ℕ) → all-bytes l ≡ true → Bytes l
+unfolding all-bytes
+bytes-all [] t i = record { fits = omega arith }
+bytes-all (b ∷ l) t zero = record { fits = ltb-true b 256 (and-left _ _ t) }
+bytes-all (b ∷ l) t (suc i) = bytes-all l (and-right (ltb b 256) _ t) i
 
-pub head-sized : (h : List ℕ) → wellSized (headOf h) ≡ true
-unfolding headOf all-sized
-head-sized h = among-sized heads h refl
+-- the test of every head: its widths, and its name's length and bytes
+all-right : List Head → Bool
+all-right [] = true
+all-right (h ∷ hs) = (wellSized h && (leb (length (nameOf h)) longest && all-bytes (nameOf h))) && all-right hs
 
--- the two ways of a test
-pub picked : {t : Bool} (a b : Head) → t ≡ true → cond t a b ≡ a
-picked a b h = rw h
+heads-right : all-right heads ≡ true
+unfolding all-right all-bytes
+heads-right = refl
 
-pub passed : {t : Bool} (a b : Head) → t ≡ false → cond t a b ≡ b
-passed a b h = rw h
+module _ (name : List ℕ) where
+  among-sized : (hs : List Head) → all-right hs ≡ true → wellSized (amongst hs name) ≡ true
+  unfolding all-right
+  among-sized [] q = refl
+  among-sized (h ∷ hs) q = go (named name (nameOf h)) (and-left _ _ (and-left _ _ q)) (among-sized hs (and-right (wellSized h && (leb (length (nameOf h)) longest && all-bytes (nameOf h))) _ q))
+    where
+      go : (t : Bool) → wellSized h ≡ true → wellSized (amongst hs name) ≡ true → wellSized (cond t h (amongst hs name)) ≡ true
+      go true a b = a
+      go false a b = b
+
+  pub head-sized : wellSized (headOf name) ≡ true
+  unfolding headOf
+  head-sized = among-sized heads heads-right
+
+  -- a name that is longer than any is none
+  among-short : longest < length name → (hs : List Head) → all-right hs ≡ true → amongst hs name ≡ NoHead
+  unfolding all-right
+  among-short l [] q = refl
+  among-short l (h ∷ hs) q =
+      let s = leb-true (length (nameOf h)) longest (and-left _ _ (and-right (wellSized h) _ (and-left _ _ q))) in
+      rw (ne-eqb (length name) (length (nameOf h)) (λ z. omega arith)) (among-short l hs (and-right (wellSized h && (leb (length (nameOf h)) longest && all-bytes (nameOf h))) _ q))
+
+  pub long-name : longest < length name → NoHead ≡ headOf name
+  unfolding headOf
+  long-name l = sym (among-short l heads heads-right)
+
+  -- any other is the head of its number
+  among-key : Bytes name → (hs : List Head) → all-right hs ≡ true → amongst hs name ≡ headAt hs (keyOf name)
+  unfolding all-right headAt
+  among-key b [] q = refl
+  among-key b (h ∷ hs) q =
+      let n = bytes-all (nameOf h) (and-right (leb (length (nameOf h)) longest) _ (and-right (wellSized h) _ (and-left _ _ q))) in
+      rw (same-key name (nameOf h) b n, among-key b hs (and-right (wellSized h && (leb (length (nameOf h)) longest && all-bytes (nameOf h))) _ q))
+
+  pub head-key : Bytes name → headAt heads (keyOf name) ≡ headOf name
+  unfolding headOf
+  head-key b = sym (among-key b heads heads-right)

@@ -8,15 +8,20 @@ use lib.ListN.{length, getD, drop}
 use lib.Dec.{T, eqb, leb, ltb}
 use lib.IntN.{ℤ, pos, negsuc}
 use borrow.Author.Tests.{ltb-true}
+use denote.Enum.Declared.{tagOf}
+use types.Run.{OneOf, miss}
+use Rattle.answer.specs.declared.TypeNo.{TypeNo}
 use Rattle.tplt.specs.Params.{typeParam, i32Param, u32Param, paramOf, paramsOf, isKnown, isTyped, typesKnown, alone, before, paired, formOf, argumentsOf, countZ, countOf}
-use Rattle.tplt.specs.Steps.{numberOf}
+use Rattle.tplt.specs.Steps.{numberOf, paramAt}
 use Rattle.tplt.specs.declared.param.TpltParam.{TpltParam}
 use Rattle.tplt.specs.declared.param.TpltParam.the-variants.{Typed, NoType, AbstractInt, I32, U32, Other}
 use Rattle.tplt.specs.declared.param.Arguments.{Arguments}
 use Rattle.tplt.specs.declared.param.Arguments.the-variants.{One, Two, Amiss}
+use Rattle.tplt.specs.declared.param.ArrayCount.the-variants.{Unfit}
+use Rattle.tplt.proofs.param.TpltParam.{the-type}
 
 -- a list of one pair, of two, and of any other length
-pub list-one : (n : ℕ) (xs : List ℤ) → length xs ≡ 2 → argumentsOf n xs ≡ alone (paramOf n (getD xs 0 (pos 0)) (getD xs 1 (pos 0)))
+pub list-one : (n : ℕ) (xs : List ℤ) → length xs ≡ 2 → argumentsOf n xs ≡ alone (paramAt n xs 0)
 unfolding argumentsOf paramsOf
 list-one n [] q = absurd (omega arith)
 list-one n (a ∷ []) q = absurd (omega arith)
@@ -24,7 +29,7 @@ list-one n (a ∷ b ∷ []) q = refl
 list-one n (a ∷ b ∷ c ∷ t) q = absurd (omega arith)
 
 pub list-two : (n : ℕ) (xs : List ℤ) → length xs ≡ 4
-    → argumentsOf n xs ≡ paired (paramOf n (getD xs 0 (pos 0)) (getD xs 1 (pos 0))) (paramOf n (getD xs 2 (pos 0)) (getD xs 3 (pos 0)))
+    → argumentsOf n xs ≡ paired (paramAt n xs 0) (paramAt n xs 2)
 unfolding argumentsOf paramsOf
 list-two n [] q = absurd (omega arith)
 list-two n (a ∷ []) q = absurd (omega arith)
@@ -32,6 +37,13 @@ list-two n (a ∷ b ∷ []) q = absurd (omega arith)
 list-two n (a ∷ b ∷ c ∷ []) q = absurd (omega arith)
 list-two n (a ∷ b ∷ c ∷ d ∷ []) q = refl
 list-two n (a ∷ b ∷ c ∷ d ∷ e ∷ t) q = absurd (omega arith)
+
+-- a type comes first, and then another type or a literal
+pub two-typed : (p q : TpltParam) → isTyped q ≡ true → paired p q ≡ Amiss
+two-typed p q h = rw h
+
+pub two-literal : (t : TypeNo) (q : TpltParam) → isTyped q ≡ false → paired (Typed t) q ≡ Two t q
+two-literal t q h = rw h
 
 either : (b : Bool) → cond b Amiss Amiss ≡ Amiss
 either true = refl
@@ -47,11 +59,70 @@ list-other n (a ∷ b ∷ c ∷ d ∷ []) p q = absurd (q refl)
 list-other n (a ∷ b ∷ c ∷ d ∷ e ∷ []) p q = refl
 list-other n (a ∷ b ∷ c ∷ d ∷ e ∷ f ∷ t) p q = either (eqb (length (a ∷ b ∷ c ∷ d ∷ e ∷ f ∷ t) % 2) 0)
 
+-- THE CASES THAT A MATCH LEAVES, BY THEIR NUMBERS
+
+pub known-other : (p : TpltParam) → OneOf (0 ∷ 2 ∷ 3 ∷ 4 ∷ 5 ∷ []) (tagOf the-type p) → true ≡ isKnown p
+known-other (Typed t) h = refl
+known-other NoType h = absurd (miss (0 ∷ 2 ∷ 3 ∷ 4 ∷ 5 ∷ []) 1 tt h)
+known-other (AbstractInt k) h = refl
+known-other (I32 k) h = refl
+known-other (U32 k) h = refl
+known-other Other h = refl
+
+pub typed-other : (p : TpltParam) → OneOf (2 ∷ 3 ∷ 4 ∷ 5 ∷ []) (tagOf the-type p) → false ≡ isTyped p
+typed-other (Typed t) h = absurd (miss (2 ∷ 3 ∷ 4 ∷ 5 ∷ []) 0 tt h)
+typed-other NoType h = absurd (miss (2 ∷ 3 ∷ 4 ∷ 5 ∷ []) 1 tt h)
+typed-other (AbstractInt k) h = refl
+typed-other (I32 k) h = refl
+typed-other (U32 k) h = refl
+typed-other Other h = refl
+
+pub alone-other : (p : TpltParam) → OneOf (1 ∷ 2 ∷ 3 ∷ 4 ∷ 5 ∷ []) (tagOf the-type p) → alone p ≡ Amiss
+alone-other (Typed t) h = absurd (miss (1 ∷ 2 ∷ 3 ∷ 4 ∷ 5 ∷ []) 0 tt h)
+alone-other NoType h = refl
+alone-other (AbstractInt k) h = refl
+alone-other (I32 k) h = refl
+alone-other (U32 k) h = refl
+alone-other Other h = refl
+
+pub count-other : (p : TpltParam) → OneOf (0 ∷ 1 ∷ 5 ∷ []) (tagOf the-type p) → Unfit ≡ countOf p
+unfolding countOf
+count-other (Typed t) h = refl
+count-other NoType h = refl
+count-other (AbstractInt k) h = absurd (miss (0 ∷ 1 ∷ 5 ∷ []) 2 tt h)
+count-other (I32 k) h = absurd (miss (0 ∷ 1 ∷ 5 ∷ []) 3 tt h)
+count-other (U32 k) h = absurd (miss (0 ∷ 1 ∷ 5 ∷ []) 4 tt h)
+count-other Other h = refl
+
+-- A LIST WHOSE FIRST ARGUMENT IS NO TYPE
+
+before-amiss : (p q : TpltParam) → alone p ≡ Amiss → paired p q ≡ Amiss
+before-amiss p q h = go (isTyped q) p h
+  where
+    go : (b : Bool) (p : TpltParam) → alone p ≡ Amiss → cond b Amiss (before p q) ≡ Amiss
+    go true p h = refl
+    go false (Typed t) h = absurd (let z : _≡_ {A = ℕ} 0 1 = cc in omega arith)
+    go false NoType h = refl
+    go false (AbstractInt k) h = refl
+    go false (I32 k) h = refl
+    go false (U32 k) h = refl
+    go false Other h = refl
+
+pub list-untyped : (n : ℕ) (xs : List ℤ) → alone (paramAt n xs 0) ≡ Amiss → argumentsOf n xs ≡ Amiss
+unfolding argumentsOf paramsOf
+list-untyped n [] h = refl
+list-untyped n (a ∷ []) h = refl
+list-untyped n (a ∷ b ∷ []) h = h
+list-untyped n (a ∷ b ∷ c ∷ []) h = refl
+list-untyped n (a ∷ b ∷ c ∷ d ∷ []) h = before-amiss (paramOf n a b) (paramOf n c d) h
+list-untyped n (a ∷ b ∷ c ∷ d ∷ e ∷ []) h = refl
+list-untyped n (a ∷ b ∷ c ∷ d ∷ e ∷ f ∷ t) h = either (eqb (length (a ∷ b ∷ c ∷ d ∷ e ∷ f ∷ t) % 2) 0)
+
 -- THE PAIRS, ONE AFTER ANOTHER
 
 -- from a place on
 pub rest-pair : (n : ℕ) (xs : List ℤ) (at : ℕ) → at + 1 < length xs
-    → paramsOf n (drop at xs) ≡ paramOf n (getD xs at (pos 0)) (getD xs (at + 1) (pos 0)) ∷ paramsOf n (drop (at + 2) xs)
+    → paramsOf n (drop at xs) ≡ paramAt n xs at ∷ paramsOf n (drop (at + 2) xs)
 unfolding paramsOf
 rest-pair n [] at l = absurd (omega arith)
 rest-pair n (a ∷ []) at l = absurd (omega arith)
@@ -149,11 +220,11 @@ arguments-below n l xs = go (eqb (length xs % 2) 0)
 
 -- the loop over the pairs: a number that is no type ends it, any other argument goes on, and no pair is left at the end
 module _ (n : ℕ) (xs : List ℤ) (at : ℕ) where
-  pub known-fails : at + 1 < length xs → isKnown (paramOf n (getD xs at (pos 0)) (getD xs (at + 1) (pos 0))) ≡ false → typesKnown (paramsOf n (drop at xs)) ≡ false
+  pub known-fails : at + 1 < length xs → isKnown (paramAt n xs at) ≡ false → typesKnown (paramsOf n (drop at xs)) ≡ false
   unfolding typesKnown
   known-fails l h = rw (rest-pair n xs at l, h)
 
-  pub known-next : at + 1 < length xs → isKnown (paramOf n (getD xs at (pos 0)) (getD xs (at + 1) (pos 0))) ≡ true
+  pub known-next : at + 1 < length xs → isKnown (paramAt n xs at) ≡ true
       → typesKnown (paramsOf n (drop at xs)) ≡ typesKnown (paramsOf n (drop (at + 2) xs))
   unfolding typesKnown
   known-next l h = rw (rest-pair n xs at l, h)

@@ -2,14 +2,16 @@
 use Prim.Native.Nat.{ℕ, _≤_, _<_}
 use mathlib.Core.Path.{_≡_, refl, sym, _∙_, ap}
 use mathlib.Core.Bool.{Bool, true, false, _&&_, _||_, not, cond}
-use mathlib.Core.List.{List}
+use mathlib.Core.List.{List, [], _∷_}
 use native.Mathlib.Omega.{arith}
 use lib.Dec.{leb, ltb, eqb}
 use lib.IntN.{ℤ, pos, negsuc}
+use denote.Enum.Declared.{tagOf}
+use types.Run.{OneOf, miss}
 use borrow.Author.Tests.{le-ltb, lt-ltb, ltb-true, ltb-false, ne-eqb, leb-true}
-use Rattle.conv.specs.Types.{Ty, isWidth, isFloat, isValue, isRuntime, formed}
+use Rattle.conv.specs.Types.{Ty, abstractInt, isWidth, isFloat, isValue, isRuntime, formed}
 use Rattle.conv.specs.Types.Ty.{scalar, vec, mat, array, runtime, atomic, ptr, ref, frexp, modf}
-use Rattle.table.specs.Table.{scalars, ceiling, entryAt, allowedb, Sound}
+use Rattle.table.specs.Table.{scalars, ceiling, kindRuntime, entryAt, allowedb, Sound}
 use Rattle.table.specs.Denote.{made, typeAt, tyOf, kindOf}
 use Rattle.table.specs.Enter.{EnterDone, entryAnswer}
 use Rattle.table.specs.Placing.{Outcome, entering}
@@ -25,8 +27,8 @@ use Rattle.table.proofs.FormedLaws.{clean, formed-at}
 use Rattle.table.proofs.EnterLaws.{allow}
 use Rattle.table.proofs.PlacingLaws.{enter-outcome}
 use Rattle.tplt.specs.Params.{countZ, countOf}
-use Rattle.tplt.specs.Templates.{isConcrete, isMatrixComponent, isAtomicComponent, isElement, vecParsed, matParsed, atomicParsed, counted, arrayParsed, parsedOf, typeOf, outcomeOf, arrayOf}
-use Rattle.tplt.specs.Steps.{vecEntry, matEntry, atomicEntry, countEntry, arrayEntry, numberOf, Below, numberIn, Fit, Entering, Outcomes}
+use Rattle.tplt.specs.Templates.{isConcrete, isMatrixComponent, isAtomicComponent, isElement, component, vecParsed, matParsed, atomicParsed, counted, arrayOfType, arrayParsed, parsedOf, typeOf, outcomeOf, arrayOf}
+use Rattle.tplt.specs.Steps.{aloneIn, vecEntry, matEntry, atomicEntry, countEntry, arrayEntry, entryIn, numberOf, Below, numberIn, Fit, Outcomes}
 use Rattle.tplt.specs.declared.head.Head.{Head}
 use Rattle.tplt.specs.declared.head.Head.the-variants.{Vector, Matrix, Atomic, Array, NoHead}
 use Rattle.tplt.specs.declared.param.TpltParam.{TpltParam}
@@ -38,6 +40,9 @@ use Rattle.tplt.specs.declared.param.ArrayCount.the-variants.{Of, Withou
 use Rattle.tplt.specs.declared.Parsed.{Parsed}
 use Rattle.tplt.specs.declared.Parsed.the-variants.{OfVec, OfMat, OfAtomic, OfArray, Wrong}
 use Rattle.tplt.proofs.HeadLaws.{wellSized}
+use Rattle.tplt.proofs.param.Arguments as list
+use Rattle.tplt.proofs.param.ArrayCount as count
+use Rattle.tplt.proofs.Parsed as parsed
 
 -- THE KIND OF AN ELEMENT
 
@@ -61,13 +66,6 @@ pub element-at : (w : List ℕ) (n : ℕ) → Sound w n → (i : ℕ) → i < n 
 element-at w n s i l e q = ap (λ (x : Entry). elementKind (x .kind)) q ∙ ap elementKind (kind-of w n s i l) ∙ kind-element (typeAt w i) (formed-at w n s i l)
 
 -- THE ENTRY OF A TEMPLATE
-
-abbrev pub entryIn : Parsed → Entry
-entryIn (OfVec t) = vecEntry t
-entryIn (OfMat t) = matEntry t
-entryIn (OfAtomic t) = atomicEntry t
-entryIn (OfArray t) = arrayEntry t
-entryIn (Wrong r) = record { kind = 0; p = 0; q = 0; elem = 0 }
 
 module _ (w : List ℕ) where
   array-type : (k : ArrayCount) (t : ℕ) → tyOf w (countEntry k t) ≡ arrayOf k (typeAt w t)
@@ -111,22 +109,63 @@ module _ (w : List ℕ) where
         allow w n s (arrayEntry t) (array-clean (t .n) (t .ty .0)) (array-elem n (t .n) (t .ty .0) (f .below)) (ap formed (array-made (t .n) (t .ty .0)) ∙ f .good)
     entry-allowed (Wrong r) f = refl
 
-    -- what is asked of a template that was found to be q, with the entry e
-    module _ (p q : Parsed) (pq : p ≡ q) where
-      pub word-below : Fit w n p → numberIn q < ceiling
-      word-below f = let l : numberIn q < n = rw pq at (f .below) in omega (arith, s .high)
+    -- what is asked of a template, and of its entry e
+    module _ (p : Parsed) (f : Fit w n p) where
+      pub word-below : numberIn p < ceiling
+      word-below = omega (arith, s .high, f .below)
 
-      module _ (e : Entry) (eq : e ≡ entryIn q) where
-        pub taken-allowed : Fit w n p → allowedb w n e ≡ true
-        taken-allowed f = ap (allowedb w n) eq ∙ entry-allowed q (rw pq at f)
+      module _ (e : Entry) (eq : e ≡ entryIn p) where
+        taken-allowed : allowedb w n e ≡ true
+        taken-allowed = ap (allowedb w n) eq ∙ entry-allowed p f
 
-        pub taken-outcome : (r : Answer) (v : List ℕ) → outcomeOf w n q ≡ entering 0 w n (typeOf w q) → Entering w n (tyOf w e) r v → Outcomes w n p r v
-        taken-outcome r v o d =
-            record { outcome = d .outcome ∙ ap (entering 0 w n) (ap (tyOf w) eq ∙ entry-type q) ∙ sym o ∙ ap (outcomeOf w n) (sym pq) }
+        -- what entering it gives
+        pub entered-outcome : outcomeOf w n p ≡ entering 0 w n (typeOf w p) → (x : Entered) (v : List ℕ) → EnterDone w n e x v → (r : Answer) → r ≡ entryAnswer 0 x n → Outcomes w n p r v
+        entered-outcome o x v d r q =
+            record { outcome = ap (λ (y : Answer). record { answer = y; words = v }) q ∙ enter-outcome 0 w n s e taken-allowed x v d ∙ ap (entering 0 w n) (ap (tyOf w) eq ∙ entry-type p) ∙ sym o }
 
-    -- entering an entry that may be taken
-    pub entered-outcome : (e : Entry) → allowedb w n e ≡ true → (r : Entered) (v : List ℕ) → EnterDone w n e r v → (a : Answer) → a ≡ entryAnswer 0 r n → Entering w n (tyOf w e) a v
-    entered-outcome e ok r v d a q = record { outcome = ap (λ (x : Answer). record { answer = x; words = v }) q ∙ enter-outcome 0 w n s e ok r v d }
+-- THE CASES THAT A MATCH LEAVES, BY THEIR NUMBERS
+
+pub alone-none : (a : Arguments) → OneOf (1 ∷ 2 ∷ []) (tagOf list.the-type a) → record { 0 = abstractInt } ≡ aloneIn a
+alone-none (One t) h = absurd (miss (1 ∷ 2 ∷ []) 0 tt h)
+alone-none (Two t p) h = refl
+alone-none Amiss h = refl
+
+pub counted-fits : (t : TypeNo) (k : ArrayCount) → OneOf (0 ∷ 1 ∷ []) (tagOf count.the-type k) → OfArray (record { n = k; ty = t }) ≡ counted t k
+counted-fits t (Of k) h = refl
+counted-fits t Without h = refl
+counted-fits t Unfit h = absurd (miss (0 ∷ 1 ∷ []) 2 tt h)
+
+pub runtime-entry : (k : ArrayCount) (t : ℕ) → OneOf (1 ∷ 2 ∷ []) (tagOf count.the-type k) → record { kind = kindRuntime; p = 0; q = 0; elem = t } ≡ countEntry k t
+runtime-entry (Of k) t h = absurd (miss (1 ∷ 2 ∷ []) 0 tt h)
+runtime-entry Without t h = refl
+runtime-entry Unfit t h = refl
+
+pub outcome-entered : (w : List ℕ) (n : ℕ) (p : Parsed) → OneOf (0 ∷ 1 ∷ 2 ∷ 3 ∷ []) (tagOf parsed.the-type p) → outcomeOf w n p ≡ entering 0 w n (typeOf w p)
+unfolding outcomeOf
+outcome-entered w n (OfVec t) h = refl
+outcome-entered w n (OfMat t) h = refl
+outcome-entered w n (OfAtomic t) h = refl
+outcome-entered w n (OfArray t) h = refl
+outcome-entered w n (Wrong r) h = absurd (miss (0 ∷ 1 ∷ 2 ∷ 3 ∷ []) 4 tt h)
+
+-- A LIST THAT IS ONE TYPE ALONE
+
+module _ (test : ℕ → Bool) (make : TypeNo → Parsed) (never : test abstractInt ≡ false) where
+  by-alone : (a : Arguments) → component test make a ≡ cond (test (aloneIn a .0)) (make (aloneIn a)) (Wrong Template)
+  by-alone (One t) = refl
+  by-alone (Two t p) = rw never
+  by-alone Amiss = rw never
+
+  -- the number that was found, and what the test said of it
+  module _ (a : Arguments) (t : TypeNo) (found : t ≡ aloneIn a) (b : Bool) (told : b ≡ test (t .0)) where
+    passes : component test make a ≡ cond b (make t) (Wrong Template)
+    passes = by-alone a ∙ sym (ap (λ (x : TypeNo). cond (test (x .0)) (make x) (Wrong Template)) found) ∙ ap (λ (x : Bool). cond x (make t) (Wrong Template)) (sym told)
+
+    pub component-made : b ≡ true → make t ≡ component test make a
+    component-made h = sym (passes ∙ rw h)
+
+    pub component-wrong : b ≡ false → Wrong Template ≡ component test make a
+    component-wrong h = sym (passes ∙ rw h)
 
 -- EVERY ACCEPTED TYPE IS FORMED
 
@@ -185,20 +224,19 @@ module _ (w : List ℕ) (n : ℕ) (s : Sound w n) where
   atomic-fit t l true e = record { below = l; good = e }
   atomic-fit t l false e = fit-wrong Template
 
-  runtime-fit : (t : TypeNo) → t .0 < n → (b : Bool) → isElement (typeAt w (t .0)) ≡ b → Fit w n (cond b (OfArray (record { n = Without; ty = t })) (Wrong Template))
+  counted-fit : (t : TypeNo) → t .0 < n → isElement (typeAt w (t .0)) ≡ true → (k : ArrayCount) → ((j : ℕ) → k ≡ Of j → leb 1 j ≡ true) → Fit w n (counted t k)
   unfolding typeOf formed
-  runtime-fit t l true e = record { below = l; good = rw e (formed-at w n s (t .0) l) }
-  runtime-fit t l false e = fit-wrong Template
+  counted-fit t l e (Of k) q = record { below = l; good = rw (q k refl, e) (formed-at w n s (t .0) l) }
+  counted-fit t l e Without q = record { below = l; good = rw e (formed-at w n s (t .0) l) }
+  counted-fit t l e Unfit q = fit-wrong Count
 
-  counted-fit : (t : TypeNo) → t .0 < n → isElement (typeAt w (t .0)) ≡ true → (p : TpltParam) (k : ArrayCount) → countOf p ≡ k → Fit w n (counted t k)
-  unfolding typeOf formed
-  counted-fit t l e p (Of k) q = record { below = l; good = rw (literal-least p k q, e) (formed-at w n s (t .0) l) }
-  counted-fit t l e p Without q = fit-wrong Count
-  counted-fit t l e p Unfit q = fit-wrong Count
-
-  array-fit : (t : TypeNo) → t .0 < n → (p : TpltParam) (b : Bool) → isElement (typeAt w (t .0)) ≡ b → Fit w n (cond b (counted t (countOf p)) (Wrong Template))
-  array-fit t l p true e = counted-fit t l e p (countOf p) refl
-  array-fit t l p false e = fit-wrong Template
+  array-fit : (t : TypeNo) → t .0 < n → (k : ArrayCount) → ((j : ℕ) → k ≡ Of j → leb 1 j ≡ true) → Fit w n (arrayOfType w t k)
+  unfolding arrayOfType
+  array-fit t l k q = go (isElement (typeAt w (t .0))) refl
+    where
+      go : (b : Bool) → isElement (typeAt w (t .0)) ≡ b → Fit w n (cond b (counted t k) (Wrong Template))
+      go true e = counted-fit t l e k q
+      go false e = fit-wrong Template
 
   pub parsed-fit : (h : Head) → wellSized h ≡ true → (a : Arguments) → Below n a → Fit w n (parsedOf w h a)
   unfolding parsedOf vecParsed matParsed atomicParsed arrayParsed
@@ -211,7 +249,7 @@ module _ (w : List ℕ) (n : ℕ) (s : Sound w n) where
   parsed-fit Atomic g (One t) l = atomic-fit t l (isAtomicComponent (t .0)) refl
   parsed-fit Atomic g (Two t p) l = fit-wrong Template
   parsed-fit Atomic g Amiss l = fit-wrong Template
-  parsed-fit Array g (One t) l = runtime-fit t l (isElement (typeAt w (t .0))) refl
-  parsed-fit Array g (Two t p) l = array-fit t l p (isElement (typeAt w (t .0))) refl
+  parsed-fit Array g (One t) l = array-fit t l Without (λ j q. absurd (let z : _≡_ {A = ℕ} 0 1 = cc in omega arith))
+  parsed-fit Array g (Two t p) l = array-fit t l (countOf p) (literal-least p)
   parsed-fit Array g Amiss l = fit-wrong Template
   parsed-fit NoHead g a l = fit-wrong Unknown

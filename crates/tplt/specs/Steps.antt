@@ -1,17 +1,21 @@
--- What the inner functions promise: a head by its digits, the entry of a template, and what is known of a template before it is entered.
+-- What the inner functions promise: a head by its number, the entry of a template, and what is known of a template before it is entered.
 -- The promise of a call is read without it. Assumes nothing.
-use Prim.Native.Nat.{ℕ, _<_}
+use Prim.Native.Nat.{ℕ, _+_, _*_, _<_}
 use mathlib.Core.Path.{_≡_}
 use mathlib.Core.Bool.{Bool, true, false, cond}
-use mathlib.Core.List.{List}
+use mathlib.Core.List.{List, [], _∷_}
 use lib.Dec.{eqb}
-use Rattle.conv.specs.Types.{Ty, formed}
+use lib.ListN.{getD}
+use lib.IntN.{ℤ, pos}
+use Rattle.conv.specs.Types.{bool, abstractInt, formed}
 use Rattle.table.specs.Table.{kindVec, kindMat, kindArray, kindRuntime, kindAtomic}
-use Rattle.table.specs.Placing.{Outcome, entering}
+use Rattle.table.specs.Placing.{Outcome}
 use Rattle.table.specs.declared.Entry.{Entry}
+use Rattle.answer.specs.declared.TypeNo.{TypeNo}
 use Rattle.answer.specs.declared.Answer.{Answer}
 use Rattle.tplt.specs.declared.head.Head.{Head}
-use Rattle.tplt.specs.declared.head.Head.the-variants.{Vector, Matrix, NoHead}
+use Rattle.tplt.specs.declared.head.Head.the-variants.{NoHead}
+use Rattle.tplt.specs.declared.param.TpltParam.{TpltParam}
 use Rattle.tplt.specs.declared.param.Arguments.{Arguments}
 use Rattle.tplt.specs.declared.param.Arguments.the-variants.{One, Two, Amiss}
 use Rattle.tplt.specs.declared.param.ArrayCount.{ArrayCount}
@@ -22,17 +26,31 @@ use Rattle.tplt.specs.declared.AtomicTemplate.{AtomicTemplate}
 use Rattle.tplt.specs.declared.ArrayTemplate.{ArrayTemplate}
 use Rattle.tplt.specs.declared.Parsed.{Parsed}
 use Rattle.tplt.specs.declared.Parsed.the-variants.{OfVec, OfMat, OfAtomic, OfArray, Wrong}
+use Rattle.tplt.specs.Heads.{nameOf}
+use Rattle.tplt.specs.Params.{paramOf}
 use Rattle.tplt.specs.Templates.{typeOf, outcomeOf}
 
--- the width that a digit says, 0 for none, and the head of a width, or of two
-abbrev pub widthOf : ℕ → ℕ
-widthOf b = cond (eqb b 50) 2 (cond (eqb b 51) 3 (cond (eqb b 52) 4 0))
+-- a name as a number, its bytes from the last to the first after a 1, and the one of these heads whose name has the number
+abbrev pub longest : ℕ
+longest = 6
 
-abbrev pub vectorHead : ℕ → Head
-vectorHead n = cond (eqb n 0) NoHead (Vector n)
+unfoldable pub keyOf : List ℕ → ℕ
+keyOf [] = 1
+keyOf (b ∷ name) = keyOf name * 256 + b
 
-abbrev pub matrixHead : ℕ → ℕ → Head
-matrixHead c r = cond (eqb c 0) NoHead (cond (eqb r 0) NoHead (Matrix c r))
+unfoldable pub headAt : List Head → ℕ → Head
+headAt [] key = NoHead
+headAt (h ∷ hs) key = cond (eqb key (keyOf (nameOf h))) h (headAt hs key)
+
+-- the argument of the pair at a place
+abbrev pub paramAt : ℕ → List ℤ → ℕ → TpltParam
+paramAt n args at = paramOf n (getD args at (pos 0)) (getD args (at + 1) (pos 0))
+
+-- the type of a list that is a type alone; of any other list AbstractInt, which is no component
+abbrev pub aloneIn : Arguments → TypeNo
+aloneIn (One t) = t
+aloneIn (Two t p) = record { 0 = abstractInt }
+aloneIn Amiss = record { 0 = abstractInt }
 
 -- the entry of a template
 abbrev pub vecEntry : VecTemplate → Entry
@@ -51,6 +69,13 @@ countEntry Unfit t = record { kind = kindRuntime; p = 0; q = 0; elem = t }
 
 abbrev pub arrayEntry : ArrayTemplate → Entry
 arrayEntry t = countEntry (t .n) (t .ty .0)
+
+abbrev pub entryIn : Parsed → Entry
+entryIn (OfVec t) = vecEntry t
+entryIn (OfMat t) = matEntry t
+entryIn (OfAtomic t) = atomicEntry t
+entryIn (OfArray t) = arrayEntry t
+entryIn (Wrong r) = record { kind = bool; p = 0; q = 0; elem = 0 }
 
 -- an argument's number is below n, and so is a template's, whose type is formed
 abbrev pub numberOf : Arguments → ℕ
@@ -72,9 +97,6 @@ pub record Fit (w : List ℕ) (n : ℕ) (p : Parsed) : Type 0 where
   pub below : numberIn p < n
   pub good : formed (typeOf w p) ≡ true
 
--- the outcome of a type, and of a template
-pub record Entering (w : List ℕ) (n : ℕ) (R : Ty) (r : Answer) (after : List ℕ) : Type 0 where
-  pub outcome : record { answer = r; words = after } ≡ entering 0 w n R
-
+-- the outcome of a template
 pub record Outcomes (w : List ℕ) (n : ℕ) (p : Parsed) (r : Answer) (after : List ℕ) : Type 0 where
   pub outcome : record { answer = r; words = after } ≡ outcomeOf w n p

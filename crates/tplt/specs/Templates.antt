@@ -24,32 +24,32 @@ use Rattle.tplt.specs.declared.Parsed.the-variants.{OfVec, OfMat, OfAtom
 use Rattle.tplt.specs.Heads.{headOf}
 use Rattle.tplt.specs.Params.{paramsOf, typesKnown, argumentsOf, countOf}
 
+-- a list that is one type alone, of the component numbers that pass a test
+abbrev pub component : (ℕ → Bool) → (TypeNo → Parsed) → Arguments → Parsed
+component test make (One t) = cond (test (t .0)) (make t) (Wrong Template)
+component test make (Two t p) = Wrong Template
+component test make Amiss = Wrong Template
+
 -- "vec: bool, i32, u32, f32, f16": a scalar's number is its own
 abbrev pub isConcrete : ℕ → Bool
 isConcrete t = eqb t bool || eqb t i32 || eqb t u32 || eqb t f32 || eqb t f16
 
 unfoldable pub vecParsed : ℕ → Arguments → Parsed
-vecParsed n (One t) = cond (isConcrete (t .0)) (OfVec (record { n = n; ty = t })) (Wrong Template)
-vecParsed n (Two t p) = Wrong Template
-vecParsed n Amiss = Wrong Template
+vecParsed n a = component isConcrete (λ t. OfVec (record { n = n; ty = t })) a
 
 -- "mat: f32, f16"
 abbrev pub isMatrixComponent : ℕ → Bool
 isMatrixComponent t = eqb t f32 || eqb t f16
 
 unfoldable pub matParsed : ℕ → ℕ → Arguments → Parsed
-matParsed c r (One t) = cond (isMatrixComponent (t .0)) (OfMat (record { c = c; r = r; ty = t })) (Wrong Template)
-matParsed c r (Two t p) = Wrong Template
-matParsed c r Amiss = Wrong Template
+matParsed c r a = component isMatrixComponent (λ t. OfMat (record { c = c; r = r; ty = t })) a
 
 -- "atomic: i32, u32"
 abbrev pub isAtomicComponent : ℕ → Bool
 isAtomicComponent t = eqb t i32 || eqb t u32
 
 unfoldable pub atomicParsed : Arguments → Parsed
-atomicParsed (One t) = cond (isAtomicComponent (t .0)) (OfAtomic (record { ty = t })) (Wrong Template)
-atomicParsed (Two t p) = Wrong Template
-atomicParsed Amiss = Wrong Template
+atomicParsed a = component isAtomicComponent (λ t. OfAtomic (record { ty = t })) a
 
 -- "array: a type (abstract too, crate rule), alone or with a literal"; of a pointer, a reference or an array without count it is 5
 -- before the count is looked at
@@ -58,12 +58,15 @@ isElement R = isValue R && not (isRuntime R)
 
 abbrev pub counted : TypeNo → ArrayCount → Parsed
 counted t (Of k) = OfArray (record { n = Of k; ty = t })
-counted t Without = Wrong Count
+counted t Without = OfArray (record { n = Without; ty = t })
 counted t Unfit = Wrong Count
 
+unfoldable pub arrayOfType : List ℕ → TypeNo → ArrayCount → Parsed
+arrayOfType w t k = cond (isElement (typeAt w (t .0))) (counted t k) (Wrong Template)
+
 unfoldable pub arrayParsed : List ℕ → Arguments → Parsed
-arrayParsed w (One t) = cond (isElement (typeAt w (t .0))) (OfArray (record { n = Without; ty = t })) (Wrong Template)
-arrayParsed w (Two t p) = cond (isElement (typeAt w (t .0))) (counted t (countOf p)) (Wrong Template)
+arrayParsed w (One t) = arrayOfType w t Without
+arrayParsed w (Two t p) = arrayOfType w t (countOf p)
 arrayParsed w Amiss = Wrong Template
 
 -- a head and a list, over a table

@@ -1,7 +1,9 @@
 // The heads of template types, by their names.
 ghost use mathlib.Core.Path.{_≡_};
-ghost use Rattle.tplt.specs.Heads.{headOf};
-ghost use Rattle.tplt.specs.Steps.{widthOf, vectorHead, matrixHead};
+ghost use Prim.Native.Nat.{_≤_};
+ghost use lib.ListN.{length};
+ghost use Rattle.tplt.specs.Heads.{headOf, heads};
+ghost use Rattle.tplt.specs.Steps.{longest, keyOf, headAt};
 
 // A head: a vector of a width, a matrix of columns and rows, an atomic, an array, or no name of a head.
 pub enum Head {
@@ -12,78 +14,87 @@ pub enum Head {
     NoHead,
 }
 
-// The width that a digit says, 2 to 4, or 0.
-fn width_of(b: u8) -> u32
-    ensures { λ r. ⌜ r ≡ widthOf b ⌝ }
+// The names of the heads as numbers: their bytes from the last to the first, after a 1.
+const ARRAY: u64 = 0x1_79_61_72_72_61;
+
+const ATOMIC: u64 = 0x1_63_69_6d_6f_74_61;
+
+const VEC2: u64 = 0x1_32_63_65_76;
+
+const VEC3: u64 = 0x1_33_63_65_76;
+
+const VEC4: u64 = 0x1_34_63_65_76;
+
+const MAT2X2: u64 = 0x1_32_78_32_74_61_6d;
+
+const MAT2X3: u64 = 0x1_33_78_32_74_61_6d;
+
+const MAT2X4: u64 = 0x1_34_78_32_74_61_6d;
+
+const MAT3X2: u64 = 0x1_32_78_33_74_61_6d;
+
+const MAT3X3: u64 = 0x1_33_78_33_74_61_6d;
+
+const MAT3X4: u64 = 0x1_34_78_33_74_61_6d;
+
+const MAT4X2: u64 = 0x1_32_78_34_74_61_6d;
+
+const MAT4X3: u64 = 0x1_33_78_34_74_61_6d;
+
+const MAT4X4: u64 = 0x1_34_78_34_74_61_6d;
+
+// The longest name of a head.
+const LONGEST: usize = 6;
+
+fn wide(x: u8) -> u64
+    ensures { λ r. ⌜ r ≡ x ⌝ }
 {
-    if b == b'2' {
-        return 2;
-    }
-    if b == b'3' {
-        return 3;
-    }
-    if b == b'4' {
-        return 4;
-    }
-    0
+    x as u64
 }
 
-fn vector(n: u32) -> Head
-    ensures { λ r. ⌜ r ≡ vectorHead n ⌝ }
+// A name as one number, as above.
+fn key_of(name: &[u8]) -> u64
+    requires { ⌜ length (now name) ≤ longest ⌝ }
+    ensures { λ r. ⌜ r ≡ keyOf (now (name .entry)) ⌝ }
 {
-    if n == 0 {
-        return Head::NoHead;
+    let mut key: u64 = 1;
+    let mut left = name.len();
+    while 0 < left {
+        let at = left - 1;
+        key = key * 256 + wide(name[at]);
+        left = at;
     }
-    Head::Vector(n)
+    key
 }
 
-fn matrix(c: u32, r: u32) -> Head
-    ensures { λ h. ⌜ h ≡ matrixHead c r ⌝ }
+fn head_at(key: u64) -> Head
+    ensures { λ r. ⌜ r ≡ headAt heads key ⌝ }
 {
-    if c == 0 {
-        return Head::NoHead;
+    match key {
+        ARRAY => Head::Array,
+        ATOMIC => Head::Atomic,
+        VEC2 => Head::Vector(2),
+        VEC3 => Head::Vector(3),
+        VEC4 => Head::Vector(4),
+        MAT2X2 => Head::Matrix(2, 2),
+        MAT2X3 => Head::Matrix(2, 3),
+        MAT2X4 => Head::Matrix(2, 4),
+        MAT3X2 => Head::Matrix(3, 2),
+        MAT3X3 => Head::Matrix(3, 3),
+        MAT3X4 => Head::Matrix(3, 4),
+        MAT4X2 => Head::Matrix(4, 2),
+        MAT4X3 => Head::Matrix(4, 3),
+        MAT4X4 => Head::Matrix(4, 4),
+        _ => Head::NoHead,
     }
-    if r == 0 {
-        return Head::NoHead;
-    }
-    Head::Matrix(c, r)
 }
 
 // The head of a name: vec2 to vec4, mat2x2 to mat4x4, atomic, array.
 pub fn head_of(name: &[u8]) -> Head
     ensures { λ r. ⌜ r ≡ headOf (now (name .entry)) ⌝ }
 {
-    if name.len() == 4 {
-        if (name[0] == b'v') & (name[1] == b'e') & (name[2] == b'c') {
-            return vector(width_of(name[3]));
-        }
+    if LONGEST < name.len() {
         return Head::NoHead;
     }
-    if name.len() == 5 {
-        if (name[0] == b'a')
-            & (name[1] == b'r')
-            & (name[2] == b'r')
-            & (name[3] == b'a')
-            & (name[4] == b'y')
-        {
-            return Head::Array;
-        }
-        return Head::NoHead;
-    }
-    if name.len() == 6 {
-        if (name[0] == b'a')
-            & (name[1] == b't')
-            & (name[2] == b'o')
-            & (name[3] == b'm')
-            & (name[4] == b'i')
-            & (name[5] == b'c')
-        {
-            return Head::Atomic;
-        }
-        if (name[0] == b'm') & (name[1] == b'a') & (name[2] == b't') & (name[4] == b'x') {
-            return matrix(width_of(name[3]), width_of(name[5]));
-        }
-        return Head::NoHead;
-    }
-    Head::NoHead
+    head_at(key_of(name))
 }

@@ -1,12 +1,10 @@
 // Template types: a head with a list of arguments is the type of that name, entered where it is absent.
 ghost use Prim.Native.Nat.{_<_, _≤_};
 ghost use mathlib.Core.Path.{_≡_};
-ghost use mathlib.Core.Bool.{true};
-ghost use Rattle.table.specs.Table.{ceiling, allowedb, Sound};
-ghost use Rattle.table.specs.Denote.{typeAt, tyOf};
-ghost use Rattle.table.specs.Placing.{entering};
-ghost use Rattle.tplt.specs.Templates.{isConcrete, isMatrixComponent, isAtomicComponent, isElement, vecParsed, matParsed, atomicParsed, arrayParsed, parsedOf, TemplateDone};
-ghost use Rattle.tplt.specs.Steps.{vecEntry, matEntry, atomicEntry, arrayEntry, Below, Fit, Entering, Outcomes};
+ghost use Rattle.table.specs.Table.{ceiling, Sound};
+ghost use Rattle.table.specs.Denote.{typeAt};
+ghost use Rattle.tplt.specs.Templates.{isConcrete, isMatrixComponent, isAtomicComponent, isElement, vecParsed, matParsed, atomicParsed, arrayOfType, arrayParsed, parsedOf, TemplateDone};
+ghost use Rattle.tplt.specs.Steps.{aloneIn, vecEntry, matEntry, atomicEntry, arrayEntry, numberIn, entryIn, Below, Fit, Outcomes};
 
 pub mod head;
 pub mod param;
@@ -59,14 +57,6 @@ pub enum Parsed {
     Wrong(Reason),
 }
 
-// The word of a type's number.
-fn word_of(t: TypeNo) -> u32
-    requires { ⌜ t .0 < ceiling ⌝ }
-    ensures { λ r. ⌜ r ≡ t .0 ⌝ }
-{
-    t.0 as u32
-}
-
 // A scalar that is not abstract.
 fn is_concrete(t: TypeNo) -> bool
     ensures { λ r. ⌜ r ≡ isConcrete (t .0) ⌝ }
@@ -101,20 +91,40 @@ fn is_element(words: &[u32], n: usize, t: TypeNo) -> bool
     (e.kind != table::KIND_PTR) & (e.kind != table::KIND_REF) & (e.kind != table::KIND_RUNTIME)
 }
 
+// The type of a list that is a type alone; of any other list AbstractInt, which is no component.
+fn alone_in(a: Arguments) -> TypeNo
+    ensures { λ r. ⌜ r ≡ aloneIn a ⌝ }
+{
+    let Arguments::One(t) = a else {
+        return TypeNo(table::ABSTRACT_INT);
+    };
+    t
+}
+
+// An array of a type, by its count.
+fn array_of_type(words: &[u32], n: usize, t: TypeNo, k: ArrayCount) -> Parsed
+    requires { ⌜ Sound (now words) n ⌝ }
+    requires { ⌜ t .0 < n ⌝ }
+    ensures { λ r. ⌜ r ≡ arrayOfType (now (words .entry)) t k ⌝ }
+{
+    if !is_element(words, n, t) {
+        return Parsed::Wrong(Reason::Template);
+    }
+    match k {
+        ArrayCount::Unfit => Parsed::Wrong(Reason::Count),
+        _ => Parsed::OfArray(ArrayTemplate { n: k, ty: t }),
+    }
+}
+
 impl VecTemplate {
     fn parse(n: u32, a: Arguments) -> Parsed
         ensures { λ r. ⌜ r ≡ vecParsed n a ⌝ }
     {
-        match a {
-            Arguments::One(t) => {
-                if is_concrete(t) {
-                    return Parsed::OfVec(VecTemplate { n, ty: t });
-                }
-                Parsed::Wrong(Reason::Template)
-            }
-            Arguments::Two(_, _) => Parsed::Wrong(Reason::Template),
-            Arguments::Amiss => Parsed::Wrong(Reason::Template),
+        let t = alone_in(a);
+        if is_concrete(t) {
+            return Parsed::OfVec(VecTemplate { n, ty: t });
         }
+        Parsed::Wrong(Reason::Template)
     }
 
     fn ty(self) -> Entry
@@ -127,7 +137,7 @@ impl VecTemplate {
             kind: table::KIND_VEC,
             p: n,
             q: 0,
-            elem: word_of(t),
+            elem: t.0 as u32,
         }
     }
 }
@@ -136,16 +146,11 @@ impl MatTemplate {
     fn parse(c: u32, r: u32, a: Arguments) -> Parsed
         ensures { λ p. ⌜ p ≡ matParsed c r a ⌝ }
     {
-        match a {
-            Arguments::One(t) => {
-                if is_matrix_component(t) {
-                    return Parsed::OfMat(MatTemplate { c, r, ty: t });
-                }
-                Parsed::Wrong(Reason::Template)
-            }
-            Arguments::Two(_, _) => Parsed::Wrong(Reason::Template),
-            Arguments::Amiss => Parsed::Wrong(Reason::Template),
+        let t = alone_in(a);
+        if is_matrix_component(t) {
+            return Parsed::OfMat(MatTemplate { c, r, ty: t });
         }
+        Parsed::Wrong(Reason::Template)
     }
 
     fn ty(self) -> Entry
@@ -159,7 +164,7 @@ impl MatTemplate {
             kind: table::KIND_MAT,
             p: c,
             q: r,
-            elem: word_of(t),
+            elem: t.0 as u32,
         }
     }
 }
@@ -168,16 +173,11 @@ impl AtomicTemplate {
     fn parse(a: Arguments) -> Parsed
         ensures { λ r. ⌜ r ≡ atomicParsed a ⌝ }
     {
-        match a {
-            Arguments::One(t) => {
-                if is_atomic_component(t) {
-                    return Parsed::OfAtomic(AtomicTemplate { ty: t });
-                }
-                Parsed::Wrong(Reason::Template)
-            }
-            Arguments::Two(_, _) => Parsed::Wrong(Reason::Template),
-            Arguments::Amiss => Parsed::Wrong(Reason::Template),
+        let t = alone_in(a);
+        if is_atomic_component(t) {
+            return Parsed::OfAtomic(AtomicTemplate { ty: t });
         }
+        Parsed::Wrong(Reason::Template)
     }
 
     fn ty(self) -> Entry
@@ -189,7 +189,7 @@ impl AtomicTemplate {
             kind: table::KIND_ATOMIC,
             p: 0,
             q: 0,
-            elem: word_of(t),
+            elem: t.0 as u32,
         }
     }
 }
@@ -201,29 +201,8 @@ impl ArrayTemplate {
         ensures { λ r. ⌜ r ≡ arrayParsed (now (words .entry)) a ⌝ }
     {
         match a {
-            Arguments::One(t) => {
-                if !is_element(words, n, t) {
-                    return Parsed::Wrong(Reason::Template);
-                }
-                Parsed::OfArray(ArrayTemplate {
-                    n: ArrayCount::Without,
-                    ty: t,
-                })
-            }
-            Arguments::Two(t, p) => {
-                if !is_element(words, n, t) {
-                    return Parsed::Wrong(Reason::Template);
-                }
-                let k = count_of(p);
-                match k {
-                    ArrayCount::Of(count) => Parsed::OfArray(ArrayTemplate {
-                        n: ArrayCount::Of(count),
-                        ty: t,
-                    }),
-                    ArrayCount::Without => Parsed::Wrong(Reason::Count),
-                    ArrayCount::Unfit => Parsed::Wrong(Reason::Count),
-                }
-            }
+            Arguments::One(t) => array_of_type(words, n, t, ArrayCount::Without),
+            Arguments::Two(t, p) => array_of_type(words, n, t, count_of(p)),
             Arguments::Amiss => Parsed::Wrong(Reason::Template),
         }
     }
@@ -234,24 +213,19 @@ impl ArrayTemplate {
     {
         let n = self.n;
         let t = self.ty;
+        let elem = t.0 as u32;
         match n {
             ArrayCount::Of(count) => Entry {
                 kind: table::KIND_ARRAY,
                 p: count,
                 q: 0,
-                elem: word_of(t),
+                elem,
             },
-            ArrayCount::Without => Entry {
+            _ => Entry {
                 kind: table::KIND_RUNTIME,
                 p: 0,
                 q: 0,
-                elem: word_of(t),
-            },
-            ArrayCount::Unfit => Entry {
-                kind: table::KIND_RUNTIME,
-                p: 0,
-                q: 0,
-                elem: word_of(t),
+                elem,
             },
         }
     }
@@ -272,27 +246,35 @@ fn parse(words: &[u32], n: usize, h: Head, a: Arguments) -> Parsed
     }
 }
 
-// An entry that may be taken, entered where it is absent.
-fn take(words: &mut [u32], n: usize, e: Entry) -> Answer
-    requires { ⌜ Sound (now words) n ⌝ }
-    requires { ⌜ allowedb (now words) n e ≡ true ⌝ }
-    ensures { λ r. ⌜ Entering (now (words .entry)) n (tyOf (now (words .entry)) e) r (now (words .exit)) ⌝ }
+// The entry of a template; a refusal has none, and that of bool stands in.
+fn entry_of(p: Parsed) -> Entry
+    requires { ⌜ numberIn p < ceiling ⌝ }
+    ensures { λ r. ⌜ r ≡ entryIn p ⌝ }
 {
-    answer_of(Place(0), n, enter(words, n, e))
+    match p {
+        Parsed::OfVec(t) => t.ty(),
+        Parsed::OfMat(t) => t.ty(),
+        Parsed::OfAtomic(t) => t.ty(),
+        Parsed::OfArray(t) => t.ty(),
+        Parsed::Wrong(_) => Entry {
+            kind: 0,
+            p: 0,
+            q: 0,
+            elem: 0,
+        },
+    }
 }
 
+// The type of a template, entered where it is absent.
 fn enter_parsed(words: &mut [u32], n: usize, p: Parsed) -> Answer
     requires { ⌜ Sound (now words) n ⌝ }
     requires { ⌜ Fit (now words) n p ⌝ }
     ensures { λ r. ⌜ Outcomes (now (words .entry)) n p r (now (words .exit)) ⌝ }
 {
-    match p {
-        Parsed::OfVec(t) => take(words, n, t.ty()),
-        Parsed::OfMat(t) => take(words, n, t.ty()),
-        Parsed::OfAtomic(t) => take(words, n, t.ty()),
-        Parsed::OfArray(t) => take(words, n, t.ty()),
-        Parsed::Wrong(r) => refused(r, Place(0), n),
+    if let Parsed::Wrong(r) = p {
+        return refused(r, Place(0), n);
     }
+    answer_of(Place(0), n, enter(words, n, entry_of(p)))
 }
 
 // The type of a head with a list of arguments, pairs of a tag and a value.

@@ -1,7 +1,9 @@
 // The arguments of a template list, read from pairs of a tag and a value, and the count of an array.
-ghost use Prim.Native.Nat.{_<_};
+ghost use Prim.Native.Nat.{_+_, _<_};
 ghost use mathlib.Core.Path.{_≡_};
-ghost use Rattle.tplt.specs.Params.{typeParam, i32Param, u32Param, paramOf, isKnown, isTyped, paramsOf, typesKnown, alone, paired, argumentsOf, countZ, countOf};
+ghost use lib.ListN.{length};
+ghost use Rattle.tplt.specs.Params.{typeParam, i32Param, u32Param, paramOf, paramsOf, typesKnown, argumentsOf, countZ, countOf};
+ghost use Rattle.tplt.specs.Steps.{paramAt};
 use table::TypeNo;
 
 // The tags of an argument. Any other tag is another literal.
@@ -99,30 +101,12 @@ fn param_of(n: usize, tag: i64, value: i64) -> TpltParam
     TpltParam::Other
 }
 
-fn is_known(p: TpltParam) -> bool
-    ensures { λ r. ⌜ r ≡ isKnown p ⌝ }
+// The argument of the pair at a place.
+fn param_at(n: usize, args: &[i64], at: usize) -> TpltParam
+    requires { ⌜ at + 1 < length (now args) ⌝ }
+    ensures { λ r. ⌜ r ≡ paramAt n (now (args .entry)) at ⌝ }
 {
-    match p {
-        TpltParam::NoType => false,
-        TpltParam::Typed(_) => true,
-        TpltParam::AbstractInt(_) => true,
-        TpltParam::I32(_) => true,
-        TpltParam::U32(_) => true,
-        TpltParam::Other => true,
-    }
-}
-
-fn is_typed(p: TpltParam) -> bool
-    ensures { λ r. ⌜ r ≡ isTyped p ⌝ }
-{
-    match p {
-        TpltParam::NoType => true,
-        TpltParam::Typed(_) => true,
-        TpltParam::AbstractInt(_) => false,
-        TpltParam::I32(_) => false,
-        TpltParam::U32(_) => false,
-        TpltParam::Other => false,
-    }
+    param_of(n, args[at], args[at + 1])
 }
 
 // Whether every type argument is a type of the table.
@@ -131,7 +115,8 @@ pub fn types_known(n: usize, args: &[i64]) -> bool
 {
     let mut at = 0;
     while at + 1 < args.len() {
-        if !is_known(param_of(n, args[at], args[at + 1])) {
+        let p = param_at(n, args, at);
+        if let TpltParam::NoType = p {
             return false;
         }
         at += 2;
@@ -139,46 +124,30 @@ pub fn types_known(n: usize, args: &[i64]) -> bool
     true
 }
 
-fn one_of(p: TpltParam) -> Arguments
-    ensures { λ r. ⌜ r ≡ alone p ⌝ }
-{
-    match p {
-        TpltParam::Typed(t) => Arguments::One(t),
-        TpltParam::NoType => Arguments::Amiss,
-        TpltParam::AbstractInt(_) => Arguments::Amiss,
-        TpltParam::I32(_) => Arguments::Amiss,
-        TpltParam::U32(_) => Arguments::Amiss,
-        TpltParam::Other => Arguments::Amiss,
-    }
-}
-
-fn two_of(p: TpltParam, q: TpltParam) -> Arguments
-    ensures { λ r. ⌜ r ≡ paired p q ⌝ }
-{
-    if is_typed(q) {
-        return Arguments::Amiss;
-    }
-    match p {
-        TpltParam::Typed(t) => Arguments::Two(t, q),
-        TpltParam::NoType => Arguments::Amiss,
-        TpltParam::AbstractInt(_) => Arguments::Amiss,
-        TpltParam::I32(_) => Arguments::Amiss,
-        TpltParam::U32(_) => Arguments::Amiss,
-        TpltParam::Other => Arguments::Amiss,
-    }
-}
-
 // The list of arguments, by its form.
 pub fn arguments_of(n: usize, args: &[i64]) -> Arguments
     ensures { λ r. ⌜ r ≡ argumentsOf n (now (args .entry)) ⌝ }
 {
-    if args.len() == 2 {
-        return one_of(param_of(n, args[0], args[1]));
+    let count = args.len();
+    if count < 2 {
+        return Arguments::Amiss;
     }
-    if args.len() == 4 {
-        return two_of(param_of(n, args[0], args[1]), param_of(n, args[2], args[3]));
+    let first = param_at(n, args, 0);
+    let TpltParam::Typed(t) = first else {
+        return Arguments::Amiss;
+    };
+    if count == 2 {
+        return Arguments::One(t);
     }
-    Arguments::Amiss
+    if count != 4 {
+        return Arguments::Amiss;
+    }
+    let second = param_at(n, args, 2);
+    match second {
+        TpltParam::Typed(_) => Arguments::Amiss,
+        TpltParam::NoType => Arguments::Amiss,
+        _ => Arguments::Two(t, second),
+    }
 }
 
 // The sign is tested before the cast, which then loses nothing.
@@ -220,8 +189,6 @@ pub fn count_of(p: TpltParam) -> ArrayCount
         TpltParam::AbstractInt(n) => abstract_count(n),
         TpltParam::I32(n) => i32_count(n),
         TpltParam::U32(n) => u32_count(n),
-        TpltParam::Typed(_) => ArrayCount::Unfit,
-        TpltParam::NoType => ArrayCount::Unfit,
-        TpltParam::Other => ArrayCount::Unfit,
+        _ => ArrayCount::Unfit,
     }
 }

@@ -1,4 +1,4 @@
--- For each public function but `write_counts`, which gives nothing back: no second reply, and no other words afterwards, meet its promise. Assumes nothing.
+-- For each public function: no second reply, and no other words afterwards, meet its promise. Assumes nothing.
 use Prim.Native.Nat.{ℕ}
 use mathlib.Core.Path.{_≡_, sym, _∙_}
 use mathlib.Core.Bool.{Bool}

@@ -1,4 +1,4 @@
-// What the programs that replay vectors share: a table of the 55 plain and matrix types, the character of an answer, and the line that tells how many rows agreed.
+// What the programs that replay vectors share: a table of the 55 plain and matrix types, the character of an answer, and the ends of lines.
 // Type i has the character '0' + i. Plain numbers come first, 0 to 27; then mat2x2 to mat4x4, each of AbstractFloat, f32 and f16.
 // The result types of frexp follow, then those of modf: over the scalar, vec2, vec3 and vec4, each of AbstractFloat, f32 and f16.
 use table::Answer;
@@ -234,14 +234,4 @@ pub fn line_end(s: &[u8], at: usize) -> usize
         end += 1;
     }
     end
-}
-
-// Writes how many of the rows agreed.
-pub fn write_counts(what: &[u8], agreed: u64, rows: u64) {
-    io::write_all(1, what);
-    io::write_all(1, b": ");
-    io::print_decimal(1, agreed);
-    io::write_all(1, b" of ");
-    io::print_decimal(1, rows);
-    io::write_all(1, b" agreed\n");
 }

@@ -1,47 +1,69 @@
--- `replay_templates::scalars` meets its contract: a store keeps the length. Assumes nothing.
+-- `replay_templates::scalars` is safe and ends: a store keeps the length. Assumes nothing.
+use Prim.Native.Nat.{_-_, _≤_}
+use mathlib.Core.Path.{_≡_, refl}
 use native.Mathlib.Omega.{arith}
-use lib.ListN.{length-set}
+use lib.ListN.{length, length-set}
 use borrow.Author.Needs.{needs}
 use Rattle.replay_templates.proofs.scalars.Statement.{statement}
 use Rattle.replay_templates.proofs.scalars.Tie as tie
 
-slice-write-words : tie.Need-slice-write-words
+abbrev Inv-loop : tie.InvT-loop
+Inv-loop words₀ filled i₀ words i = (length words ≡ length words₀) × (i ≤ 7)
+
+abbrev μ-loop : tie.MeasureT-loop
+μ-loop words₀ filled i₀ words i = 7 - i
+
+loop-holds : tie.Need-loop-holds Inv-loop μ-loop
+loop-holds c = (refl, omega arith)
+
+cast-words : tie.Need-cast-words Inv-loop μ-loop
+cast-words c = search needs
+
+mul-words : tie.Need-mul-words Inv-loop μ-loop
+mul-words c = search needs
+
+mul-words-2 : tie.Need-mul-words-2 Inv-loop μ-loop
+mul-words-2 c = search needs
+
+slice-write-words : tie.Need-slice-write-words Inv-loop μ-loop
 slice-write-words c = search needs
 
-slice-write-words-2 : tie.Need-slice-write-words-2
-slice-write-words-2 c = simp length-set (omega arith)
+add-i : tie.Need-add-i Inv-loop μ-loop
+add-i c = search needs
 
-slice-write-words-3 : tie.Need-slice-write-words-3
-slice-write-words-3 c = simp length-set (omega arith)
+loop-less : tie.Need-loop-less Inv-loop μ-loop
+loop-less c = search needs
 
-slice-write-words-4 : tie.Need-slice-write-words-4
-slice-write-words-4 c = simp length-set (omega arith)
+loop-again : tie.Need-loop-again Inv-loop μ-loop
+loop-again c = search needs
 
-slice-write-words-5 : tie.Need-slice-write-words-5
-slice-write-words-5 c = simp length-set (omega arith)
-
-slice-write-words-6 : tie.Need-slice-write-words-6
-slice-write-words-6 c = simp length-set (omega arith)
-
-same-length : tie.Need-same-length
+same-length : tie.Need-same-length Inv-loop μ-loop
 same-length c = search needs
 
-returns : tie.Need-returns
+returns : tie.Need-returns Inv-loop μ-loop
 returns c = search needs
 
-returns-2 : tie.Need-returns-2
+returns-2 : tie.Need-returns-2 Inv-loop μ-loop
 returns-2 c = search needs
+
+returns-3 : tie.Need-returns-3 Inv-loop μ-loop
+returns-3 c = search needs
 
 pub scalars-spec : {M : Type 1} → statement M
 scalars-spec =
     tie.close
     (tie.spec
+    Inv-loop
+    μ-loop
+    loop-holds
+    cast-words
+    mul-words
+    mul-words-2
     slice-write-words
-    slice-write-words-2
-    slice-write-words-3
-    slice-write-words-4
-    slice-write-words-5
-    slice-write-words-6
+    add-i
+    loop-less
+    loop-again
     same-length
     returns
-    returns-2)
+    returns-2
+    returns-3)

@@ -1,79 +1,66 @@
--- `tplt::param::arguments_of` meets its contract: by the laws of a list of one pair, of two, and of any other length. Assumes nothing.
-use Rattle.tplt.proofs.ParamLaws.{list-one, list-two, list-other}
-use Rattle.tplt.proofs.SignedLaws.{pair-back}
-use Rattle.tplt.specs.Params.{paramOf, alone, paired, argumentsOf}
-use lib.ListN.{getD}
-use lib.IntN.{pos}
+-- `tplt::param::arguments_of` meets its contract: by the length of the list, and the laws of its arguments. Assumes nothing.
 use mathlib.Core.Path.{_≡_, sym, _∙_, ap}
+use native.Mathlib.Omega.{arith}
+use Rattle.tplt.specs.Params.{isTyped, alone, paired}
+use Rattle.tplt.specs.Steps.{paramAt}
+use Rattle.tplt.proofs.ParamLaws.{list-one, list-two, list-other, list-untyped, alone-other, typed-other, two-typed, two-literal}
 use borrow.Author.Needs.{needs}
 use Rattle.tplt.proofs.param.arguments_of.Statement.{statement}
 use Rattle.tplt.proofs.param.arguments_of.Tie as tie
 
-shared-slice-copy-out-param-of : tie.Need-shared-slice-copy-out-param-of
-shared-slice-copy-out-param-of c = search needs
-
-shared-slice-copy-out-param-of-2 : tie.Need-shared-slice-copy-out-param-of-2
-shared-slice-copy-out-param-of-2 c = search needs
-
-param-of-requires : tie.Need-param-of-requires
-param-of-requires c κs = search needs
-
-one-of-requires : tie.Need-one-of-requires
-one-of-requires c κs = search needs
-
 returns : tie.Need-returns
-returns c = let n = c .before .before .before .before .before .args .n in
-    let xs = c .before .before .before .before .before .args .args .now in
-    c .one-of .ensures
-    ∙ ap alone (c .before .param-of .ensures ∙ pair-back n (getD xs 0 (pos 0)) (getD xs 1 (pos 0)) (c .before .before .before .param-of-arg .given) (c .before .before .param-of-arg2 .given))
-    ∙ sym (list-one n xs (c .before .before .before .before .if1 .taken))
+returns c = let a = c .before .args in sym (list-other (a .n) (a .args .now) (λ e. omega arith) (λ e. omega arith))
 
-shared-slice-copy-out-param-of-3 : tie.Need-shared-slice-copy-out-param-of-3
-shared-slice-copy-out-param-of-3 c = search needs
+param-at-requires : tie.Need-param-at-requires
+param-at-requires c κs = search needs
 
-shared-slice-copy-out-param-of-4 : tie.Need-shared-slice-copy-out-param-of-4
-shared-slice-copy-out-param-of-4 c = search needs
-
-param-of-requires-2 : tie.Need-param-of-requires-2
-param-of-requires-2 c κs = search needs
-
-shared-slice-copy-out-param-of-5 : tie.Need-shared-slice-copy-out-param-of-5
-shared-slice-copy-out-param-of-5 c = search needs
-
-shared-slice-copy-out-param-of-6 : tie.Need-shared-slice-copy-out-param-of-6
-shared-slice-copy-out-param-of-6 c = search needs
-
-param-of-requires-3 : tie.Need-param-of-requires-3
-param-of-requires-3 c κs = search needs
-
-two-of-requires : tie.Need-two-of-requires
-two-of-requires c κs = search needs
+enum-known-first : tie.Need-enum-known-first
+enum-known-first c = search needs
 
 returns-2 : tie.Need-returns-2
-returns-2 c = let n = c .before .before .before .before .before .before .before .before .before .args .n in
-    let xs = c .before .before .before .before .before .before .before .before .before .args .args .now in
-    let p = c .before .before .before .before .param-of2 .ensures ∙ pair-back n (getD xs 0 (pos 0)) (getD xs 1 (pos 0)) (c .before .before .before .before .before .before .param-of-arg3 .given) (c .before .before .before .before .before .param-of-arg4 .given) in
-    let q = c .before .param-of3 .ensures ∙ pair-back n (getD xs 2 (pos 0)) (getD xs 3 (pos 0)) (c .before .before .before .param-of-arg5 .given) (c .before .before .param-of-arg6 .given) in
-    c .two-of .ensures ∙ (λ i. paired (p i) (q i)) ∙ sym (list-two n xs (c .before .before .before .before .before .before .before .if2 .taken))
+returns-2 c = let a = c .before .before .before .args in sym (list-untyped (a .n) (a .args .now) (ap alone (sym (c .before .param-at .ensures)) ∙ alone-other (c .before .param-at .result) (c .match .keys2)))
 
 returns-3 : tie.Need-returns-3
-returns-3 c = sym (list-other (c .before .before .args .n) (c .before .before .args .args .now) (c .before .if1 .left) (c .if2 .left))
+returns-3 c = let a = c .before .before .before .before .before .before .args in sym (list-one (a .n) (a .args .now) (c .if2 .taken) ∙ ap alone (sym (c .before .before .before .before .param-at .ensures) ∙ c .before .before .first .given .1))
+
+returns-4 : tie.Need-returns-4
+returns-4 c = let a = c .before .before .before .before .before .before .before .args in sym (list-other (a .n) (a .args .now) (c .before .if2 .left) (c .if3 .taken))
+
+param-at-requires-2 : tie.Need-param-at-requires-2
+param-at-requires-2 c κs = search needs
+
+enum-told : tie.Need-enum-told
+enum-told c = search needs
+
+enum-told-2 : tie.Need-enum-told-2
+enum-told-2 c = search needs
+
+returns-5 : tie.Need-returns-5
+returns-5 c = let a = c .before .before .before .before .before .before .before .before .before .before .args in
+    sym (list-two (a .n) (a .args .now) (c .before .before .before .if3 .left) ∙ ap (paired (paramAt (a .n) (a .args .now) 0)) (sym (c .before .before .param-at2 .ensures)) ∙ two-typed (paramAt (a .n) (a .args .now) 0) (c .before .before .param-at2 .result) (ap isTyped (c .enum-told .given .1)))
+
+returns-6 : tie.Need-returns-6
+returns-6 c = let a = c .before .before .before .before .before .before .before .before .before .before .args in
+    sym (list-two (a .n) (a .args .now) (c .before .before .before .if3 .left) ∙ ap (paired (paramAt (a .n) (a .args .now) 0)) (sym (c .before .before .param-at2 .ensures)) ∙ two-typed (paramAt (a .n) (a .args .now) 0) (c .before .before .param-at2 .result) (ap isTyped (c .enum-told2 .given .1)))
+
+returns-7 : tie.Need-returns-7
+returns-7 c = let a = c .before .before .before .before .before .before .before .before .before .args in
+    let p = sym (c .before .before .before .before .before .before .before .param-at .ensures) ∙ c .before .before .before .before .before .first .given .1 in
+    sym (list-two (a .n) (a .args .now) (c .before .before .if3 .left) ∙ (λ i. paired (p i) (sym (c .before .param-at2 .ensures) i)) ∙ two-literal _ _ (sym (typed-other (c .before .param-at2 .result) (c .match2 .keys3))))
 
 pub arguments-of-spec : {M : Type 1} → statement M
 arguments-of-spec =
     tie.close
     (tie.spec
-    shared-slice-copy-out-param-of
-    shared-slice-copy-out-param-of-2
-    param-of-requires
-    one-of-requires
     returns
-    shared-slice-copy-out-param-of-3
-    shared-slice-copy-out-param-of-4
-    param-of-requires-2
-    shared-slice-copy-out-param-of-5
-    shared-slice-copy-out-param-of-6
-    param-of-requires-3
-    two-of-requires
+    param-at-requires
+    enum-known-first
     returns-2
-    returns-3)
+    returns-3
+    returns-4
+    param-at-requires-2
+    enum-told
+    enum-told-2
+    returns-5
+    returns-6
+    returns-7)

@@ -1,9 +1,9 @@
 -- `tplt::param::count_of` meets its contract: by the cases of the literal. Assumes nothing.
-use Rattle.tplt.specs.Params.{countZ}
+use mathlib.Core.Path.{_≡_, _∙_, ap}
 use mir.ValLaws.{toZ-ofZ}
 use mir.Syntax.{w32, w64}
-use Rattle.tplt.specs.Params.{countOf}
-use mathlib.Core.Path.{_≡_, sym, _∙_, ap}
+use Rattle.tplt.specs.Params.{countZ, countOf}
+use Rattle.tplt.proofs.ParamLaws.{count-other}
 use borrow.Author.Needs.{needs}
 use Rattle.tplt.proofs.param.count_of.Statement.{statement}
 use Rattle.tplt.proofs.param.count_of.Tie as tie
@@ -26,15 +26,6 @@ enum-known-p-3 c = search needs
 u32-count-requires : tie.Need-u32-count-requires
 u32-count-requires c κs = search needs
 
-enum-told : tie.Need-enum-told
-enum-told c = search needs
-
-enum-told-2 : tie.Need-enum-told-2
-enum-told-2 c = search needs
-
-enum-told-3 : tie.Need-enum-told-3
-enum-told-3 c = search needs
-
 returns : tie.Need-returns
 unfolding countOf
 returns c = rw (c .before .before .p .given .1) (c .abstract-count .ensures ∙ ap countZ (toZ-ofZ w64 (c .before .before .p .given .0 .0) (record { sfits = c .before .known-told .given .0 .1 })))
@@ -48,16 +39,7 @@ unfolding countOf
 returns-3 c = rw (c .before .before .p3 .given .1) (c .u32-count .ensures)
 
 returns-4 : tie.Need-returns-4
-unfolding countOf
-returns-4 c = rw (c .enum-told .given .1)
-
-returns-5 : tie.Need-returns-5
-unfolding countOf
-returns-5 c = rw (c .enum-told2 .given .1)
-
-returns-6 : tie.Need-returns-6
-unfolding countOf
-returns-6 c = rw (c .enum-told3 .given .1)
+returns-4 c = count-other (c .before .args .p) (c .match .keys4)
 
 pub count-of-spec : {M : Type 1} → statement M
 count-of-spec =
@@ -69,12 +51,7 @@ count-of-spec =
     i32-count-requires
     enum-known-p-3
     u32-count-requires
-    enum-told
-    enum-told-2
-    enum-told-3
     returns
     returns-2
     returns-3
-    returns-4
-    returns-5
-    returns-6)
+    returns-4)
