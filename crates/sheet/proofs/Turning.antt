@@ -1,13 +1,17 @@
 -- A turn, from what the step did. Assumes nothing.
 use Prim.Native.Nat.{ℕ, _≤_}
 use mathlib.Core.Path.{_≡_, refl, sym, _∙_, ap, subst}
+use mathlib.Core.Logic.{_≢_}
 use mathlib.Core.List.{List}
 use native.Mathlib.Omega.{arith}
 use lib.ListN.{length, take}
+use borrow.Author.Tests.{eq-eqb, ne-eqb}
+use Rattle.answer.specs.Answer.{refuse}
+use Rattle.answer.specs.declared.Reason.the-variants.{Stack}
 use Rattle.answer.specs.declared.Place.{Place}
 use Rattle.answer.specs.declared.Refusal.{Refusal}
 use Rattle.answer.specs.declared.Answer.{Answer}
-use Rattle.answer.specs.declared.Answer.the-variants.{Refused}
+use Rattle.answer.specs.declared.Answer.the-variants.{NoValue, Refused}
 use Rattle.frame.specs.Frame.{itemAt}
 use Rattle.frame.specs.declared.Placed.{Placed}
 use Rattle.sheet.specs.declared.Did.{Did}
@@ -17,6 +21,17 @@ use Rattle.sheet.specs.declared.Turn.the-variants as turn
 use Rattle.sheet.specs.Machine.{most, State, effectOf, endAnswer, leftAnswer, after, done, turnOf}
 use Rattle.sheet.specs.Code.{effectBy, Counted, Does, turnBy, TurnCounted, TurnsBy, Turns}
 use Rattle.sheet.proofs.StackLaws.{sized}
+
+-- a call without value, test by test
+module _ (size place next high used : ℕ) where
+  pub left-high : high ≢ 0 → refuse Stack place used ≡ leftAnswer size place next high used
+  left-high h = sym (rw (ne-eqb high 0 h))
+
+  pub left-early : high ≡ 0 → next ≢ size → refuse Stack place used ≡ leftAnswer size place next high used
+  left-early h k = sym (rw (eq-eqb high 0 h, ne-eqb next size k))
+
+  pub left-last : high ≡ 0 → next ≡ size → NoValue used ≡ leftAnswer size place next high used
+  left-last h k = sym (rw (eq-eqb high 0 h, eq-eqb next size k))
 
 module _ (size place next : ℕ) (vals : List ℕ) where
   module _ (c u : ℕ) where

@@ -138,19 +138,19 @@ fn settle(stack: &mut [u32], base: usize, a: Answer) -> Did
     }
 }
 
-fn push(t: TypeNo, place: Place, stack: &mut [u32], count: usize, table: &[u32], used: usize) -> Did
-    requires { ⌜ Ready count (now stack) used (now table) ⌝ }
-    ensures { λ r. ⌜ Does (pushEffect (place .0) (stateOf count (now (stack .entry)) used (now (table .entry))) (t .0)) r (now (stack .exit)) (now (table .entry)) ⌝ }
+fn push(ty: TypeNo, at: Place, stack: &mut [u32], high: usize, table: &[u32], used: usize) -> Did
+    requires { ⌜ Ready high (now stack) used (now table) ⌝ }
+    ensures { λ r. ⌜ Does (pushEffect (at .0) (stateOf high (now (stack .entry)) used (now (table .entry))) (ty .0)) r (now (stack .exit)) (now (table .entry)) ⌝ }
 {
-    if used <= t.0 {
-        return stopped(Reason::NoSuchType, place, used);
+    if used <= ty.0 {
+        return stopped(Reason::NoSuchType, at, used);
     }
-    if VALUES <= count {
-        return stopped(Reason::Stack, place, used);
+    if VALUES <= high {
+        return stopped(Reason::Stack, at, used);
     }
-    stack[count] = value(t);
+    stack[high] = value(ty);
     Did::Went {
-        count: count + 1,
+        count: high + 1,
         used,
     }
 }
@@ -244,45 +244,46 @@ fn call_template(
     k: u8,
     place: Place,
     stack: &mut [u32],
-    count: usize,
+    high: usize,
     table: &mut [u32],
-    used: usize,
+    n: usize,
 ) -> Did
-    requires { ⌜ Ready count (now stack) used (now table) × Within (length (now sheet)) name ⌝ }
-    ensures { λ r. ⌜ Does (templateEffect (place .0) (stateOf count (now (stack .entry)) used (now (table .entry))) (bytesOf (now (sheet .entry)) name) (t .0) k) r (now (stack .exit)) (now (table .exit)) ⌝ }
+    requires { ⌜ Ready high (now stack) n (now table) × Within (length (now sheet)) name ⌝ }
+    ensures { λ r. ⌜ Does (templateEffect (place .0) (stateOf high (now (stack .entry)) n (now (table .entry))) (bytesOf (now (sheet .entry)) name) (t .0) k) r (now (stack .exit)) (now (table .exit)) ⌝ }
 {
-    let k = wide(k);
-    if count < k {
-        return stopped(Reason::Stack, place, used);
+    let wanted = wide(k);
+    if high < wanted {
+        return stopped(Reason::Stack, place, n);
     }
-    if used <= t.0 {
-        return stopped(Reason::NoSuchType, place, used);
+    if n <= t.0 {
+        return stopped(Reason::NoSuchType, place, n);
     }
     let bytes = frame::part_of(sheet, name);
     let list = [t.0 as u32];
-    call_on(bytes, &list, k, place, stack, count, table, used)
+    call_on(bytes, &list, wanted, place, stack, high, table, n)
 }
 
 // The type of an entry, entered where it is absent, as one value more.
 fn take_in(
     e: Entry,
-    place: Place,
+    here: Place,
     stack: &mut [u32],
     count: usize,
     table: &mut [u32],
     used: usize,
 ) -> Did
     requires { ⌜ Ready count (now stack) used (now table) ⌝ }
-    ensures { λ r. ⌜ Does (takeEffect (place .0) (stateOf count (now (stack .entry)) used (now (table .entry))) e) r (now (stack .exit)) (now (table .exit)) ⌝ }
+    ensures { λ r. ⌜ Does (takeEffect (here .0) (stateOf count (now (stack .entry)) used (now (table .entry))) e) r (now (stack .exit)) (now (table .exit)) ⌝ }
 {
-    if !table::allowed(table, used, e) {
-        return stopped(Reason::Template, place, used);
+    let allowed = table::allowed(table, used, e);
+    if !allowed {
+        return stopped(Reason::Template, here, used);
     }
     if VALUES <= count {
-        return stopped(Reason::Stack, place, used);
+        return stopped(Reason::Stack, here, used);
     }
     let r = table::enter(table, used, e);
-    settle(stack, count, table::answer_of(place, used, r))
+    settle(stack, count, table::answer_of(here, used, r))
 }
 
 // The entry that a take asks for.
@@ -343,10 +344,13 @@ fn finish(size: usize, stack: &[u32], count: usize, used: usize) -> Answer
 fn leave(size: usize, place: Place, next: Place, count: usize, used: usize) -> Answer
     ensures { λ r. ⌜ r ≡ leftAnswer size (place .0) (next .0) count used ⌝ }
 {
-    if (count == 0) & (next.0 == size) {
-        return table::no_value(used);
+    if count != 0 {
+        return table::refused(Reason::Stack, place, used);
     }
-    table::refused(Reason::Stack, place, used)
+    if next.0 != size {
+        return table::refused(Reason::Stack, place, used);
+    }
+    table::no_value(used)
 }
 
 // The turn after what an item at a place did, in a sheet of `size` bytes.
