@@ -142,17 +142,16 @@ fn push(ty: TypeNo, at: Place, stack: &mut [u32], high: usize, table: &[u32], us
     requires { ⌜ Ready high (now stack) used (now table) ⌝ }
     ensures { λ r. ⌜ Does (pushEffect (at .0) (stateOf high (now (stack .entry)) used (now (table .entry))) (ty .0)) r (now (stack .exit)) (now (table .entry)) ⌝ }
 {
-    if used <= ty.0 {
+    let index = ty.0;
+    if used <= index {
         return stopped(Reason::NoSuchType, at, used);
     }
     if VALUES <= high {
         return stopped(Reason::Stack, at, used);
     }
     stack[high] = value(ty);
-    Did::Went {
-        count: high + 1,
-        used,
-    }
+    let count = high + 1;
+    Did::Went { count, used }
 }
 
 fn unary(
@@ -251,15 +250,17 @@ fn call_template(
     requires { ⌜ Ready high (now stack) n (now table) × Within (length (now sheet)) name ⌝ }
     ensures { λ r. ⌜ Does (templateEffect (place .0) (stateOf high (now (stack .entry)) n (now (table .entry))) (bytesOf (now (sheet .entry)) name) (t .0) k) r (now (stack .exit)) (now (table .exit)) ⌝ }
 {
+    let template = t.0;
     let wanted = wide(k);
     if high < wanted {
         return stopped(Reason::Stack, place, n);
     }
-    if n <= t.0 {
+    if n <= template {
         return stopped(Reason::NoSuchType, place, n);
     }
     let bytes = frame::part_of(sheet, name);
-    let list = [t.0 as u32];
+    let first = template as u32;
+    let list = [first];
     call_on(bytes, &list, wanted, place, stack, high, table, n)
 }
 

@@ -36,21 +36,21 @@ stopped-requires-2 : tie.Need-stopped-requires-2
 stopped-requires-2 c κs = search needs
 
 returns-2 : tie.Need-returns-2
-returns-2 c = let a = c .before .before .before .before .before .before .before .before .args in
-    let l = rw (c .before .before .before .before .wide .ensures) at (c .before .before .before .if1 .left) in
-    refusing (a .place) (a .high) (a .stack .now) (a .n) (a .table .now) NoSuchType (c .stopped2 .ensures) (template-unknown (a .place) (a .high) (a .stack .now) (a .n) (a .table .now) (c .before .before .before .before .before .before .before .before .pre .0) (bytesOf (a .sheet .now) (a .name)) (a .t .0) (a .k) l (c .before .if2 .taken))
+returns-2 c = let a = c .before .before .before .before .before .before .before .args in
+    let l = rw (c .before .before .before .wide .ensures) at (c .before .before .if1 .left) in
+    refusing (a .place) (a .high) (a .stack .now) (a .n) (a .table .now) NoSuchType (c .stopped2 .ensures) (template-unknown (a .place) (a .high) (a .stack .now) (a .n) (a .table .now) (c .before .before .before .before .before .before .before .pre .0) (bytesOf (a .sheet .now) (a .name)) (a .t .0) (a .k) l (c .before .if2 .taken))
 
 part-of-requires : tie.Need-part-of-requires
 part-of-requires c κs = search needs
 
-cast-t16 : tie.Need-cast-t16
-cast-t16 c = search needs
+cast-first : tie.Need-cast-first
+cast-first c = search needs
 
 slice-aggregate-call-on : tie.Need-slice-aggregate-call-on
 slice-aggregate-call-on c = search needs
 
 call-on-requires : tie.Need-call-on-requires
-call-on-requires c κs = let a = c .before .before .before .before .before .before .before .before .before .before .before .before .args in (c .before .before .before .before .before .before .before .before .before .before .before .before .pre .0, one (a .t .0) (a .n) (c .before .before .before .before .before .if2 .left), c .before .before .before .before .before .before .before .if1 .left)
+call-on-requires c κs = let a = c .before .before .before .before .before .before .before .before .before .before .args in (c .before .before .before .before .before .before .before .before .before .before .pre .0, one (a .t .0) (a .n) (c .before .before .before .before .if2 .left), c .before .before .before .before .before .if1 .left)
 
 same-length : tie.Need-same-length
 same-length c = search needs
@@ -59,9 +59,9 @@ same-length-2 : tie.Need-same-length-2
 same-length-2 c = search needs
 
 returns-3 : tie.Need-returns-3
-returns-3 c = let a = c .before .before .before .before .before .before .before .before .before .before .before .before .before .before .before .before .before .args in
-    let l = rw (c .before .before .before .before .before .before .before .before .before .before .before .before .before .wide .ensures) at (c .before .before .before .before .before .before .before .before .before .before .before .before .if1 .left) in
-    does-as (template-goes (a .place) (a .high) (a .stack .now) (a .n) (a .table .now) (c .before .before .before .before .before .before .before .before .before .before .before .before .before .before .before .before .before .pre .0) (bytesOf (a .sheet .now) (a .name)) (a .t .0) (a .k) l (c .before .before .before .before .before .before .before .before .before .before .if2 .left)) (rw (c .before .before .before .before .before .before .before .before .before .before .before .before .before .wide .ensures, c .before .before .before .before .before .before .before .before .before .part-of .ensures .bytes) at (c .before .before .before .before .call-on .ensures))
+returns-3 c = let a = c .before .before .before .before .before .before .before .before .before .before .before .before .before .before .before .args in
+    let l = rw (c .before .before .before .before .before .before .before .before .before .before .before .wide .ensures) at (c .before .before .before .before .before .before .before .before .before .before .if1 .left) in
+    does-as (template-goes (a .place) (a .high) (a .stack .now) (a .n) (a .table .now) (c .before .before .before .before .before .before .before .before .before .before .before .before .before .before .before .pre .0) (bytesOf (a .sheet .now) (a .name)) (a .t .0) (a .k) l (c .before .before .before .before .before .before .before .before .before .if2 .left)) (rw (c .before .before .before .before .before .before .before .before .before .before .before .wide .ensures, c .before .before .before .before .before .before .before .before .part-of .ensures .bytes) at (c .before .before .before .before .call-on .ensures))
 
 pub call-template-spec : {M : Type 1} → statement M
 call-template-spec =
@@ -73,7 +73,7 @@ call-template-spec =
     stopped-requires-2
     returns-2
     part-of-requires
-    cast-t16
+    cast-first
     slice-aggregate-call-on
     call-on-requires
     same-length
