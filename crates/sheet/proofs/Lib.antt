@@ -5,6 +5,7 @@ pub mod Items
 pub mod Turning
 pub mod Keeping
 pub mod Running
+pub mod Short
 pub mod Demand1
 pub mod Moving
 pub mod Demand2

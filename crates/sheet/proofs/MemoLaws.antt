@@ -1,6 +1,6 @@
 -- The memo: what it holds stays true while the table grows, a value that is recalled is the one that typing gives, and a value that typing gave may be noted.
 -- Assumes nothing.
-use Prim.Native.Nat.{ℕ, zero, suc, _+_, _-_, _*_, _<_, _≤_, _^_}
+use Prim.Native.Nat.{ℕ, zero, suc, _+_, _-_, _*_, _/_, _%_, _<_, _≤_, _^_}
 use mathlib.Core.Path.{_≡_, refl, sym, _∙_, ap, subst}
 use mathlib.Core.Logic.{_⊎_, inl, inr, _≢_}
 use mathlib.Core.Bool.{Bool, true, false, _&&_, _||_, cond}
@@ -32,20 +32,26 @@ use Rattle.table.proofs.KindLaws.{split}
 use Rattle.table.proofs.SoundLaws.{and-left, and-right}
 use Rattle.ruled.specs.Call.{anyReference, judgedOutcome, ruledOutcome}
 use Rattle.ruled.proofs.Demands.{Kept}
-use Rattle.frame.specs.declared.Item.{Item}
+use Rattle.frame.specs.Frame.{itemAt}
+use Rattle.frame.specs.Frame.{place as atPlace}
+use Rattle.frame.specs.declared.Item.the-variants.{Unary, Binary}
+use Rattle.frame.specs.declared.Placed.{Placed}
+use Rattle.frame.proofs.FrameLaws.{own-place}
 use Rattle.ops_ty.specs.Ops.{unaryOps, addressOp, indirectionOp, binaryOps, binaryRow, unaryOutcome, binaryOutcome}
 use Rattle.overload.proofs.Results.{gives-formed}
 use Rattle.ops_ty.proofs.Pointers.{address-formed, indirection-formed}
 use Rattle.ops_ty.proofs.Demand1.{unary-at-kept, binary-at-kept}
-use Rattle.sheet.specs.declared.Did.{Did}
 use Rattle.sheet.specs.declared.Did.the-variants as did
-use Rattle.sheet.specs.Machine.{most, State, Effect, goes, silent, ends, stops, pushed, onto, unaryEffect, binaryEffect, effectOf}
-use Rattle.sheet.specs.Code.{stateOf, Good, Ready, effectBy, Counted, Does}
+use Rattle.sheet.specs.declared.Turn.{Turn}
+use Rattle.sheet.specs.declared.Turn.the-variants as turn
+use Rattle.sheet.specs.Machine.{most, State, Effect, goes, silent, ends, stops, pushed, onto, unaryEffect, binaryEffect, effectOf, turnOf}
+use Rattle.sheet.specs.Code.{stateOf, Good, Ready, Small, effectBy, Does, turnBy, TurnCounted, Turns}
 use Rattle.sheet.specs.Kept.{Grew}
-use Rattle.sheet.specs.Memo.{slots, nothing, binaryCode, unaryCode, keyOf, slotOf, GivesBinary, GivesUnary, Holds, Recalls, Recalled, Noted, Leaves, NotedDid, After}
+use Rattle.sheet.specs.Memo.{slots, nothing, binaryCode, unaryCode, keyOf, slotOf, GivesBinary, GivesUnary, Holds, Recalls, Recalled, Noted, Leaves, NotedTurn, AfterTurn, KeyedBinary, KeyedUnary, Keyed}
+use Rattle.sheet.specs.Quick.{itemOf, ShortAt, Quick}
 use Rattle.sheet.proofs.StackLaws.{sized, value-in}
-use Rattle.sheet.proofs.Effects.{does-as, settled, settle-value, value-under, unary-goes, binary-goes}
-use Rattle.sheet.proofs.Keeping.{EffectKept, kept-unary, kept-binary, item-kept}
+use Rattle.sheet.proofs.Effects.{does-as, settled, settle-value, value-under, push-does, unary-goes, binary-goes}
+use Rattle.sheet.proofs.Running.{turn-kept, turn-goes-on}
 
 impossible : {P : Type 0} → _≡_ {A = ℕ} 0 1 → P
 impossible e = absurd (omega arith)
@@ -167,13 +173,12 @@ recalls-noted memo w n key t after r h d =
           (λ b. let q : i ≢ d .slot = eqb-false i (d .slot) b in rw (getD-set-other memo (d .slot) i (slotOf key t) 0 q) (r .holds i l)));
     }
 
--- the memo after an item that did not touch it
-pub recalls-did : (st : State) (e : Effect) → EffectKept st e → (d : Did) (vals w memo : List ℕ) → effectBy d vals w ≡ e → Recalls memo (st .words) (st .used) → After d memo w
-unfolding effectBy After
-recalls-did st e k (did.Went count used) vals w memo q r = let x = rw (← q) at k in recalls-on (st .words) (st .used) w used (x .1) memo r
-recalls-did st e k (did.Silent count used) vals w memo q r = tt
-recalls-did st e k (did.Ended count used) vals w memo q r = tt
-recalls-did st e k (did.Refused x) vals w memo q r = tt
+-- the memo after a turn that did not touch it
+pub recalls-turn : (s : List ℕ) (x : Placed) (st : State) → Good st → (n : ℕ) (t : Turn) (vals w memo : List ℕ) → Turns (turnOf s x st) n t vals w
+    → Recalls memo (st .words) (st .used) → AfterTurn t memo w
+unfolding turnBy AfterTurn
+recalls-turn s x st g n (turn.More c u p) vals w memo h r = recalls-on (st .words) (st .used) w u (turn-kept s x st (stateOf c vals u w) (sym (h .turned)) g .1) memo r
+recalls-turn s x st g n (turn.Done a) vals w memo h r = tt
 
 -- A VALUE THAT WAS RECALLED is the one that typing gives
 
@@ -285,47 +290,26 @@ fresh w n o k vs c u vals v l h =
       last = sym (value-in c vals l (c - 1) (omega arith)) ∙ ap (λ (y : List ℕ). getD y (c - 1) 0) (x .3) ∙ ap (λ (j : ℕ). getD (pushed vs (t .0)) j 0) i ∙ last-pushed vs (t .0);
     }
 
--- what an item left can be noted, and the memo is true of the table after it
-module _ (w : List ℕ) (n : ℕ) (good : Sound w n) (o : Outcome) (k : Kept w n o) (vs : List ℕ) (d : Did) (vals v : List ℕ)
-    (size : length vals ≡ most) (counted : Counted d) (e : effectBy d vals v ≡ onto vs o) where
-  went-fresh : (c u : ℕ) → d ≡ did.Went c u → Fresh w n o c u vals v
-  unfolding effectBy Counted
-  went-fresh c u q =
-      let l : c ≤ most = rw q at counted in
-      let h : goes (stateOf c vals u v) ≡ onto vs o = rw q at e in
-      fresh w n o k vs c u vals v (omega arith) h
+-- what stands last can be noted: the new slot is true
+pub record Noting (w : List ℕ) (n : ℕ) (v : List ℕ) (u key c : ℕ) (vals : List ℕ) : Type 0 where
+  pub one : 1 ≤ c
+  pub small : getD vals (c - 1) 0 < 256
+  pub grew : Grew w n v u
+  pub holds : Holds v u (slotOf key (getD vals (c - 1) 0))
 
-  pub leaves : Leaves d vals
-  unfolding Leaves Counted
-  leaves = go d refl
-    where
-      go : (x : Did) → d ≡ x → Leaves x vals
-      go (did.Went c u) q =
-          let f = went-fresh c u q in
-          let l : c ≤ most = rw q at counted in
-          let b = f .stands .below in
-          let top = f .stands .sound .high in
-          (f .one, omega arith, rw (f .last) (omega arith))
-      go (did.Silent c u) q = tt
-      go (did.Ended c u) q = tt
-      go (did.Refused r) q = tt
-
-  -- the new slot is true where the operator gives the result that stands
-  pub recalls-after : (memo memo' : List ℕ) (key : ℕ) → Recalls memo w n
-      → ((t : TypeNo) (u : ℕ) (R : Ty) → o .answer ≡ Value t u → o .words ≡ v → Stands w n R (t .0) u v → Holds v u (slotOf key (t .0)))
-      → NotedDid memo key d vals memo' → After d memo' v
-  unfolding NotedDid After
-  recalls-after memo memo' key r holds noted = go d refl noted
-    where
-      go : (x : Did) → d ≡ x → NotedDid memo key x vals memo' → After x memo' v
-      go (did.Went c u) q z =
-          let f = went-fresh c u q in
-          let g : Grew w n v u = record { more = f .stands .grows; keeps = f .stands .keeps; long = f .stands .long; beyond = f .stands .beyond } in
-          recalls-noted memo v u key (f .number .0) memo' (recalls-on w n v u g memo r) (holds (f .number) u (f .result) (f .answer) (f .words) (f .stands))
-          (subst (λ (y : ℕ). Noted memo key y memo') (f .last) z)
-      go (did.Silent c u) q z = tt
-      go (did.Ended c u) q z = tt
-      go (did.Refused y) q z = tt
+noting : (w : List ℕ) (n : ℕ) (o : Outcome) → Kept w n o → (vs : List ℕ) (c u key : ℕ) (vals v : List ℕ) → c ≤ length vals → goes (stateOf c vals u v) ≡ onto vs o
+    → ((t : TypeNo) (R : Ty) → o .answer ≡ Value t u → o .words ≡ v → Stands w n R (t .0) u v → Holds v u (slotOf key (t .0)))
+    → Noting w n v u key c vals
+noting w n o k vs c u key vals v l h holds =
+    let f = fresh w n o k vs c u vals v l h in
+    let b = f .stands .below in
+    let top = f .stands .sound .high in
+    record {
+      one = f .one;
+      small = rw (f .last) (omega arith);
+      grew = record { more = f .stands .grows; keeps = f .stands .keeps; long = f .stands .long; beyond = f .stands .beyond };
+      holds = rw (f .last) (holds (f .number) (f .result) (f .answer) (f .words) (f .stands));
+    }
 
 -- the slot of an operator that gave a value
 module _ (place : ℕ) (w : List ℕ) (n op : ℕ) (s : Sound w n) (t : TypeNo) (u : ℕ) (v : List ℕ) (R : Ty) (st : Stands w n R (t .0) u v) where
@@ -358,85 +342,181 @@ module _ (place : ℕ) (w : List ℕ) (n op : ℕ) (s : Sound w n) (t : TypeNo) 
       let up = st .grows in
       holds-unary v u op a (t .0) lo (omega arith, st .below, rw (keep a la, z) (q .2)) (bytes a la) last
 
--- THE TWO FUNCTIONS, where the memo has nothing: the plain one types, and its value is noted
+-- AN OPERATOR THAT WAS TYPED: what it left may be noted under its key
 
-module _ (place : Place) (count : ℕ) (vals : List ℕ) (used : ℕ) (w : List ℕ) (ready : Ready count vals used w) (memo : List ℕ) (r : Recalls memo w used) (op : ℕ) (d : Did) (vals' v : List ℕ) where
+-- a key of an operator and two values is below 2 ^ 24
+key-small : (code a b : ℕ) → code < 24 → a < 256 → b < 256 → keyOf code a b < 2 ^ 24
+key-small code a b h k l = omega arith
+
+-- the item of an operator's number
+item-binary : (x : ℕ) → x / 256 ≡ 3 → itemOf x ≡ Binary (x % 256)
+unfolding itemOf
+item-binary x e = rw e
+
+item-unary : (x : ℕ) → x / 256 ≡ 2 → itemOf x ≡ Unary (x % 256)
+unfolding itemOf
+item-unary x e = rw e
+
+item-there : (s : List ℕ) (at x k : ℕ) → ShortAt s at x → x / 256 ≡ suc k → itemAt s at .item ≡ itemOf x
+item-there s at x k h e = go (h .found)
+  where
+    go : (x ≡ 0) ⊎ ((at + 3 ≤ length s) × (itemAt s at ≡ record { item = itemOf x; at = atPlace at; next = atPlace (at + 3) })) → itemAt s at .item ≡ itemOf x
+    go (inl z) = absurd (omega (arith, e, z))
+    go (inr z) = ap (λ (y : Placed). y .item) (z .1)
+
+module _ (s : List ℕ) (at count : ℕ) (vals : List ℕ) (used : ℕ) (w : List ℕ) (ready : Ready count vals used w) (x key : ℕ) (short : ShortAt s at x) (keyed : Keyed x vals count key) where
   abbrev before : State
   before = stateOf count vals used w
+
+  abbrev here : Place
+  here = record { 0 = at }
 
   firm : Sound w used
   firm = ready .good .sound
 
   under : (i : ℕ) → i < count → getD vals i 0 < used
-  under i h = value-under place count vals used w ready i h
+  under i h = value-under here count vals used w ready i h
 
-  module _ (does : Does (unaryEffect (place .0) before op) d vals' v) where
-    pub unary-plain : After d memo v
-    unary-plain = recalls-did before (unaryEffect (place .0) before op) (kept-unary (place .0) before (ready .good) op) d vals' v memo (does .effect) r
+  byte : (i : ℕ) → i < count → getD vals i 0 < 256
+  byte i h = let u = under i h in let k = firm .high in omega arith
 
-    module _ (h : 1 ≤ count) (size : length vals' ≡ most) where
-      abbrev x : ℕ
-      x = getD vals (count - 1) 0
+  pub keyed-small : key < 2 ^ 24
+  keyed-small = go (keyed .keyed)
+    where
+      go : (key ≡ 0) ⊎ (KeyedBinary x vals count key ⊎ KeyedUnary x vals count key) → key < 2 ^ 24
+      go (inl e) = omega (arith, e)
+      go (inr (inl b)) =
+          let h = b .enough in
+          let o = b .known in
+          let z = key-small (binaryCode (x % 256)) (getD vals (count - 2) 0) (getD vals (count - 2 + 1) 0) (omega arith) (byte (count - 2) (omega arith)) (byte (count - 2 + 1) (omega arith)) in
+          rw (b .is) z
+      go (inr (inr b)) =
+          let h = b .enough in
+          let o = b .known in
+          let z = key-small (unaryCode (x % 256)) (getD vals (count - 1) 0) 0 (omega arith) (byte (count - 1) (omega arith)) (omega arith) in
+          rw (b .is) z
 
-      abbrev o : Outcome
-      o = unaryOutcome (place .0) w used op (typeAt w x)
+  module _ (c u : ℕ) (vals' v : List ℕ) (l : c ≤ length vals') (h : effectOf at before s (itemAt s at .item) ≡ goes (stateOf c vals' u v)) where
+    by-binary : KeyedBinary x vals count key → Noting w used v u key c vals'
+    unfolding effectOf
+    by-binary b =
+        let op = x % 256 in
+        let x1 = getD vals (count - 2) 0 in
+        let x2 = getD vals (count - 2 + 1) 0 in
+        let n = b .enough in
+        let i : itemAt s at .item ≡ Binary op = item-there s at x 2 short (b .kind) ∙ item-binary x (b .kind) in
+        let e : binaryEffect at before op ≡ goes (stateOf c vals' u v) = rw i at h in
+        let o = binaryOutcome at w used op (typeAt w x1) (typeAt w x2) in
+        noting w used o (binary-at-kept at w used firm op (typeAt w x1) (typeAt w x2)) (take (count - 2) vals) c u key vals' v l
+        (sym e ∙ sym (binary-goes here count vals used w ready op n))
+        (λ t R a d st. subst (λ (k : ℕ). Holds v u (slotOf k (t .0))) (sym (b .is))
+        (binary-holds at w used op firm t u v R st x1 x2 (under (count - 2) (omega arith)) (under (count - 2 + 1) (omega arith)) (b .known) a d))
 
-      kept1 : Kept w used o
-      kept1 = unary-at-kept (place .0) w used firm op x (under (count - 1) (omega arith))
+    by-unary : KeyedUnary x vals count key → Noting w used v u key c vals'
+    unfolding effectOf
+    by-unary b =
+        let op = x % 256 in
+        let x1 = getD vals (count - 1) 0 in
+        let n = b .enough in
+        let i : itemAt s at .item ≡ Unary op = item-there s at x 1 short (b .kind) ∙ item-unary x (b .kind) in
+        let e : unaryEffect at before op ≡ goes (stateOf c vals' u v) = rw i at h in
+        let o = unaryOutcome at w used op (typeAt w x1) in
+        noting w used o (unary-at-kept at w used firm op x1 (under (count - 1) (omega arith))) (take (count - 1) vals) c u key vals' v l
+        (sym e ∙ sym (unary-goes here count vals used w ready op n))
+        (λ t R a d st. subst (λ (k : ℕ). Holds v u (slotOf k (t .0))) (sym (b .is)) (unary-holds at w used op firm t u v R st x1 (under (count - 1) (omega arith)) (b .known) a d))
 
-      same1 : effectBy d vals' v ≡ onto (take (count - 1) vals) o
-      same1 = does .effect ∙ sym (unary-goes place count vals used w ready op h)
+    by-key : key ≢ 0 → Noting w used v u key c vals'
+    by-key k = go (keyed .keyed)
+      where
+        go : (key ≡ 0) ⊎ (KeyedBinary x vals count key ⊎ KeyedUnary x vals count key) → Noting w used v u key c vals'
+        go (inl e) = absurd (k e)
+        go (inr (inl b)) = by-binary b
+        go (inr (inr b)) = by-unary b
 
-      pub unary-leaves : Leaves d vals'
-      unary-leaves = leaves w used firm o kept1 (take (count - 1) vals) d vals' v size (does .counted) same1
+  module _ (k : key ≢ 0) (n : ℕ) (vals' v : List ℕ) (size : length vals' ≡ most) where
+    turn-noting : (c u : ℕ) (p : Place) → Turns (turnOf s (itemAt s at) before) n (turn.More c u p) vals' v → (c ≤ length vals') × Noting w used v u key c vals'
+    unfolding turnBy TurnCounted
+    turn-noting c u p t =
+        let m = t .counted .0 in
+        let l : c ≤ length vals' = omega (arith, size) in
+        let g = turn-goes-on s (itemAt s at) before (stateOf c vals' u v) (sym (t .turned)) in
+        (l, by-key c u vals' v l (subst (λ (y : ℕ). effectOf y before s (itemAt s at .item) ≡ goes (stateOf c vals' u v)) (ap (λ (y : Place). y .0) (own-place s at)) g) k)
 
-      pub unary-after : (key : ℕ) (memo' : List ℕ) → op < unaryOps → key ≡ keyOf (unaryCode op) x 0 → NotedDid memo key d vals' memo' → After d memo' v
-      unary-after key memo' lo e z =
-          recalls-after w used firm o kept1 (take (count - 1) vals) d vals' v size (does .counted) same1 memo memo' key r
-          (λ t u R a b st. subst (λ (k : ℕ). Holds v u (slotOf k (t .0))) (sym e) (unary-holds (place .0) w used op firm t u v R st x (under (count - 1) (omega arith)) lo a b)) z
+    pub turn-leaves : (t : Turn) → Turns (turnOf s (itemAt s at) before) n t vals' v → Leaves t vals'
+    unfolding Leaves
+    turn-leaves (turn.More c u p) t = let z = turn-noting c u p t in (z .1 .one, z .0, z .1 .small)
+    turn-leaves (turn.Done a) t = tt
 
-  module _ (does : Does (binaryEffect (place .0) before op) d vals' v) where
-    pub binary-plain : After d memo v
-    binary-plain = recalls-did before (binaryEffect (place .0) before op) (kept-binary (place .0) before (ready .good) op) d vals' v memo (does .effect) r
+    pub turn-noted : (memo memo' : List ℕ) → Recalls memo w used → (t : Turn) → Turns (turnOf s (itemAt s at) before) n t vals' v → NotedTurn memo key t vals' memo' → AfterTurn t memo' v
+    unfolding NotedTurn AfterTurn
+    turn-noted memo memo' r (turn.More c u p) t d =
+        let z = turn-noting c u p t .1 in
+        recalls-noted memo v u key (getD vals' (c - 1) 0) memo' (recalls-on w used v u (z .grew) memo r) (z .holds) d
+    turn-noted memo memo' r (turn.Done a) t d = tt
 
-    module _ (h : 2 ≤ count) (size : length vals' ≡ most) where
-      abbrev x1 : ℕ
-      x1 = getD vals (count - 2) 0
+-- QUICK OPERATORS
 
-      abbrev x2 : ℕ
-      x2 = getD vals (count - 2 + 1) 0
+module _ (count : ℕ) (vals : List ℕ) (used : ℕ) (w : List ℕ) (ready : Ready count vals used w) where
+  pub ready-small : Small count vals
+  ready-small =
+      record {
+        fits = omega (arith, ready .size, ready .fits);
+        size = ready .size;
+        bytes = λ i h. let u = value-under (record { 0 = 0 }) count vals used w ready i h in let k = ready .good .sound .high in omega arith;
+      }
 
-      abbrev o2 : Outcome
-      o2 = binaryOutcome (place .0) w used op (typeAt w x1) (typeAt w x2)
+  pub quick-push : (x : ℕ) → x / 256 ≡ 1 → x % 256 < used → count < most → Quick x count vals used w (count + 1) (set vals count (x % 256))
+  unfolding effectOf itemOf effectBy
+  quick-push x k h f = record { went = inr (omega arith, omega arith, λ at s. rw k (sym (push-does (record { 0 = at }) count vals used w ready (x % 256) (x % 256) refl h f .effect))) }
 
-      kept2 : Kept w used o2
-      kept2 = binary-at-kept (place .0) w used firm op (typeAt w x1) (typeAt w x2)
+  module _ (memo : List ℕ) (r : Recalls memo w used) (x key t : ℕ) (f : Recalled memo key t) (g : t ≢ nothing) where
+    pub quick-binary : KeyedBinary x vals count key → Quick x count vals used w (count - 1) (set vals (count - 2) t)
+    unfolding effectOf effectBy
+    quick-binary b =
+        record {
+          went = inr (
+            omega (arith, b .enough),
+            omega (arith, ready .fits),
+            λ at s.
+                rw (item-binary x (b .kind))
+                (sym (binary-hit (record { 0 = at }) count vals used w ready memo r (x % 256) key t (b .enough) (b .known) (b .is) f g .effect)),
+          );
+        }
 
-      same2 : effectBy d vals' v ≡ onto (take (count - 2) vals) o2
-      same2 = does .effect ∙ sym (binary-goes place count vals used w ready op h)
+    pub quick-unary : KeyedUnary x vals count key → Quick x count vals used w count (set vals (count - 1) t)
+    unfolding effectOf effectBy
+    quick-unary b =
+        record {
+          went = inr (
+            b .enough,
+            ready .fits,
+            λ at s.
+                rw (item-unary x (b .kind))
+                (sym (unary-hit (record { 0 = at }) count vals used w ready memo r (x % 256) key t (b .enough) (b .known) (b .is) f g .effect)),
+          );
+        }
 
-      pub binary-leaves : Leaves d vals'
-      binary-leaves = leaves w used firm o2 kept2 (take (count - 2) vals) d vals' v size (does .counted) same2
+-- a key that is none's is that of the operator's kind
+pub keyed-binary : (x : ℕ) (vals : List ℕ) (count key : ℕ) → Keyed x vals count key → key ≢ 0 → x / 256 ≡ 3 → KeyedBinary x vals count key
+keyed-binary x vals count key h k e = go (h .keyed)
+  where
+    go : (key ≡ 0) ⊎ (KeyedBinary x vals count key ⊎ KeyedUnary x vals count key) → KeyedBinary x vals count key
+    go (inl z) = absurd (k z)
+    go (inr (inl b)) = b
+    go (inr (inr b)) = absurd (omega (arith, e, b .kind))
 
-      pub binary-after : (key : ℕ) (memo' : List ℕ) → op < binaryOps → key ≡ keyOf (binaryCode op) x1 x2 → NotedDid memo key d vals' memo' → After d memo' v
-      binary-after key memo' lo e z =
-          recalls-after w used firm o2 kept2 (take (count - 2) vals) d vals' v size (does .counted) same2 memo memo' key r
-          (λ t u R a b st. subst (λ (k : ℕ). Holds v u (slotOf k (t .0))) (sym e)
-          (binary-holds (place .0) w used op firm t u v R st x1 x2 (under (count - 2) (omega arith)) (under (count - 2 + 1) (omega arith)) lo a b)) z
-
--- a key of an operator and two values is below 2 ^ 24
-pub key-small : (code a b : ℕ) → code < 24 → a < 256 → b < 256 → keyOf code a b < 2 ^ 24
-key-small code a b h k l = omega arith
+pub keyed-unary : (x : ℕ) (vals : List ℕ) (count key : ℕ) → Keyed x vals count key → key ≢ 0 → x / 256 ≢ 3 → KeyedUnary x vals count key
+keyed-unary x vals count key h k e = go (h .keyed)
+  where
+    go : (key ≡ 0) ⊎ (KeyedBinary x vals count key ⊎ KeyedUnary x vals count key) → KeyedUnary x vals count key
+    go (inl z) = absurd (k z)
+    go (inr (inl b)) = absurd (e (b .kind))
+    go (inr (inr b)) = b
 
 -- neither of two tests holds
 pub neither : (a b : Bool) → (a || b) ≡ false → (a ≡ false) × (b ≡ false)
 neither true b h = impossible (cc)
 neither false b h = (refl, h)
-
--- an item that did not touch the memo
-pub stepped : (place : ℕ) (st : State) → Good st → (s : List ℕ) (i : Item) (d : Did) (vals v memo : List ℕ) → Recalls memo (st .words) (st .used)
-    → Does (effectOf place st s i) d vals v → Does (effectOf place st s i) d vals v × After d memo v
-stepped place st good s i d vals v memo r h = (h, recalls-did st (effectOf place st s i) (item-kept place st good s i) d vals v memo (h .effect) r)
 
 -- a memo of empty slots, which a test finds
 unfoldable pub zeros : List ℕ → Bool

@@ -2,14 +2,16 @@
 use Prim.Native.Nat.{ℕ, _+_, _<_, _≤_}
 use mathlib.Core.Path.{_≡_, refl, sym, _∙_, ap}
 use mathlib.Core.Bool.{Bool, true, false}
+use mathlib.Core.Logic.{_⊎_, inl, inr, _≢_}
 use mathlib.Core.List.{List, [], _∷_}
 use native.Mathlib.Omega.{arith}
 use lib.ListN.{length, take}
 use Rattle.table.specs.Table.{soundb, Sound}
 use Rattle.table.specs.Placing.{Outcome, Gave, turnedDown}
 use Rattle.answer.specs.declared.Reason.the-variants.{Unsound, Framing}
+use Rattle.answer.specs.declared.Place.{Place}
 use Rattle.answer.specs.declared.Answer.{Answer}
-use Rattle.frame.specs.Frame.{pick, itemAt, isItem, itemsFrom, nameOf, namePart, Within, version, headerSize, headerOk}
+use Rattle.frame.specs.Frame.{pick, place, itemAt, isItem, itemsFrom, nameOf, namePart, Within, version, headerSize, headerOk}
 use Rattle.frame.specs.declared.Item.{Item}
 use Rattle.frame.specs.declared.Item.the-variants.{Push, Unary, Binary, Call, CallTemplate, Take, End, Bad}
 use Rattle.frame.specs.declared.Placed.{Placed}
@@ -19,6 +21,8 @@ use Rattle.sheet.specs.declared.Turn.the-variants as turn
 use Rattle.sheet.specs.Machine.{most, State, Effect, goes, silent, ends, stops, effectOf, after, Turned, more, done, turnOf, onward, runItems, begun, typeSheet}
 use Rattle.sheet.specs.Code.{stateOf, Good, Ready, turnBy, TurnCounted, Turns}
 use Rattle.sheet.specs.Kept.{Grew}
+use Rattle.sheet.specs.Quick.{itemOf, ShortAt, Quick, Rushes}
+use Rattle.sheet.specs.declared.Rushed.{Rushed}
 use Rattle.sheet.proofs.Keeping.{EffectKept, item-kept}
 
 -- a turn goes on only after an item, not at the end or at bad framing
@@ -42,16 +46,16 @@ goes-item s place st st' End h = absurd (let z : _≡_ {A = ℕ} 0 1 = cc in ome
 goes-item s place st st' Bad h = absurd (let z : _≡_ {A = ℕ} 0 1 = cc in omega arith)
 
 module _ (s : List ℕ) (x : Placed) (st st' : State) (h : turnOf s x st ≡ more st') where
-  went : effectOf (x .at .0) st s (x .item) ≡ goes st'
+  pub turn-goes-on : effectOf (x .at .0) st s (x .item) ≡ goes st'
   unfolding turnOf
-  went = goes-from s (x .at .0) (x .next .0) (effectOf (x .at .0) st s (x .item)) st' h
+  turn-goes-on = goes-from s (x .at .0) (x .next .0) (effectOf (x .at .0) st s (x .item)) st' h
 
   pub turn-item : isItem (x .item) ≡ true
-  turn-item = goes-item s (x .at .0) st st' (x .item) went
+  turn-item = goes-item s (x .at .0) st st' (x .item) turn-goes-on
 
   -- and leaves a good state, in which every earlier entry stands
   pub turn-kept : Good st → Good st' × Grew (st .words) (st .used) (st' .words) (st' .used)
-  turn-kept g = rw went at (item-kept (x .at .0) st g s (x .item))
+  turn-kept g = rw turn-goes-on at (item-kept (x .at .0) st g s (x .item))
 
 -- THE RUN from a place on
 
@@ -93,37 +97,100 @@ left-start s w n vals h l =
       rest = refl;
     }
 
-module _ (s w₀ : List ℕ) (n₀ : ℕ) (w vals : List ℕ) (count n at : ℕ) (l : Left s w₀ n₀ w vals count n at) (x : Placed) (e : x ≡ itemAt s at) (vals' w' : List ℕ) where
+module _ (s w₀ : List ℕ) (n₀ : ℕ) (w vals : List ℕ) (count n at : ℕ) (l : Left s w₀ n₀ w vals count n at) (vals' : List ℕ) where
   abbrev st : State
   st = stateOf count vals n w
 
-  module _ (c u : ℕ) (t : Turns (turnOf s x st) (turn.More c u) vals' w') where
-    went-on : turnOf s (itemAt s at) st ≡ more (stateOf c vals' u w')
+  -- after quick items
+  pub left-rushed : (r : Rushed) → Rushes s at count vals n w r vals' → Left s w₀ n₀ w vals' (r .count) n (r .at .0)
+  left-rushed r h = record { long = l .long; ready = h .ready; rest = h .rest ∙ l .rest }
+
+  module _ (w' : List ℕ) where
+    module _ (c u : ℕ) (p : Place) (t : Turns (turnOf s (itemAt s at) st) (itemAt s at .next .0) (turn.More c u p) vals' w') where
+      went-on : turnOf s (itemAt s at) st ≡ more (stateOf c vals' u w')
+      unfolding turnBy
+      went-on = sym (t .turned)
+
+      counted : (c ≤ most) × (p .0 ≡ itemAt s at .next .0)
+      unfolding TurnCounted
+      counted = t .counted
+
+      pub left-again : length vals' ≡ length vals → length w' ≡ length w → Left s w₀ n₀ w' vals' c u (p .0)
+      left-again a b =
+          record {
+            long = b ∙ l .long;
+            ready = record { size = a ∙ l .ready .size; fits = counted .0; good = turn-kept s (itemAt s at) st (stateOf c vals' u w') went-on (l .ready .good) .0 };
+            rest = ap (λ (k : ℕ). runItems s (itemsFrom s k) (stateOf c vals' u w')) (counted .1) ∙ sym (run-more s at st (stateOf c vals' u w') went-on) ∙ l .rest;
+          }
+
+      pub left-less : (at < p .0) × (p .0 ≤ length s)
+      left-less = let f = run-forward s at st (stateOf c vals' u w') went-on in let e = counted .1 in (omega (arith, f .0, e), omega (arith, f .1, e))
+
+    pub left-done : (a : Answer) → Turns (turnOf s (itemAt s at) st) (itemAt s at .next .0) (turn.Done a) vals' w'
+        → Gave (runItems s (itemsFrom s headerSize) (begun w₀ n₀)) a w'
     unfolding turnBy
-    went-on = ap (λ (y : Placed). turnOf s y st) (sym e) ∙ sym (t .turned)
+    left-done a t =
+        let o : Outcome = record { answer = a; words = w' } in
+        let r = sym (run-done s at st o (sym (t .turned))) ∙ l .rest in
+        record { reply = ap (λ (y : Outcome). y .answer) r; words = ap (λ (y : Outcome). y .words) r }
 
-    within : c ≤ most
-    unfolding TurnCounted
-    within = t .counted
+-- QUICK ITEMS: one more leaves the rest as it was
 
-    pub left-again : length vals' ≡ length vals → length w' ≡ length w → Left s w₀ n₀ w' vals' c u (x .next .0)
-    left-again a b =
-        record {
-          long = b ∙ l .long;
-          ready = record { size = a ∙ l .ready .size; fits = within; good = turn-kept s (itemAt s at) st (stateOf c vals' u w') went-on (l .ready .good) .0 };
-          rest = ap (λ (k : ℕ). runItems s (itemsFrom s k) (stateOf c vals' u w')) (ap (λ (y : Placed). y .next .0) e) ∙ sym (run-more s at st (stateOf c vals' u w') went-on) ∙ l .rest;
-        }
+no-clash : {P : Type 0} → _≡_ {A = ℕ} 0 1 → P
+no-clash e = absurd (omega arith)
 
-    pub left-less : (at < x .next .0) × (x .next .0 ≤ length s)
-    left-less = let f = run-forward s at st (stateOf c vals' u w') went-on in rw e f
+module _ (x count : ℕ) (vals : List ℕ) (used : ℕ) (w : List ℕ) (r : ℕ) (vals' : List ℕ) (q : Quick x count vals used w r vals') where
+  pub quick-stays : r ≡ 0 → vals' ≡ vals
+  quick-stays e = go (q .went)
+    where
+      go : ((r ≡ 0) × (vals' ≡ vals)) ⊎ ((1 ≤ r) × (r ≤ most) × ((at : ℕ) (s : List ℕ) → effectOf at (stateOf count vals used w) s (itemOf x) ≡ goes (stateOf r vals' used w))) → vals' ≡ vals
+      go (inl z) = z .1
+      go (inr z) = let b = z .0 in absurd (omega (arith, e, b))
 
-  pub left-done : (a : Answer) → Turns (turnOf s x st) (turn.Done a) vals' w' → Gave (runItems s (itemsFrom s headerSize) (begun w₀ n₀)) a w'
-  unfolding turnBy
-  left-done a t =
-      let o : Outcome = record { answer = a; words = w' } in
-      let q : turnOf s (itemAt s at) st ≡ done o = ap (λ (y : Placed). turnOf s y st) (sym e) ∙ sym (t .turned) in
-      let r = sym (run-done s at st o q) ∙ l .rest in
-      record { reply = ap (λ (y : Outcome). y .answer) r; words = ap (λ (y : Outcome). y .words) r }
+  pub quick-went : r ≢ 0 → (r ≤ most) × ((at : ℕ) (s : List ℕ) → effectOf at (stateOf count vals used w) s (itemOf x) ≡ goes (stateOf r vals' used w))
+  quick-went k = go (q .went)
+    where
+      go : ((r ≡ 0) × (vals' ≡ vals)) ⊎ ((1 ≤ r) × (r ≤ most) × ((at : ℕ) (s : List ℕ) → effectOf at (stateOf count vals used w) s (itemOf x) ≡ goes (stateOf r vals' used w)))
+          → (r ≤ most) × ((at : ℕ) (s : List ℕ) → effectOf at (stateOf count vals used w) s (itemOf x) ≡ goes (stateOf r vals' used w))
+      go (inl z) = absurd (k (z .0))
+      go (inr z) = (z .1, z .2)
+
+module _ (s : List ℕ) (from at : ℕ) (high count : ℕ) (vals₀ vals : List ℕ) (used : ℕ) (w : List ℕ) (h : Rushes s from high vals₀ used w (record { at = record { 0 = at }; count = count }) vals)
+    (x : ℕ) (short : ShortAt s at x) (c : ℕ) (vals' : List ℕ) where
+  abbrev now : State
+  now = stateOf count vals used w
+
+  abbrev Went : Type 0
+  Went = (c ≤ most) × ((k : ℕ) (t : List ℕ) → effectOf k now t (itemOf x) ≡ goes (stateOf c vals' used w))
+
+  -- a number that went is the one of an item
+  stands : Went → (at + 3 ≤ length s) × (itemAt s at ≡ record { item = itemOf x; at = place at; next = place (at + 3) })
+  unfolding effectOf itemOf
+  stands g = go (short .found)
+    where
+      go : (x ≡ 0) ⊎ ((at + 3 ≤ length s) × (itemAt s at ≡ record { item = itemOf x; at = place at; next = place (at + 3) }))
+          → (at + 3 ≤ length s) × (itemAt s at ≡ record { item = itemOf x; at = place at; next = place (at + 3) })
+      go (inl e) = let q = rw e at (g .1 at s) in no-clash (cc)
+      go (inr e) = e
+
+  turns : Went → turnOf s (itemAt s at) now ≡ more (stateOf c vals' used w)
+  unfolding turnOf after
+  turns g = rw (stands g .1) (rw (g .1 at s) refl)
+
+  pub rush-on : length vals' ≡ length vals → Went → Rushes s from high vals₀ used w (record { at = record { 0 = at + 3 }; count = c }) vals'
+  rush-on a g =
+      let k = turn-kept s (itemAt s at) now (stateOf c vals' used w) (turns g) (h .ready .good) in
+      let m = run-more s at now (stateOf c vals' used w) (turns g) in
+      let e : itemAt s at .next .0 ≡ at + 3 = ap (λ (y : Placed). y .next .0) (stands g .1) in
+      let b = h .onward in
+      record {
+        ready = record { size = a ∙ h .ready .size; fits = g .0; good = k .0 };
+        rest = sym (ap (λ (n : ℕ). runItems s (itemsFrom s n) (stateOf c vals' used w)) e) ∙ sym m ∙ h .rest;
+        onward = omega (arith, b);
+      }
+
+  pub rush-less : Went → at + 3 ≤ length s
+  rush-less g = stands g .0
 
 -- A SHEET, test by test
 

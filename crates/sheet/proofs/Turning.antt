@@ -1,52 +1,79 @@
 -- A turn, from what the step did. Assumes nothing.
-use Prim.Native.Nat.{ℕ, zero, suc, _<_, _≤_}
-use mathlib.Core.Path.{_≡_, refl, sym, _∙_, ap}
-use mathlib.Core.Bool.{Bool, true, false}
-use mathlib.Core.List.{List, [], _∷_}
+use Prim.Native.Nat.{ℕ, _≤_}
+use mathlib.Core.Path.{_≡_, refl, sym, _∙_, ap, subst}
+use mathlib.Core.Logic.{_≢_}
+use mathlib.Core.List.{List}
 use native.Mathlib.Omega.{arith}
-use lib.ListN.{length, take, getD}
+use lib.ListN.{length, take}
+use borrow.Author.Tests.{eq-eqb, ne-eqb}
+use Rattle.answer.specs.Answer.{refuse}
+use Rattle.answer.specs.declared.Reason.the-variants.{Stack}
+use Rattle.answer.specs.declared.Place.{Place}
 use Rattle.answer.specs.declared.Refusal.{Refusal}
 use Rattle.answer.specs.declared.Answer.{Answer}
-use Rattle.answer.specs.declared.Answer.the-variants.{Refused}
-use Rattle.table.specs.Placing.{Outcome}
+use Rattle.answer.specs.declared.Answer.the-variants.{NoValue, Refused}
+use Rattle.frame.specs.Frame.{itemAt}
 use Rattle.frame.specs.declared.Placed.{Placed}
+use Rattle.sheet.specs.declared.Did.{Did}
 use Rattle.sheet.specs.declared.Did.the-variants as did
+use Rattle.sheet.specs.declared.Turn.{Turn}
 use Rattle.sheet.specs.declared.Turn.the-variants as turn
-use Rattle.sheet.specs.Machine.{most, State, Effect, effectOf, endAnswer, leftAnswer, after, Turned, more, done, turnOf}
-use Rattle.sheet.specs.Code.{stateOf, effectBy, Counted, Does, turnBy, TurnCounted, Turns}
+use Rattle.sheet.specs.Machine.{most, State, effectOf, endAnswer, leftAnswer, after, done, turnOf}
+use Rattle.sheet.specs.Code.{effectBy, Counted, Does, turnBy, TurnCounted, TurnsBy, Turns}
 use Rattle.sheet.proofs.StackLaws.{sized}
 
-module _ (s : List ℕ) (x : Placed) (st : State) (vals w : List ℕ) where
-  -- the turn after an effect
-  turned : {e : Effect} → e ≡ effectOf (x .at .0) st s (x .item) → after s (x .at .0) (x .next .0) e ≡ turnOf s x st
-  unfolding turnOf
-  turned h = ap (after s (x .at .0) (x .next .0)) h
+-- a call without value, test by test
+module _ (size place next high used : ℕ) where
+  pub left-high : high ≢ 0 → refuse Stack place used ≡ leftAnswer size place next high used
+  left-high h = sym (rw (ne-eqb high 0 h))
 
+  pub left-early : high ≡ 0 → next ≢ size → refuse Stack place used ≡ leftAnswer size place next high used
+  left-early h k = sym (rw (eq-eqb high 0 h, ne-eqb next size k))
+
+  pub left-last : high ≡ 0 → next ≡ size → NoValue used ≡ leftAnswer size place next high used
+  left-last h k = sym (rw (eq-eqb high 0 h, eq-eqb next size k))
+
+module _ (size place next : ℕ) (vals : List ℕ) where
   module _ (c u : ℕ) where
-    pub turn-goes : Does (effectOf (x .at .0) st s (x .item)) (did.Went c u) vals w → Turns (turnOf s x st) (turn.More c u) vals w
+    pub turn-goes : (n : Place) → n .0 ≡ next → Counted (did.Went c u) → TurnsBy size place next (did.Went c u) vals (turn.More c u n)
     unfolding after effectBy turnBy Counted TurnCounted
-    turn-goes d = record { turned = turned (d .effect); counted = d .counted }
+    turn-goes n e k = record { turned = λ s words l. refl; counted = (k, e) }
 
-    pub turn-silent : Does (effectOf (x .at .0) st s (x .item)) (did.Silent c u) vals w → length vals ≡ most
-        → (a : Answer) → a ≡ leftAnswer (length s) (x .at .0) (x .next .0) c u → Turns (turnOf s x st) (turn.Done a) vals w
+    pub turn-silent : length vals ≡ most → Counted (did.Silent c u) → (a : Answer) → a ≡ leftAnswer size place next c u
+        → TurnsBy size place next (did.Silent c u) vals (turn.Done a)
     unfolding after effectBy turnBy Counted TurnCounted
-    turn-silent d l a e =
-        let k : c ≤ most = d .counted in
+    turn-silent l k a e =
+        let m : c ≤ most = k in
         let h : length (take c vals) ≡ c = sized c vals (omega arith) in
         record {
-          turned = ap (λ (b : Answer). done (record { answer = b; words = w })) (e ∙ ap (λ (n : ℕ). leftAnswer (length s) (x .at .0) (x .next .0) n u) (sym h)) ∙ turned (d .effect);
+          turned = λ s words g. ap (λ (b : Answer). done (record { answer = b; words = words }))
+              (e ∙ ap (λ (n : ℕ). leftAnswer size place next n u) (sym h) ∙ ap (λ (n : ℕ). leftAnswer n place next (length (take c vals)) u) (sym g));
           counted = tt;
         }
 
-    pub counted-end : Does (effectOf (x .at .0) st s (x .item)) (did.Ended c u) vals w → c ≤ most
+    pub counted-end : Counted (did.Ended c u) → c ≤ most
     unfolding Counted
-    counted-end d = d .counted
+    counted-end k = k
 
-    pub turn-ends : Does (effectOf (x .at .0) st s (x .item)) (did.Ended c u) vals w
-        → (a : Answer) → a ≡ endAnswer (length s) (take c vals) u → Turns (turnOf s x st) (turn.Done a) vals w
+    pub turn-ends : (a : Answer) → a ≡ endAnswer size (take c vals) u → TurnsBy size place next (did.Ended c u) vals (turn.Done a)
     unfolding after effectBy turnBy Counted TurnCounted
-    turn-ends d a e = record { turned = ap (λ (b : Answer). done (record { answer = b; words = w })) e ∙ turned (d .effect); counted = tt }
+    turn-ends a e =
+        record {
+          turned = λ s words g. ap (λ (b : Answer). done (record { answer = b; words = words })) (e ∙ ap (λ (n : ℕ). endAnswer n (take c vals) u) (sym g));
+          counted = tt;
+        }
 
-  pub turn-stops : (r : Refusal) → Does (effectOf (x .at .0) st s (x .item)) (did.Refused r) vals w → Turns (turnOf s x st) (turn.Done (Refused r)) vals w
-  unfolding after effectBy turnBy Counted TurnCounted
-  turn-stops r d = record { turned = turned (d .effect); counted = tt }
+  pub turn-stops : (r : Refusal) → TurnsBy size place next (did.Refused r) vals (turn.Done (Refused r))
+  unfolding after effectBy turnBy TurnCounted
+  turn-stops r = record { turned = λ s words l. refl; counted = tt }
+
+-- the turn at what stands at a place
+module _ (s : List ℕ) (at : ℕ) (st : State) (d : Did) (r : Turn) (vals w : List ℕ) where
+  turned : (x : Placed) → Does (effectOf (x .at .0) st s (x .item)) d vals w → TurnsBy (length s) (x .at .0) (x .next .0) d vals r
+      → Turns (turnOf s x st) (x .next .0) r vals w
+  unfolding turnOf
+  turned x k t = record { turned = t .turned s w refl ∙ ap (after s (x .at .0) (x .next .0)) (k .effect); counted = t .counted }
+
+  pub turn-at : (x : Placed) → x ≡ itemAt s at → Does (effectOf (x .at .0) st s (x .item)) d vals w → TurnsBy (length s) (x .at .0) (x .next .0) d vals r
+      → Turns (turnOf s (itemAt s at) st) (itemAt s at .next .0) r vals w
+  turn-at x e k t = subst (λ (y : Placed). Turns (turnOf s y st) (y .next .0) r vals w) e (turned x k t)

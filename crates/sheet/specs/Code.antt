@@ -15,7 +15,7 @@ use Rattle.sheet.specs.declared.Did.{Did}
 use Rattle.sheet.specs.declared.Did.the-variants as did
 use Rattle.sheet.specs.declared.Turn.{Turn}
 use Rattle.sheet.specs.declared.Turn.the-variants as turn
-use Rattle.sheet.specs.Machine.{most, State, Effect, goes, silent, ends, stops, onto, Turned, more, done}
+use Rattle.sheet.specs.Machine.{most, State, Effect, goes, silent, ends, stops, onto, after, Turned, more, done}
 
 -- the state of a slice of values of which the first are the stack
 abbrev pub stateOf : ℕ → List ℕ → ℕ → List ℕ → State
@@ -32,6 +32,12 @@ pub record Ready (count : ℕ) (vals : List ℕ) (used : ℕ) (words : List ℕ)
   pub size : length vals ≡ most
   pub fits : count ≤ most
   pub good : Good (stateOf count vals used words)
+
+-- the values of the stack are bytes, as the numbers of a table of 256 entries are
+pub record Small (count : ℕ) (vals : List ℕ) : Type 0 where
+  pub fits : count ≤ length vals
+  pub size : length vals ≡ most
+  pub bytes : (i : ℕ) → i < count → getD vals i 0 < 256
 
 -- an answer whose value can be pushed over the values below
 abbrev pub Pushes : ℕ → Answer → Type 0
@@ -69,13 +75,19 @@ pub record Settles (base : ℕ) (before : List ℕ) (a : Answer) (r : Did) (vals
 
 -- a turn, by the code's answer
 unfoldable pub turnBy : Turn → List ℕ → List ℕ → Turned
-turnBy (turn.More count used) vals words = more (stateOf count vals used words)
+turnBy (turn.More count used next) vals words = more (stateOf count vals used words)
 turnBy (turn.Done a) vals words = done (record { answer = a; words = words })
 
-unfoldable pub TurnCounted : Turn → Type 0
-TurnCounted (turn.More count used) = count ≤ most
-TurnCounted (turn.Done a) = Unit {0}
+-- the counted values lie within the slice, and the turn goes on at the next place
+unfoldable pub TurnCounted : ℕ → Turn → Type 0
+TurnCounted n (turn.More count used next) = (count ≤ most) × (next .0 ≡ n)
+TurnCounted n (turn.Done a) = Unit {0}
 
-pub record Turns (t : Turned) (r : Turn) (vals words : List ℕ) : Type 0 where
+-- what the turn after an item promises, whatever words stand in the table
+pub record TurnsBy (size place next : ℕ) (d : Did) (vals : List ℕ) (r : Turn) : Type 0 where
+  pub turned : (s words : List ℕ) → length s ≡ size → turnBy r vals words ≡ after s place next (effectBy d vals words)
+  pub counted : TurnCounted next r
+
+pub record Turns (t : Turned) (next : ℕ) (r : Turn) (vals words : List ℕ) : Type 0 where
   pub turned : turnBy r vals words ≡ t
-  pub counted : TurnCounted r
+  pub counted : TurnCounted next r

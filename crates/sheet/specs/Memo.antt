@@ -1,7 +1,7 @@
 -- The memo of a run: results of operators that it has met. A slot is 0, or an operator, the values of its operands and the value of its result, a byte each.
 -- What it holds is true of the table as it stands and of every table that grows from it, so a result that is recalled is the one that typing would give.
 -- The promise of `type_sheet` is read without it. Assumes nothing.
-use Prim.Native.Nat.{ℕ, _+_, _-_, _*_, _<_, _≤_}
+use Prim.Native.Nat.{ℕ, _+_, _-_, _*_, _/_, _%_, _<_, _≤_}
 use mathlib.Core.Path.{_≡_}
 use mathlib.Core.Logic.{_⊎_}
 use mathlib.Core.List.{List}
@@ -10,8 +10,7 @@ use Rattle.conv.specs.Types.{Ty}
 use Rattle.table.specs.Denote.{typeAt}
 use Rattle.table.specs.Placing.{entering}
 use Rattle.ops_ty.specs.Ops.{unaryOps, binaryOps, unaryOutcome, binaryOutcome}
-use Rattle.sheet.specs.declared.Did.{Did}
-use Rattle.sheet.specs.declared.Did.the-variants as did
+use Rattle.frame.specs.Frame.{kindUnary, kindBinary}
 use Rattle.sheet.specs.declared.Turn.{Turn}
 use Rattle.sheet.specs.declared.Turn.the-variants as turn
 
@@ -63,26 +62,32 @@ pub record Noted (memo : List ℕ) (key t : ℕ) (after : List ℕ) : Type 0 whe
   pub below : slot < slots
   pub words : after ≡ set memo slot (slotOf key t)
 
--- what an item left is a value of the slice, below 256; and what noting it promises
-unfoldable pub Leaves : Did → List ℕ → Type 0
-Leaves (did.Went count used) vals = (1 ≤ count) × (count ≤ length vals) × (getD vals (count - 1) 0 < 256)
-Leaves (did.Silent count used) vals = Unit {0}
-Leaves (did.Ended count used) vals = Unit {0}
-Leaves (did.Refused r) vals = Unit {0}
+-- what a turn left is a value of the slice, below 256; and what noting it promises
+unfoldable pub Leaves : Turn → List ℕ → Type 0
+Leaves (turn.More count used next) vals = (1 ≤ count) × (count ≤ length vals) × (getD vals (count - 1) 0 < 256)
+Leaves (turn.Done a) vals = Unit {0}
 
-unfoldable pub NotedDid : List ℕ → ℕ → Did → List ℕ → List ℕ → Type 0
-NotedDid memo key (did.Went count used) vals after = Noted memo key (getD vals (count - 1) 0) after
-NotedDid memo key (did.Silent count used) vals after = after ≡ memo
-NotedDid memo key (did.Ended count used) vals after = after ≡ memo
-NotedDid memo key (did.Refused r) vals after = after ≡ memo
+unfoldable pub NotedTurn : List ℕ → ℕ → Turn → List ℕ → List ℕ → Type 0
+NotedTurn memo key (turn.More count used next) vals after = Noted memo key (getD vals (count - 1) 0) after
+NotedTurn memo key (turn.Done a) vals after = after ≡ memo
 
--- the memo after an item and after a turn that goes on
-unfoldable pub After : Did → List ℕ → List ℕ → Type 0
-After (did.Went count used) memo w = Recalls memo w used
-After (did.Silent count used) memo w = Unit {0}
-After (did.Ended count used) memo w = Unit {0}
-After (did.Refused r) memo w = Unit {0}
-
+-- the memo after a turn that goes on
 unfoldable pub AfterTurn : Turn → List ℕ → List ℕ → Type 0
-AfterTurn (turn.More count used) memo w = Recalls memo w used
+AfterTurn (turn.More count used next) memo w = Recalls memo w used
 AfterTurn (turn.Done a) memo w = Unit {0}
+
+-- the key of an operator on the last of `count` values. The operator is given as a number, its kind times 256 and its own number
+pub record KeyedBinary (x : ℕ) (vals : List ℕ) (count key : ℕ) : Type 0 where
+  pub kind : x / 256 ≡ kindBinary
+  pub known : x % 256 < binaryOps
+  pub enough : 2 ≤ count
+  pub is : key ≡ keyOf (binaryCode (x % 256)) (getD vals (count - 2) 0) (getD vals (count - 2 + 1) 0)
+
+pub record KeyedUnary (x : ℕ) (vals : List ℕ) (count key : ℕ) : Type 0 where
+  pub kind : x / 256 ≡ kindUnary
+  pub known : x % 256 < unaryOps
+  pub enough : 1 ≤ count
+  pub is : key ≡ keyOf (unaryCode (x % 256)) (getD vals (count - 1) 0) 0
+
+pub record Keyed (x : ℕ) (vals : List ℕ) (count key : ℕ) : Type 0 where
+  pub keyed : (key ≡ 0) ⊎ (KeyedBinary x vals count key ⊎ KeyedUnary x vals count key)

@@ -1,11 +1,13 @@
 -- `sheet::call` meets its contract: 11 where values lack, else the call without a template list. Assumes nothing.
-use Rattle.sheet.proofs.Effects.{does-as, refusing, call-short, call-goes}
 use Rattle.answer.specs.declared.Reason.the-variants.{Stack}
+use Rattle.sheet.specs.Machine.{bytesOf}
+use Rattle.sheet.proofs.Effects.{does-as, refusing, call-short, call-goes}
 use borrow.Author.Needs.{needs}
 use Rattle.sheet.proofs.call.Statement.{statement}
 use Rattle.sheet.proofs.call.Tie as tie
 use Rattle.sheet.proofs.call.Reads as reads
 use Rattle.sheet.proofs.call.Lts as lts
+use Rattle.frame.proofs.part_of.Reads as part-of-reads
 use Rattle.sheet.proofs.call_on.Reads as call-on-reads
 use Rattle.sheet.proofs.stopped.Reads as stopped-reads
 use Rattle.sheet.proofs.wide.Reads as wide-reads
@@ -19,7 +21,10 @@ stopped-requires c κs = search needs
 returns : tie.Need-returns
 returns c = let a = c .before .before .before .before .before .before .args in
     let l = rw (c .before .before .wide .ensures) at (c .before .if1 .taken) in
-    refusing (a .place) (a .count) (a .stack .now) (a .used) (a .table .now) Stack (c .stopped .ensures) (call-short (a .place) (a .count) (a .stack .now) (a .used) (a .table .now) (c .before .before .before .before .before .before .pre) (a .name .now) (a .k) l)
+    refusing (a .place) (a .count) (a .stack .now) (a .used) (a .table .now) Stack (c .stopped .ensures) (call-short (a .place) (a .count) (a .stack .now) (a .used) (a .table .now) (c .before .before .before .before .before .before .pre .0) (bytesOf (a .sheet .now) (a .name)) (a .k) l)
+
+part-of-requires : tie.Need-part-of-requires
+part-of-requires c κs = search needs
 
 slice-aggregate-call-on : tie.Need-slice-aggregate-call-on
 slice-aggregate-call-on c = search needs
@@ -34,9 +39,9 @@ same-length-2 : tie.Need-same-length-2
 same-length-2 c = search needs
 
 returns-2 : tie.Need-returns-2
-returns-2 c = let a = c .before .before .before .before .before .before .before .before .before .before .before .before .before .args in
-    let l = rw (c .before .before .before .before .before .before .before .before .before .wide .ensures) at (c .before .before .before .before .before .before .before .before .if1 .left) in
-    does-as (call-goes (a .place) (a .count) (a .stack .now) (a .used) (a .table .now) (c .before .before .before .before .before .before .before .before .before .before .before .before .before .pre) (a .name .now) (a .k) l) (rw (c .before .before .before .before .before .before .before .before .before .wide .ensures) at (c .before .before .before .before .call-on .ensures))
+returns-2 c = let a = c .before .before .before .before .before .before .before .before .before .before .before .before .before .before .args in
+    let l = rw (c .before .before .before .before .before .before .before .before .before .before .wide .ensures) at (c .before .before .before .before .before .before .before .before .before .if1 .left) in
+    does-as (call-goes (a .place) (a .count) (a .stack .now) (a .used) (a .table .now) (c .before .before .before .before .before .before .before .before .before .before .before .before .before .before .pre .0) (bytesOf (a .sheet .now) (a .name)) (a .k) l) (rw (c .before .before .before .before .before .before .before .before .before .before .wide .ensures, c .before .before .before .before .before .before .before .before .part-of .ensures .bytes) at (c .before .before .before .before .call-on .ensures))
 
 pub call-spec : {M : Type 1} → statement M
 call-spec =
@@ -45,6 +50,7 @@ call-spec =
     wide-requires
     stopped-requires
     returns
+    part-of-requires
     slice-aggregate-call-on
     call-on-requires
     same-length

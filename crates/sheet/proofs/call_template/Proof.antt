@@ -1,15 +1,17 @@
 -- `sheet::call_template` meets its contract: 11 where values lack, 2 for a template that is no type, else the call with it. Assumes nothing.
-use mathlib.Core.List.{[], _∷_}
-use lib.ListN.{getD}
-use native.Mathlib.Omega.{arith}
-use Prim.Native.Nat.{ℕ, zero, suc, _<_}
-use Rattle.sheet.proofs.Effects.{does-as, refusing, template-short, template-unknown, template-goes}
 use Rattle.answer.specs.declared.Reason.the-variants.{NoSuchType, Stack}
+use Rattle.sheet.specs.Machine.{bytesOf}
+use Rattle.sheet.proofs.Effects.{does-as, refusing, template-short, template-unknown, template-goes}
+use Prim.Native.Nat.{ℕ, zero, suc, _<_}
+use native.Mathlib.Omega.{arith}
+use lib.ListN.{getD}
+use mathlib.Core.List.{[], _∷_}
 use borrow.Author.Needs.{needs}
 use Rattle.sheet.proofs.call_template.Statement.{statement}
 use Rattle.sheet.proofs.call_template.Tie as tie
 use Rattle.sheet.proofs.call_template.Reads as reads
 use Rattle.sheet.proofs.call_template.Lts as lts
+use Rattle.frame.proofs.part_of.Reads as part-of-reads
 use Rattle.sheet.proofs.call_on.Reads as call-on-reads
 use Rattle.sheet.proofs.stopped.Reads as stopped-reads
 use Rattle.sheet.proofs.wide.Reads as wide-reads
@@ -28,24 +30,27 @@ stopped-requires c κs = search needs
 returns : tie.Need-returns
 returns c = let a = c .before .before .before .before .before .before .args in
     let l = rw (c .before .before .wide .ensures) at (c .before .if1 .taken) in
-    refusing (a .place) (a .count) (a .stack .now) (a .used) (a .table .now) Stack (c .stopped .ensures) (template-short (a .place) (a .count) (a .stack .now) (a .used) (a .table .now) (c .before .before .before .before .before .before .pre) (a .name .now) (a .t .0) (a .k) l)
+    refusing (a .place) (a .high) (a .stack .now) (a .n) (a .table .now) Stack (c .stopped .ensures) (template-short (a .place) (a .high) (a .stack .now) (a .n) (a .table .now) (c .before .before .before .before .before .before .pre .0) (bytesOf (a .sheet .now) (a .name)) (a .t .0) (a .k) l)
 
 stopped-requires-2 : tie.Need-stopped-requires-2
 stopped-requires-2 c κs = search needs
 
 returns-2 : tie.Need-returns-2
-returns-2 c = let a = c .before .before .before .before .before .before .before .before .args in
-    let l = rw (c .before .before .before .before .wide .ensures) at (c .before .before .before .if1 .left) in
-    refusing (a .place) (a .count) (a .stack .now) (a .used) (a .table .now) NoSuchType (c .stopped2 .ensures) (template-unknown (a .place) (a .count) (a .stack .now) (a .used) (a .table .now) (c .before .before .before .before .before .before .before .before .pre) (a .name .now) (a .t .0) (a .k) l (c .before .if2 .taken))
+returns-2 c = let a = c .before .before .before .before .before .before .before .args in
+    let l = rw (c .before .before .before .wide .ensures) at (c .before .before .if1 .left) in
+    refusing (a .place) (a .high) (a .stack .now) (a .n) (a .table .now) NoSuchType (c .stopped2 .ensures) (template-unknown (a .place) (a .high) (a .stack .now) (a .n) (a .table .now) (c .before .before .before .before .before .before .before .pre .0) (bytesOf (a .sheet .now) (a .name)) (a .t .0) (a .k) l (c .before .if2 .taken))
 
-cast-t14 : tie.Need-cast-t14
-cast-t14 c = search needs
+part-of-requires : tie.Need-part-of-requires
+part-of-requires c κs = search needs
+
+cast-first : tie.Need-cast-first
+cast-first c = search needs
 
 slice-aggregate-call-on : tie.Need-slice-aggregate-call-on
 slice-aggregate-call-on c = search needs
 
 call-on-requires : tie.Need-call-on-requires
-call-on-requires c κs = let a = c .before .before .before .before .before .before .before .before .before .before .before .args in (c .before .before .before .before .before .before .before .before .before .before .before .pre, one (a .t .0) (a .used) (c .before .before .before .before .if2 .left), c .before .before .before .before .before .before .if1 .left)
+call-on-requires c κs = let a = c .before .before .before .before .before .before .before .before .before .before .args in (c .before .before .before .before .before .before .before .before .before .before .pre .0, one (a .t .0) (a .n) (c .before .before .before .before .if2 .left), c .before .before .before .before .before .if1 .left)
 
 same-length : tie.Need-same-length
 same-length c = search needs
@@ -54,9 +59,9 @@ same-length-2 : tie.Need-same-length-2
 same-length-2 c = search needs
 
 returns-3 : tie.Need-returns-3
-returns-3 c = let a = c .before .before .before .before .before .before .before .before .before .before .before .before .before .before .before .before .args in
-    let l = rw (c .before .before .before .before .before .before .before .before .before .before .before .before .wide .ensures) at (c .before .before .before .before .before .before .before .before .before .before .before .if1 .left) in
-    does-as (template-goes (a .place) (a .count) (a .stack .now) (a .used) (a .table .now) (c .before .before .before .before .before .before .before .before .before .before .before .before .before .before .before .before .pre) (a .name .now) (a .t .0) (a .k) l (c .before .before .before .before .before .before .before .before .before .if2 .left)) (rw (c .before .before .before .before .before .before .before .before .before .before .before .before .wide .ensures) at (c .before .before .before .before .call-on .ensures))
+returns-3 c = let a = c .before .before .before .before .before .before .before .before .before .before .before .before .before .before .before .args in
+    let l = rw (c .before .before .before .before .before .before .before .before .before .before .before .wide .ensures) at (c .before .before .before .before .before .before .before .before .before .before .if1 .left) in
+    does-as (template-goes (a .place) (a .high) (a .stack .now) (a .n) (a .table .now) (c .before .before .before .before .before .before .before .before .before .before .before .before .before .before .before .pre .0) (bytesOf (a .sheet .now) (a .name)) (a .t .0) (a .k) l (c .before .before .before .before .before .before .before .before .before .if2 .left)) (rw (c .before .before .before .before .before .before .before .before .before .before .before .wide .ensures, c .before .before .before .before .before .before .before .before .part-of .ensures .bytes) at (c .before .before .before .before .call-on .ensures))
 
 pub call-template-spec : {M : Type 1} → statement M
 call-template-spec =
@@ -67,7 +72,8 @@ call-template-spec =
     returns
     stopped-requires-2
     returns-2
-    cast-t14
+    part-of-requires
+    cast-first
     slice-aggregate-call-on
     call-on-requires
     same-length

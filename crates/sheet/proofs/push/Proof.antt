@@ -14,15 +14,15 @@ stopped-requires : tie.Need-stopped-requires
 stopped-requires c κs = search needs
 
 returns : tie.Need-returns
-returns c = let a = c .before .before .before .before .before .args in
-    refusing (a .place) (a .count) (a .stack .now) (a .used) (a .table .now) NoSuchType (c .stopped .ensures) (push-unknown (a .place) (a .count) (a .stack .now) (a .used) (a .table .now) (c .before .before .before .before .before .pre) (a .t .0) (c .before .if1 .taken))
+returns c = let a = c .before .before .before .before .args in
+    refusing (a .at) (a .high) (a .stack .now) (a .used) (a .table .now) NoSuchType (c .stopped .ensures) (push-unknown (a .at) (a .high) (a .stack .now) (a .used) (a .table .now) (c .before .before .before .before .pre) (a .ty .0) (c .before .if1 .taken))
 
 stopped-requires-2 : tie.Need-stopped-requires-2
 stopped-requires-2 c κs = search needs
 
 returns-2 : tie.Need-returns-2
-returns-2 c = let a = c .before .before .before .before .before .before .args in
-    refusing (a .place) (a .count) (a .stack .now) (a .used) (a .table .now) Stack (c .stopped2 .ensures) (push-full (a .place) (a .count) (a .stack .now) (a .used) (a .table .now) (c .before .before .before .before .before .before .pre) (a .t .0) (c .before .before .if1 .left) (c .before .if2 .taken))
+returns-2 c = let a = c .before .before .before .before .before .args in
+    refusing (a .at) (a .high) (a .stack .now) (a .used) (a .table .now) Stack (c .stopped2 .ensures) (push-full (a .at) (a .high) (a .stack .now) (a .used) (a .table .now) (c .before .before .before .before .before .pre) (a .ty .0) (c .before .before .if1 .left) (c .before .if2 .taken))
 
 value-requires : tie.Need-value-requires
 value-requires c κs = search needs
@@ -33,15 +33,15 @@ mul-stack c = search needs
 slice-write-stack : tie.Need-slice-write-stack
 slice-write-stack c = search needs
 
-add-t11 : tie.Need-add-t11
-add-t11 c = search needs
+add-count : tie.Need-add-count
+add-count c = search needs
 
 same-length : tie.Need-same-length
 same-length c = search needs
 
 returns-3 : tie.Need-returns-3
-returns-3 c = let a = c .before .before .before .before .before .before .args in
-    push-does (a .place) (a .count) (a .stack .now) (a .used) (a .table .now) (c .before .before .before .before .before .before .pre) (a .t .0) (c .value .result) (c .value .ensures) (c .before .before .if1 .left) (c .before .if2 .left)
+returns-3 c = let a = c .before .before .before .before .before .args in
+    push-does (a .at) (a .high) (a .stack .now) (a .used) (a .table .now) (c .before .before .before .before .before .pre) (a .ty .0) (c .value .result) (c .value .ensures) (c .before .before .if1 .left) (c .before .if2 .left)
 
 pub push-spec : {M : Type 1} → statement M
 push-spec =
@@ -54,6 +54,6 @@ push-spec =
     value-requires
     mul-stack
     slice-write-stack
-    add-t11
+    add-count
     same-length
     returns-3)

@@ -1,24 +1,22 @@
 -- `sheet::step` meets its contract: each item by the function of its kind. Assumes nothing.
-use mathlib.Core.Path.{refl}
-use Rattle.sheet.proofs.MemoLaws.{stepped}
-use Rattle.sheet.proofs.Effects.{refusing}
-use Rattle.answer.specs.declared.Reason.the-variants.{Framing}
-use Rattle.sheet.specs.Code.{stateOf, effectBy, Counted}
 use Rattle.sheet.specs.Machine.{effectOf}
+use Rattle.sheet.specs.Code.{effectBy, Counted}
+use Rattle.answer.specs.declared.Reason.the-variants.{Framing}
+use Rattle.sheet.proofs.Effects.{refusing}
+use mathlib.Core.Path.{refl}
 use borrow.Author.Needs.{needs}
 use Rattle.sheet.proofs.step.Statement.{statement}
 use Rattle.sheet.proofs.step.Tie as tie
 use Rattle.sheet.proofs.step.Reads as reads
 use Rattle.sheet.proofs.step.Lts as lts
-use Rattle.frame.proofs.part_of.Reads as part-of-reads
-use Rattle.sheet.proofs.binary_by.Reads as binary-by-reads
+use Rattle.sheet.proofs.binary.Reads as binary-reads
 use Rattle.sheet.proofs.call.Reads as call-reads
 use Rattle.sheet.proofs.call_template.Reads as call-template-reads
+use Rattle.sheet.proofs.entry.Reads as entry-reads
 use Rattle.sheet.proofs.push.Reads as push-reads
 use Rattle.sheet.proofs.stopped.Reads as stopped-reads
 use Rattle.sheet.proofs.take_in.Reads as take-in-reads
-use Rattle.sheet.proofs.unary_by.Reads as unary-by-reads
-use Rattle.sheet.proofs.wide32.Reads as wide32-reads
+use Rattle.sheet.proofs.unary.Reads as unary-reads
 
 enum-known-item : tie.Need-enum-known-item
 enum-known-item c = search needs
@@ -29,44 +27,32 @@ push-requires c κs = search needs
 enum-known-item-2 : tie.Need-enum-known-item-2
 enum-known-item-2 c = search needs
 
-unary-by-requires : tie.Need-unary-by-requires
-unary-by-requires c κs = search needs
+unary-requires : tie.Need-unary-requires
+unary-requires c κs = search needs
 
 enum-known-item-3 : tie.Need-enum-known-item-3
 enum-known-item-3 c = search needs
 
-binary-by-requires : tie.Need-binary-by-requires
-binary-by-requires c κs = search needs
+binary-requires : tie.Need-binary-requires
+binary-requires c κs = search needs
 
 enum-known-item-4 : tie.Need-enum-known-item-4
 enum-known-item-4 c = search needs
 
-part-of-requires : tie.Need-part-of-requires
-part-of-requires c κs = rw (c .before .item4 .given .1) at (c .before .before .before .before .before .before .before .pre .1)
-
 call-requires : tie.Need-call-requires
-call-requires c κs = search needs
+call-requires c κs = (c .before .before .before .before .before .before .before .before .pre .0, rw (c .before .before .before .item4 .given .1) at (c .before .before .before .before .before .before .before .before .pre .1))
 
 enum-known-item-5 : tie.Need-enum-known-item-5
 enum-known-item-5 c = search needs
 
-part-of-requires-2 : tie.Need-part-of-requires-2
-part-of-requires-2 c κs = rw (c .before .item5 .given .1) at (c .before .before .before .before .before .before .before .pre .1)
-
 call-template-requires : tie.Need-call-template-requires
-call-template-requires c κs = search needs
+call-template-requires c κs = (c .before .before .before .before .before .before .before .before .pre .0, rw (c .before .before .before .item5 .given .1) at (c .before .before .before .before .before .before .before .before .pre .1))
 
 enum-known-item-6 : tie.Need-enum-known-item-6
 enum-known-item-6 c = search needs
 
-wide32-requires : tie.Need-wide32-requires
-wide32-requires c κs = search needs
-
-wide32-requires-2 : tie.Need-wide32-requires-2
-wide32-requires-2 c κs = search needs
-
-wide32-requires-3 : tie.Need-wide32-requires-3
-wide32-requires-3 c κs = search needs
+entry-requires : tie.Need-entry-requires
+entry-requires c κs = search needs
 
 take-in-requires : tie.Need-take-in-requires
 take-in-requires c κs = search needs
@@ -88,7 +74,7 @@ same-length-2 c = search needs
 
 returns : tie.Need-returns
 unfolding effectOf
-returns c = let a = c .before .before .before .before .before .before .before .before .before .before .before .before .args in let p = c .before .before .before .before .before .before .before .before .before .before .before .before .pre in stepped (a .place .0) (stateOf (a .count) (a .stack .now) (a .used) (a .table .now)) (p .0 .good) (a .sheet .now) (a .item) _ _ _ (a .memo .now) (p .2) (rw (c .before .before .before .before .before .before .item .given .1) (c .before .before .push .ensures))
+returns c = rw (c .before .before .before .before .before .before .item .given .1) (c .before .before .push .ensures)
 
 same-length-3 : tie.Need-same-length-3
 same-length-3 c = search needs
@@ -96,15 +82,19 @@ same-length-3 c = search needs
 same-length-4 : tie.Need-same-length-4
 same-length-4 c = search needs
 
+returns-2 : tie.Need-returns-2
+unfolding effectOf
+returns-2 c = rw (c .before .before .before .before .before .before .before .before .item2 .given .1) (c .before .before .before .before .unary .ensures)
+
 same-length-5 : tie.Need-same-length-5
 same-length-5 c = search needs
 
-returns-2 : tie.Need-returns-2
-unfolding effectOf
-returns-2 c = rw (c .before .before .before .before .before .before .before .before .before .before .before .item2 .given .1) (c .before .before .before .before .before .before .unary-by .ensures)
-
 same-length-6 : tie.Need-same-length-6
 same-length-6 c = search needs
+
+returns-3 : tie.Need-returns-3
+unfolding effectOf
+returns-3 c = rw (c .before .before .before .before .before .before .before .before .item3 .given .1) (c .before .before .before .before .binary .ensures)
 
 same-length-7 : tie.Need-same-length-7
 same-length-7 c = search needs
@@ -112,9 +102,9 @@ same-length-7 c = search needs
 same-length-8 : tie.Need-same-length-8
 same-length-8 c = search needs
 
-returns-3 : tie.Need-returns-3
+returns-4 : tie.Need-returns-4
 unfolding effectOf
-returns-3 c = rw (c .before .before .before .before .before .before .before .before .before .before .before .item3 .given .1) (c .before .before .before .before .before .before .binary-by .ensures)
+returns-4 c = rw (c .before .before .before .before .before .before .before .before .item4 .given .1) (c .before .before .before .before .call .ensures)
 
 same-length-9 : tie.Need-same-length-9
 same-length-9 c = search needs
@@ -122,9 +112,9 @@ same-length-9 c = search needs
 same-length-10 : tie.Need-same-length-10
 same-length-10 c = search needs
 
-returns-4 : tie.Need-returns-4
+returns-5 : tie.Need-returns-5
 unfolding effectOf
-returns-4 c = let a = c .before .before .before .before .before .before .before .before .before .before .before .before .before .before .before .args in let p = c .before .before .before .before .before .before .before .before .before .before .before .before .before .before .before .pre in stepped (a .place .0) (stateOf (a .count) (a .stack .now) (a .used) (a .table .now)) (p .0 .good) (a .sheet .now) (a .item) _ _ _ (a .memo .now) (p .2) (rw (c .before .before .before .before .before .before .before .before .before .item4 .given .1) (rw (c .before .before .before .before .before .before .before .part-of .ensures .bytes) at (c .before .before .before .before .call .ensures)))
+returns-5 c = rw (c .before .before .before .before .before .before .before .before .item5 .given .1) (c .before .before .before .before .call-template .ensures)
 
 same-length-11 : tie.Need-same-length-11
 same-length-11 c = search needs
@@ -132,27 +122,17 @@ same-length-11 c = search needs
 same-length-12 : tie.Need-same-length-12
 same-length-12 c = search needs
 
-returns-5 : tie.Need-returns-5
-unfolding effectOf
-returns-5 c = let a = c .before .before .before .before .before .before .before .before .before .before .before .before .before .before .before .args in let p = c .before .before .before .before .before .before .before .before .before .before .before .before .before .before .before .pre in stepped (a .place .0) (stateOf (a .count) (a .stack .now) (a .used) (a .table .now)) (p .0 .good) (a .sheet .now) (a .item) _ _ _ (a .memo .now) (p .2) (rw (c .before .before .before .before .before .before .before .before .before .item5 .given .1) (rw (c .before .before .before .before .before .before .before .part-of2 .ensures .bytes) at (c .before .before .before .before .call-template .ensures)))
-
-same-length-13 : tie.Need-same-length-13
-same-length-13 c = search needs
-
-same-length-14 : tie.Need-same-length-14
-same-length-14 c = search needs
-
 returns-6 : tie.Need-returns-6
 unfolding effectOf
-returns-6 c = let a = c .before .before .before .before .before .before .before .before .before .before .before .before .before .before .before .before .before .args in let p = c .before .before .before .before .before .before .before .before .before .before .before .before .before .before .before .before .before .pre in stepped (a .place .0) (stateOf (a .count) (a .stack .now) (a .used) (a .table .now)) (p .0 .good) (a .sheet .now) (a .item) _ _ _ (a .memo .now) (p .2) (rw (c .before .before .before .before .before .before .before .before .before .before .before .item6 .given .1) (rw (c .before .before .before .before .before .before .before .before .before .wide32 .ensures, c .before .before .before .before .before .before .before .before .wide322 .ensures, c .before .before .before .before .before .before .before .wide323 .ensures) at (c .before .before .before .before .take-in .ensures)))
+returns-6 c = rw (c .before .before .before .before .before .before .before .before .before .item6 .given .1) (rw (c .before .before .before .before .before .before .before .entry .ensures) at (c .before .before .before .before .take-in .ensures))
 
 returns-7 : tie.Need-returns-7
 unfolding effectOf effectBy Counted
-returns-7 c = let a = c .before .before .before .before .before .before .args in let p = c .before .before .before .before .before .before .pre in stepped (a .place .0) (stateOf (a .count) (a .stack .now) (a .used) (a .table .now)) (p .0 .good) (a .sheet .now) (a .item) _ _ _ (a .memo .now) (p .2) (rw (c .enum-told .given .1) (record { effect = refl; counted = p .0 .fits }))
+returns-7 c = rw (c .enum-told .given .1) (record { effect = refl; counted = c .before .before .before .before .before .pre .0 .fits })
 
 returns-8 : tie.Need-returns-8
 unfolding effectOf
-returns-8 c = let a = c .before .before .before .before .before .before .before .args in let p = c .before .before .before .before .before .before .before .pre in stepped (a .place .0) (stateOf (a .count) (a .stack .now) (a .used) (a .table .now)) (p .0 .good) (a .sheet .now) (a .item) _ _ _ (a .memo .now) (p .2) (rw (c .before .enum-told2 .given .1) (refusing (a .place) (a .count) (a .stack .now) (a .used) (a .table .now) Framing (c .stopped .ensures) refl))
+returns-8 c = let a = c .before .before .before .before .before .before .args in rw (c .before .enum-told2 .given .1) (refusing (a .place) (a .count) (a .stack .now) (a .used) (a .table .now) Framing (c .stopped .ensures) refl)
 
 pub step-spec : {M : Type 1} → statement M
 step-spec =
@@ -161,19 +141,15 @@ step-spec =
     enum-known-item
     push-requires
     enum-known-item-2
-    unary-by-requires
+    unary-requires
     enum-known-item-3
-    binary-by-requires
+    binary-requires
     enum-known-item-4
-    part-of-requires
     call-requires
     enum-known-item-5
-    part-of-requires-2
     call-template-requires
     enum-known-item-6
-    wide32-requires
-    wide32-requires-2
-    wide32-requires-3
+    entry-requires
     take-in-requires
     enum-told
     enum-told-2
@@ -183,20 +159,18 @@ step-spec =
     returns
     same-length-3
     same-length-4
-    same-length-5
     returns-2
+    same-length-5
     same-length-6
+    returns-3
     same-length-7
     same-length-8
-    returns-3
+    returns-4
     same-length-9
     same-length-10
-    returns-4
+    returns-5
     same-length-11
     same-length-12
-    returns-5
-    same-length-13
-    same-length-14
     returns-6
     returns-7
     returns-8)

@@ -1,0 +1,74 @@
+-- `sheet::rush` meets its contract: after every quick item, what is left gives what the items from the first place gave. Assumes nothing.
+use lib.ListN.{length}
+use Prim.Native.Nat.{ℕ, _-_}
+use mathlib.Core.List.{List}
+use mathlib.Core.Path.{refl, sym, _∙_, subst}
+use borrow.Author.Needs.{needs}
+use native.Mathlib.Omega.{arith}
+use Rattle.sheet.specs.Quick.{Rushes}
+use Rattle.sheet.proofs.Running.{quick-stays, quick-went, rush-on, rush-less}
+use Rattle.sheet.proofs.rush.Statement.{statement}
+use Rattle.sheet.proofs.rush.Tie as tie
+use Rattle.sheet.proofs.rush.Reads as reads
+use Rattle.sheet.proofs.rush.Lts as lts
+use Rattle.sheet.proofs.quick.Reads as quick-reads
+use Rattle.sheet.proofs.short_at.Reads as short-at-reads
+
+abbrev Inv-loop : tie.InvT-loop
+Inv-loop sheet stack₀ high table used memo at₀ count₀ stack at count = Rushes sheet at₀ count₀ stack₀ used table (record { at = record { 0 = at }; count = count }) stack
+
+abbrev μ-loop : tie.MeasureT-loop
+μ-loop sheet stack₀ high table used memo at₀ count₀ stack at count = length sheet - at
+
+loop-holds : tie.Need-loop-holds Inv-loop μ-loop
+loop-holds c = record { ready = c .before .before .before .before .pre .0; rest = refl; onward = omega arith }
+
+short-at-requires : tie.Need-short-at-requires Inv-loop μ-loop
+short-at-requires c κs = search needs
+
+quick-requires : tie.Need-quick-requires Inv-loop μ-loop
+quick-requires c κs = (c .before .before .loop .inv .ready, c .before .before .before .before .before .before .before .pre .1)
+
+same-length : tie.Need-same-length Inv-loop μ-loop
+same-length c = c .before .before .before .quick .kept .1 .0 ∙ c .before .before .before .before .before .before .loop .inv .ready .size ∙ sym (c .before .before .before .before .before .before .before .before .before .before .before .pre .0 .size)
+
+returns : tie.Need-returns Inv-loop μ-loop
+returns c = let a = c .before .before .before .before .before .before .before .before .before .before .before .args in
+    let l = c .before .before .before .before .before .before .loop in
+    let e = quick-stays (c .before .before .before .before .before .short-at .result) (l .count) (l .stack) (a .used) (a .table .now) (c .before .before .before .quick .result) _ (c .before .before .before .quick .ensures) (c .if1 .taken) in
+    subst (λ (y : List ℕ). Rushes (a .sheet .now) (a .from .0) (a .high) (a .stack .now) (a .used) (a .table .now) (record { at = record { 0 = l .at }; count = l .count }) y) (sym e) (l .inv)
+
+add-at : tie.Need-add-at Inv-loop μ-loop
+add-at c = let a = c .before .before .before .before .before .before .before .before .before .before .before .args in
+    let l = c .before .before .before .before .before .before .loop in
+    let g = quick-went (c .before .before .before .before .before .short-at .result) (l .count) (l .stack) (a .used) (a .table .now) (c .before .before .before .quick .result) _ (c .before .before .before .quick .ensures) (c .if1 .left) in
+    let h = rush-less (a .sheet .now) (a .from .0) (l .at) (a .high) (l .count) (a .stack .now) (l .stack) (a .used) (a .table .now) (l .inv) (c .before .before .before .before .before .short-at .result) (c .before .before .before .before .before .short-at .ensures) (c .before .before .before .quick .result) _ g in
+    search needs
+
+loop-less : tie.Need-loop-less Inv-loop μ-loop
+loop-less c = let a = c .before .before .before .before .before .before .before .before .before .before .before .args in
+    let l = c .before .before .before .before .before .before .loop in
+    let g = quick-went (c .before .before .before .before .before .short-at .result) (l .count) (l .stack) (a .used) (a .table .now) (c .before .before .before .quick .result) _ (c .before .before .before .quick .ensures) (c .if1 .left) in
+    let h = rush-less (a .sheet .now) (a .from .0) (l .at) (a .high) (l .count) (a .stack .now) (l .stack) (a .used) (a .table .now) (l .inv) (c .before .before .before .before .before .short-at .result) (c .before .before .before .before .before .short-at .ensures) (c .before .before .before .quick .result) _ g in
+    omega (arith, h)
+
+loop-again : tie.Need-loop-again Inv-loop μ-loop
+loop-again c = let a = c .before .before .before .before .before .before .before .before .before .before .before .args in
+    let l = c .before .before .before .before .before .before .loop in
+    let g = quick-went (c .before .before .before .before .before .short-at .result) (l .count) (l .stack) (a .used) (a .table .now) (c .before .before .before .quick .result) _ (c .before .before .before .quick .ensures) (c .if1 .left) in
+    rush-on (a .sheet .now) (a .from .0) (l .at) (a .high) (l .count) (a .stack .now) (l .stack) (a .used) (a .table .now) (l .inv) (c .before .before .before .before .before .short-at .result) (c .before .before .before .before .before .short-at .ensures) (c .before .before .before .quick .result) _ (c .before .before .before .quick .kept .1 .0) g
+
+pub rush-spec : {M : Type 1} → statement M
+rush-spec =
+    tie.close
+    (tie.spec
+    Inv-loop
+    μ-loop
+    loop-holds
+    short-at-requires
+    quick-requires
+    same-length
+    returns
+    add-at
+    loop-less
+    loop-again)
