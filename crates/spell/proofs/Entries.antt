@@ -18,7 +18,7 @@ use Rattle.table.proofs.KindLaws.{split, clash, by-kind, innermost, fract-kind}
 use Rattle.table.proofs.TypeLaws.{type-scalar, row-at, scalar-key, kind-above, type-words, kind-of, type-vec, type-mat, type-array, type-runtime, type-atomic, type-ptr, type-ref, type-frexp, type-modf}
 use Rattle.table.proofs.FormedLaws.{formed-at}
 use Rattle.spell.specs.Spell.{ascii, scalarNames, spaceNames, accessNames, named, decimal, fractScalar, fractName, spelling}
-use Rattle.spell.specs.Parts.{headNames, textOf, headOf, opening, closing, argsOf, fractText, fractOf}
+use Rattle.spell.specs.Parts.{headNames, textOf, headOf, opening, lastOf, closing, argsOf, fractText, fractOf}
 use Rattle.spell.proofs.Rows.{vec-row, mat-row, atomic-row, ptr-row, ref-row}
 
 -- the parts of the table of texts
@@ -57,34 +57,34 @@ module _ (e : Entry) where
   Args t = headOf e ++ (opening e ++ spelling t ++ closing e)
 
   on-vec : e .kind ≡ 7 → spelling (vec (e .p) (e .elem)) ≡ Args (scalar (e .elem))
-  unfolding spelling headOf opening closing textOf named ascii
+  unfolding spelling headOf opening lastOf closing textOf named ascii
   on-vec h = rw h (simp append-assoc)
 
   on-mat : e .kind ≡ 8 → spelling (mat (e .p) (e .q) (e .elem)) ≡ Args (scalar (e .elem))
-  unfolding spelling headOf opening closing textOf named ascii
+  unfolding spelling headOf opening lastOf closing textOf named ascii
   on-mat h = rw h (mat-group (ascii "mat") (decimal (e .p)) (ascii "x") (decimal (e .q)) (ascii "<") (named scalarNames (e .elem)) (ascii ">"))
 
   on-atomic : e .kind ≡ 11 → spelling (atomic (e .elem)) ≡ Args (scalar (e .elem))
-  unfolding spelling headOf opening closing textOf named ascii
+  unfolding spelling headOf opening lastOf closing textOf named ascii
   on-atomic h = rw h (simp append-assoc)
 
   module _ (t : Ty) where
     on-array : e .kind ≡ 9 → spelling (array (e .p) t) ≡ Args t
-    unfolding spelling headOf opening closing textOf named ascii
+    unfolding spelling headOf opening lastOf closing textOf named ascii
     on-array h = rw h (simp append-assoc)
 
     on-runtime : e .kind ≡ 10 → spelling (runtime t) ≡ Args t
-    unfolding spelling headOf opening closing textOf named ascii
+    unfolding spelling headOf opening lastOf closing textOf named ascii
     on-runtime h = rw h (simp append-assoc)
 
     on-ptr : e .kind ≡ 12 → e .p < 6 → e .q < 3 → spelling (ptr (e .p) (e .q) t) ≡ Args t
-    unfolding spelling headOf opening closing textOf named ascii
+    unfolding spelling headOf opening lastOf closing textOf named ascii
     on-ptr h p q =
         rw (h, text-space (e .p) p, text-access (e .q) q)
         (space-group (ascii "ptr") (ascii "<") (named spaceNames (e .p)) (ascii ",") (spelling t) (ascii ",") (named accessNames (e .q)) (ascii ">"))
 
     on-ref : e .kind ≡ 13 → e .p < 6 → e .q < 3 → spelling (ref (e .p) (e .q) t) ≡ Args t
-    unfolding spelling headOf opening closing textOf named ascii
+    unfolding spelling headOf opening lastOf closing textOf named ascii
     on-ref h p q =
         rw (h, text-space (e .p) p, text-access (e .q) q)
         (space-group (ascii "ref") (ascii "<") (named spaceNames (e .p)) (ascii ",") (spelling t) (ascii ",") (named accessNames (e .q)) (ascii ">"))

@@ -9,7 +9,7 @@ use lib.Dec.{eqb}
 use borrow.Author.Tests.{eq-eqb, ne-eqb}
 use Rattle.table.specs.declared.Entry.{Entry}
 use Rattle.spell.specs.Spell.{ascii, decimal}
-use Rattle.spell.specs.Parts.{textOf, headOf, opening, closing, fractText, fractOf}
+use Rattle.spell.specs.Parts.{textOf, headOf, opening, lastOf, closing, fractText, fractOf}
 use Rattle.spell.proofs.Texts.{text-long, dec-long}
 
 module _ (e : Entry) where
@@ -33,17 +33,17 @@ module _ (e : Entry) where
   unfolding opening ascii
   opening-plain h = rw h
 
-  pub closing-array : e .kind ≡ 9 → closing e ≡ (44 ∷ []) ++ decimal (e .p) ++ (62 ∷ [])
-  unfolding closing ascii
-  closing-array h = rw (eq-eqb _ 9 h)
+  pub last-array : e .kind ≡ 9 → lastOf e ≡ (44 ∷ []) ++ decimal (e .p)
+  unfolding lastOf ascii
+  last-array h = rw (eq-eqb _ 9 h)
 
-  pub closing-space : (e .kind ≡ 9 → ⊥) → (eqb (e .kind) 12 || eqb (e .kind) 13) ≡ true → closing e ≡ (44 ∷ []) ++ textOf (22 + e .q) ++ (62 ∷ [])
-  unfolding closing ascii
-  closing-space h k = rw (ne-eqb _ 9 h, k)
+  pub last-space : (e .kind ≡ 9 → ⊥) → (eqb (e .kind) 12 || eqb (e .kind) 13) ≡ true → lastOf e ≡ (44 ∷ []) ++ textOf (22 + e .q)
+  unfolding lastOf ascii
+  last-space h k = rw (ne-eqb _ 9 h, k)
 
-  pub closing-plain : (e .kind ≡ 9 → ⊥) → (eqb (e .kind) 12 || eqb (e .kind) 13) ≡ false → closing e ≡ 62 ∷ []
-  unfolding closing ascii
-  closing-plain h k = rw (ne-eqb _ 9 h, k)
+  pub last-none : (e .kind ≡ 9 → ⊥) → (eqb (e .kind) 12 || eqb (e .kind) 13) ≡ false → lastOf e ≡ []
+  unfolding lastOf
+  last-none h k = rw (ne-eqb _ 9 h, k)
 
   pub fract-vec : e .kind ≡ 7 → fractOf e ≡ headOf e ++ (95 ∷ []) ++ fractText (e .elem)
   unfolding fractOf ascii
@@ -78,11 +78,15 @@ module _ (e : Entry) where
   unfolding opening ascii
   opening-long = either (eqb (e .kind) 12 || eqb (e .kind) 13) _ _ _ (simp length-append (omega (arith, text-long (16 + e .p)))) (omega arith)
 
-  pub closing-long : length (closing e) ≤ 20 + e .p
-  unfolding closing ascii
-  closing-long =
+  pub last-long : length (lastOf e) ≤ 19 + e .p
+  unfolding lastOf ascii
+  last-long =
       either (eqb (e .kind) 9) _ _ _ (simp length-append (omega (arith, dec-long (e .p))))
       (either (eqb (e .kind) 12 || eqb (e .kind) 13) _ _ _ (simp length-append (omega (arith, text-long (22 + e .q)))) (omega arith))
+
+  pub closing-long : length (closing e) ≤ 20 + e .p
+  unfolding closing ascii
+  closing-long = simp length-append (omega (arith, last-long))
 
 fract-text-long : (s : ℕ) → length (fractText s) ≤ 15
 unfolding fractText

@@ -1,12 +1,13 @@
 -- The table of texts, of which the padded rows are computed, and numbers in decimal. Assumes nothing.
-use Prim.Native.Nat.{ℕ, zero, suc, _+_, _/_, _%_, _≤_, _<_}
+use Prim.Native.Nat.{ℕ, zero, suc, _+_, _*_, _/_, _%_, _≤_, _<_}
 use Prim.Native.String.{String}
 use mathlib.Core.Path.{_≡_, refl, _∙_, ap}
 use mathlib.Core.Bool.{Bool, true, false, _&&_, not, cond}
-use mathlib.Core.List.{List, [], _∷_, _++_, map}
+use mathlib.Core.List.{List, [], _∷_, _++_}
 use native.Mathlib.Nat.{le-of-suc-le-suc, not-suc-le-zero}
 use native.Mathlib.Omega.{arith}
-use lib.ListN.{length, getD, length-append, List·getD-eq-default}
+use lib.ListN.{length, getD, length-append, List·getD-append, List·getD-eq-default}
+use lib.Seq.{getD-append-add}
 use lib.Dec.{leb, ltb, eqb}
 use borrow.Author.Tests.{le-ltb, lt-ltb, ltb-true, ltb-false, leb-true, eqb-false, not-true}
 use Rattle.spell.specs.Spell.{ascii, named, digit, decimalBy, decimal}
@@ -36,14 +37,31 @@ pad-at (suc f) (b ∷ l) (suc j) h = pad-at f l j (le-of-suc-le-suc h)
 unfoldable pub row : String → List ℕ
 row s = pad 16 (ascii s)
 
-row-at : (names : List String) (k j : ℕ) → k < length names → j < 16 → getD (getD (map row names) k []) j 0 ≡ getD (named names k) j 32
-unfolding row named
+length-pad : (f : ℕ) (l : List ℕ) → length (pad f l) ≡ f
+unfolding pad
+length-pad zero l = refl
+length-pad (suc f) [] = ap suc (length-pad f [])
+length-pad (suc f) (b ∷ l) = ap suc (length-pad f l)
+
+-- the rows, one after another
+unfoldable pub rows : List String → List ℕ
+rows [] = []
+rows (s ∷ names) = row s ++ rows names
+
+row-at : (names : List String) (k j : ℕ) → k < length names → j < 16 → getD (rows names) (k * 16 + j) 0 ≡ getD (named names k) j 32
+unfolding rows row named
 row-at [] k j h l = absurd (not-suc-le-zero h)
-row-at (s ∷ names) zero j h l = pad-at 16 (ascii s) j l
-row-at (s ∷ names) (suc k) j h l = row-at names k j (le-of-suc-le-suc h) l
+row-at (s ∷ names) zero j h l =
+    let n = length-pad 16 (ascii s) in
+    let q : 0 * 16 + j ≡ j = omega arith in
+    rw q (List·getD-append (pad 16 (ascii s)) (rows names) 0 j (omega arith) ∙ pad-at 16 (ascii s) j l)
+row-at (s ∷ names) (suc k) j h l =
+    let n = length-pad 16 (ascii s) in
+    let q : suc k * 16 + j ≡ length (pad 16 (ascii s)) + (k * 16 + j) = omega arith in
+    rw q (getD-append-add (pad 16 (ascii s)) (rows names) (k * 16 + j) 0 ∙ row-at names k j (le-of-suc-le-suc h) l)
 
 -- byte j of text k stands in the source's table
-pub text-byte : (k j : ℕ) → k < 26 → j < 16 → getD (getD (map row texts) k []) j 0 ≡ getD (textOf k) j 32
+pub text-byte : (k j : ℕ) → k < 26 → j < 16 → getD (rows texts) (k * 16 + j) 0 ≡ getD (textOf k) j 32
 unfolding textOf
 text-byte k j h l = row-at texts k j h l
 

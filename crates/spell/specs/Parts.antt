@@ -56,11 +56,14 @@ unfoldable pub opening : Entry → List ℕ
 opening e = cond (eqb (e .kind) kindPtr || eqb (e .kind) kindRef) (ascii "<" ++ textOf (textSpaces + e .p) ++ ascii ",") (ascii "<")
 
 -- what stands after the elem: the count of an array or the access of a pointer or a reference, and `>`
+unfoldable pub lastOf : Entry → List ℕ
+lastOf e =
+    cond (eqb (e .kind) kindArray) (ascii "," ++ decimal (e .p))
+    (cond (eqb (e .kind) kindPtr || eqb (e .kind) kindRef) (ascii "," ++ textOf (textAccesses + e .q))
+    [])
+
 unfoldable pub closing : Entry → List ℕ
-closing e =
-    cond (eqb (e .kind) kindArray) (ascii "," ++ decimal (e .p) ++ ascii ">")
-    (cond (eqb (e .kind) kindPtr || eqb (e .kind) kindRef) (ascii "," ++ textOf (textAccesses + e .q) ++ ascii ">")
-    (ascii ">"))
+closing e = lastOf e ++ ascii ">"
 
 -- the arguments of entry i
 abbrev pub argsOf : List ℕ → ℕ → List ℕ

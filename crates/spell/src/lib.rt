@@ -7,7 +7,7 @@ ghost use Rattle.table.specs.Table.{scalars, Sound};
 ghost use Rattle.table.specs.Denote.{typeAt};
 ghost use Rattle.spell.specs.Spell.{decimal, spelling};
 ghost use Rattle.spell.specs.Reply.{refuse, SpellDone};
-ghost use Rattle.spell.specs.Parts.{textCount, textWidth, blank, textOf, headOf, opening, closing, argsOf, fractText, fractOf, half, span, far, Put};
+ghost use Rattle.spell.specs.Parts.{textCount, textWidth, blank, textOf, headOf, opening, lastOf, closing, argsOf, fractText, fractOf, half, span, far, Put};
 use table::Entry;
 use table::Place;
 use table::Reason;
@@ -20,34 +20,32 @@ const TEXT_COUNT: usize = 26;
 
 const TEXT_WIDTH: usize = 16;
 
-const TEXTS: [[u8; 16]; 26] = [
-    *b"bool            ",
-    *b"AbstractInt     ",
-    *b"AbstractFloat   ",
-    *b"i32             ",
-    *b"u32             ",
-    *b"f32             ",
-    *b"f16             ",
-    *b"vec             ",
-    *b"mat             ",
-    *b"array           ",
-    *b"array           ",
-    *b"atomic          ",
-    *b"ptr             ",
-    *b"ref             ",
-    *b"__frexp_result_ ",
-    *b"__modf_result_  ",
-    *b"function        ",
-    *b"private         ",
-    *b"workgroup       ",
-    *b"uniform         ",
-    *b"storage         ",
-    *b"handle          ",
-    *b"read            ",
-    *b"write           ",
-    *b"read_write      ",
-    *b"abstract        ",
-];
+const TEXTS: [u8; 416] = *b"bool            \
+    AbstractInt     \
+    AbstractFloat   \
+    i32             \
+    u32             \
+    f32             \
+    f16             \
+    vec             \
+    mat             \
+    array           \
+    array           \
+    atomic          \
+    ptr             \
+    ref             \
+    __frexp_result_ \
+    __modf_result_  \
+    function        \
+    private         \
+    workgroup       \
+    uniform         \
+    storage         \
+    handle          \
+    read            \
+    write           \
+    read_write      \
+    abstract        ";
 
 const TEXT_SPACES: usize = 16;
 
@@ -69,7 +67,7 @@ fn text_byte(k: usize, j: usize) -> u8
     requires { ⌜ (k < textCount) × (j < textWidth) ⌝ }
     ensures { λ r. ⌜ r ≡ getD (textOf k) j blank ⌝ }
 {
-    TEXTS[k][j]
+    TEXTS[k * TEXT_WIDTH + j]
 }
 
 // A byte at a place, or nothing past the end of the output; the place after it.
@@ -155,22 +153,30 @@ fn put_opening(out: &mut [u8], at: usize, e: Entry) -> usize
     a
 }
 
-// What closes the arguments: the count of an array, or the access of a pointer or a reference, and `>`.
+// What stands after the elem: the count of an array, or the access of a pointer or a reference.
+fn put_last(out: &mut [u8], at: usize, e: Entry) -> usize
+    requires { ⌜ at < far + half ⌝ }
+    ensures { λ r. ⌜ Put (now (out .entry)) at (lastOf e) r (now (out .exit)) ⌝ }
+    ensures { λ r. ⌜ r < far * 2 ⌝ }
+{
+    if e.kind == table::KIND_ARRAY {
+        let count = put_byte(out, at, b',');
+        return put_dec(out, count, e.p);
+    }
+    if (e.kind == table::KIND_PTR) | (e.kind == table::KIND_REF) {
+        let access = put_byte(out, at, b',');
+        return put_text(out, access, TEXT_ACCESSES + table::wide(e.q));
+    }
+    at
+}
+
+// What closes the arguments: what stands last, and `>`.
 fn put_closing(out: &mut [u8], at: usize, e: Entry) -> usize
     requires { ⌜ at < far + half ⌝ }
     ensures { λ r. ⌜ Put (now (out .entry)) at (closing e) r (now (out .exit)) ⌝ }
 {
-    if e.kind == table::KIND_ARRAY {
-        let count = put_byte(out, at, b',');
-        let end = put_dec(out, count, e.p);
-        return put_byte(out, end, b'>');
-    }
-    if (e.kind == table::KIND_PTR) | (e.kind == table::KIND_REF) {
-        let access = put_byte(out, at, b',');
-        let end = put_text(out, access, TEXT_ACCESSES + table::wide(e.q));
-        return put_byte(out, end, b'>');
-    }
-    put_byte(out, at, b'>')
+    let end = put_last(out, at, e);
+    put_byte(out, end, b'>')
 }
 
 // A scalar in the name of a result type.
