@@ -1,20 +1,20 @@
--- `sheet::call_template` meets its contract: 11 where values lack, 2 for a template that is no type, else the call with it. Assumes nothing.
+-- `step::call_template` meets its contract: 11 where values lack, 2 for a template that is no type, else the call with it. Assumes nothing.
 use Rattle.answer.specs.declared.Reason.the-variants.{NoSuchType, Stack}
-use Rattle.sheet.specs.Machine.{bytesOf}
-use Rattle.sheet.proofs.Effects.{does-as, refusing, template-short, template-unknown, template-goes}
+use Rattle.step.specs.Effect.{bytesOf}
+use Rattle.step.proofs.Effects.{does-as, refusing, template-short, template-unknown, template-goes}
 use Prim.Native.Nat.{ℕ, zero, suc, _<_, _≤_}
 use native.Mathlib.Omega.{arith}
 use lib.ListN.{getD}
 use mathlib.Core.List.{[], _∷_}
 use borrow.Author.Needs.{needs}
-use Rattle.sheet.proofs.call_template.Statement.{statement}
-use Rattle.sheet.proofs.call_template.Tie as tie
-use Rattle.sheet.proofs.call_template.Reads as reads
-use Rattle.sheet.proofs.call_template.Lts as lts
+use Rattle.step.proofs.call_template.Statement.{statement}
+use Rattle.step.proofs.call_template.Tie as tie
+use Rattle.step.proofs.call_template.Reads as reads
+use Rattle.step.proofs.call_template.Lts as lts
 use Rattle.frame.proofs.part_of.Reads as part-of-reads
-use Rattle.sheet.proofs.call_on.Reads as call-on-reads
-use Rattle.sheet.proofs.stopped.Reads as stopped-reads
-use Rattle.sheet.proofs.wide.Reads as wide-reads
+use Rattle.step.proofs.call_on.Reads as call-on-reads
+use Rattle.step.proofs.stopped.Reads as stopped-reads
+use Rattle.step.proofs.wide.Reads as wide-reads
 
 -- the list of one number below n
 one : (t n : ℕ) → t < n → (i : ℕ) → i < 1 → getD (t ∷ []) i 0 < n
