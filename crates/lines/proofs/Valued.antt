@@ -19,8 +19,9 @@ use Rattle.table.proofs.SoundLaws.{sound-of}
 use Rattle.table.proofs.KindLaws.{split}
 use Rattle.frame.specs.Frame.{version, headerSize, headerOk, itemsFrom}
 use Rattle.frame.specs.declared.Placed.{Placed}
-use Rattle.sheet.specs.Machine.{State, height, Effect, goes, silent, ends, stops, effectOf, endAnswer, leftAnswer, after, Turned, more, done, turnOf, onward, runItems, begun, typeSheet}
-use Rattle.sheet.specs.Code.{Good}
+use Rattle.step.specs.Effect.{State, height, Effect, goes, silent, ends, stops, effectOf}
+use Rattle.sheet.specs.Machine.{endAnswer, leftAnswer, after, Turned, more, done, turnOf, onward, runItems, begun, typeSheet}
+use Rattle.step.specs.Code.{Good}
 use Rattle.sheet.specs.Kept.{countOf}
 use Rattle.sheet.proofs.Keeping.{EffectKept, item-kept}
 use Rattle.sheet.proofs.Running.{turn-kept, sheet-unheaded, sheet-runs}

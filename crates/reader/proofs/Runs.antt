@@ -19,7 +19,8 @@ use Rattle.frame.specs.declared.Placed.{Placed}
 use Rattle.frame.specs.declared.Item.the-variants.{End}
 use Rattle.frame.specs.Frame.{itemAt, still, version, headerSize, headerOk}
 use Rattle.frame.proofs.FrameLaws.{framed}
-use Rattle.sheet.specs.Machine.{State, runItems, begun, typeSheet}
+use Rattle.step.specs.Effect.{State}
+use Rattle.sheet.specs.Machine.{runItems, begun, typeSheet}
 use Rattle.sheet.specs.Kept.{visited}
 use Rattle.sheet.proofs.Running.{sheet-unsound, sheet-unheaded, sheet-runs}
 use Rattle.sheet.proofs.Visiting.{visited-one, visited-front, last-valued, value-on, silent-on}

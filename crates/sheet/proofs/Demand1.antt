@@ -21,8 +21,9 @@ use Rattle.table.proofs.TypeLaws.{type-keeps}
 use Rattle.table.proofs.KindLaws.{split}
 use Rattle.frame.specs.Frame.{version, headerSize, headerOk, itemsFrom}
 use Rattle.frame.specs.declared.Placed.{Placed}
-use Rattle.sheet.specs.Machine.{most, State, height, Effect, goes, silent, ends, stops, effectOf, endAnswer, leftAnswer, after, Turned, more, done, turnOf, onward, runItems, begun, typeSheet}
-use Rattle.sheet.specs.Code.{Good}
+use Rattle.step.specs.Effect.{most, State, height, Effect, goes, silent, ends, stops, effectOf}
+use Rattle.sheet.specs.Machine.{endAnswer, leftAnswer, after, Turned, more, done, turnOf, onward, runItems, begun, typeSheet}
+use Rattle.step.specs.Code.{Good}
 use Rattle.sheet.specs.Kept.{Grew, countOf, further, reached}
 use Rattle.sheet.proofs.Keeping.{EffectKept, grew-none, item-kept}
 use Rattle.sheet.proofs.Running.{turn-kept, sheet-unsound, sheet-unheaded, sheet-runs}

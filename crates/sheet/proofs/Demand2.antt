@@ -24,10 +24,10 @@ use Rattle.ops_ty.specs.Ops.{unaryOutcome, binaryOutcome, typeUnaryOp, typeBina
 use Rattle.call_ty.specs.Calls.{callOutcome, allUnder, typeBuiltinFn}
 use Rattle.call_ty.specs.Codes.{Under}
 use Rattle.call_ty.proofs.Lists.{under-all}
-use Rattle.sheet.specs.Machine.{most, State, height, operands, below, numberOf, stop, onto, calling, unaryEffect, binaryEffect, callEffect, templateEffect, takeEffect}
-use Rattle.sheet.specs.Code.{Good}
+use Rattle.step.specs.Effect.{most, State, height, operands, below, numberOf, stop, onto, calling, unaryEffect, binaryEffect, callEffect, templateEffect, takeEffect}
+use Rattle.step.specs.Code.{Good}
 use Rattle.sheet.specs.Single.{moved, enterType}
-use Rattle.sheet.proofs.StackLaws.{under-drop}
+use Rattle.step.proofs.StackLaws.{under-drop}
 use Rattle.sheet.proofs.Moving.{entering-moved, unary-moved, binary-moved, call-moved}
 
 module _ (place : ℕ) (st : State) (good : Good st) where

@@ -12,7 +12,8 @@ use Rattle.answer.specs.declared.Reason.the-variants.{Stack}
 use Rattle.frame.specs.declared.Item.the-variants.{End}
 use Rattle.frame.specs.declared.Placed.{Placed}
 use Rattle.frame.specs.Frame.{itemAt, still, version, headerSize, headerOk}
-use Rattle.sheet.specs.Machine.{effectOf, after, done, turnOf, begun, typeSheet}
+use Rattle.step.specs.Effect.{effectOf}
+use Rattle.sheet.specs.Machine.{after, done, turnOf, begun, typeSheet}
 use Rattle.sheet.proofs.Running.{run-done, sheet-runs}
 
 module _ (w : List ℕ) (n : ℕ) (s : List ℕ) (e : length s ≡ headerSize) where

@@ -1,7 +1,3 @@
-pub mod StackLaws
-pub mod Answers
-pub mod Effects
-pub mod Items
 pub mod Turning
 pub mod Keeping
 pub mod Running

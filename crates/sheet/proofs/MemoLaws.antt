@@ -41,16 +41,18 @@ use Rattle.ops_ty.specs.Ops.{unaryOps, addressOp, indirectionOp, binaryOps, bin
 use Rattle.overload.proofs.Results.{gives-formed}
 use Rattle.ops_ty.proofs.Pointers.{address-formed, indirection-formed}
 use Rattle.ops_ty.proofs.Demand1.{unary-at-kept, binary-at-kept}
-use Rattle.sheet.specs.declared.Did.the-variants as did
+use Rattle.step.specs.declared.Did.the-variants as did
 use Rattle.sheet.specs.declared.Turn.{Turn}
 use Rattle.sheet.specs.declared.Turn.the-variants as turn
-use Rattle.sheet.specs.Machine.{most, State, Effect, goes, silent, ends, stops, pushed, onto, unaryEffect, binaryEffect, effectOf, turnOf}
-use Rattle.sheet.specs.Code.{stateOf, Good, Ready, Small, effectBy, Does, turnBy, TurnCounted, Turns}
+use Rattle.step.specs.Effect.{most, State, Effect, goes, silent, ends, stops, pushed, onto, unaryEffect, binaryEffect, effectOf}
+use Rattle.sheet.specs.Machine.{turnOf}
+use Rattle.step.specs.Code.{stateOf, Good, Ready, effectBy, Does}
+use Rattle.sheet.specs.Code.{Small, turnBy, TurnCounted, Turns}
 use Rattle.sheet.specs.Kept.{Grew}
 use Rattle.sheet.specs.Memo.{slots, nothing, binaryCode, unaryCode, keyOf, slotOf, GivesBinary, GivesUnary, Holds, Recalls, Recalled, Noted, Leaves, NotedTurn, AfterTurn, KeyedBinary, KeyedUnary, Keyed}
 use Rattle.sheet.specs.Quick.{itemOf, ShortAt, Quick}
-use Rattle.sheet.proofs.StackLaws.{sized, value-in}
-use Rattle.sheet.proofs.Effects.{does-as, settled, settle-value, value-under, push-does, unary-goes, binary-goes}
+use Rattle.step.proofs.StackLaws.{sized, value-in}
+use Rattle.step.proofs.Effects.{does-as, settled, settle-value, value-under, push-does, unary-goes, binary-goes}
 use Rattle.sheet.proofs.Running.{turn-kept, turn-goes-on}
 
 impossible : {P : Type 0} → _≡_ {A = ℕ} 0 1 → P
@@ -465,9 +467,9 @@ module _ (count : ℕ) (vals : List ℕ) (used : ℕ) (w : List ℕ) (ready : Re
         bytes = λ i h. let u = value-under (record { 0 = 0 }) count vals used w ready i h in let k = ready .good .sound .high in omega arith;
       }
 
-  pub quick-push : (x : ℕ) → x / 256 ≡ 1 → x % 256 < used → count < most → Quick x count vals used w (count + 1) (set vals count (x % 256))
+  pub quick-push : (x v : ℕ) → v ≡ x % 256 → x / 256 ≡ 1 → x % 256 < used → count < most → Quick x count vals used w (count + 1) (set vals count v)
   unfolding effectOf itemOf effectBy
-  quick-push x k h f = record { went = inr (omega arith, omega arith, λ at s. rw k (sym (push-does (record { 0 = at }) count vals used w ready (x % 256) (x % 256) refl h f .effect))) }
+  quick-push x v e k h f = record { went = inr (omega arith, omega arith, λ at s. rw k (sym (push-does (record { 0 = at }) count vals used w ready (x % 256) v e h f .effect))) }
 
   module _ (memo : List ℕ) (r : Recalls memo w used) (x key t : ℕ) (f : Recalled memo key t) (g : t ≢ nothing) where
     pub quick-binary : KeyedBinary x vals count key → Quick x count vals used w (count - 1) (set vals (count - 2) t)

@@ -18,8 +18,10 @@ use Rattle.frame.specs.declared.Placed.{Placed}
 use Rattle.frame.proofs.FrameLaws.{framed, name-within}
 use Rattle.frame.proofs.ItemsLaws.{items-from}
 use Rattle.sheet.specs.declared.Turn.the-variants as turn
-use Rattle.sheet.specs.Machine.{most, State, Effect, goes, silent, ends, stops, effectOf, after, Turned, more, done, turnOf, onward, runItems, begun, typeSheet}
-use Rattle.sheet.specs.Code.{stateOf, Good, Ready, turnBy, TurnCounted, Turns}
+use Rattle.step.specs.Effect.{most, State, Effect, goes, silent, ends, stops, effectOf}
+use Rattle.sheet.specs.Machine.{after, Turned, more, done, turnOf, onward, runItems, begun, typeSheet}
+use Rattle.step.specs.Code.{stateOf, Good, Ready}
+use Rattle.sheet.specs.Code.{turnBy, TurnCounted, Turns}
 use Rattle.sheet.specs.Kept.{Grew}
 use Rattle.sheet.specs.Quick.{itemOf, ShortAt, Quick, Rushes}
 use Rattle.sheet.specs.declared.Rushed.{Rushed}

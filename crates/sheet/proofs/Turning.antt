@@ -14,13 +14,15 @@ use Rattle.answer.specs.declared.Answer.{Answer}
 use Rattle.answer.specs.declared.Answer.the-variants.{NoValue, Refused}
 use Rattle.frame.specs.Frame.{itemAt}
 use Rattle.frame.specs.declared.Placed.{Placed}
-use Rattle.sheet.specs.declared.Did.{Did}
-use Rattle.sheet.specs.declared.Did.the-variants as did
+use Rattle.step.specs.declared.Did.{Did}
+use Rattle.step.specs.declared.Did.the-variants as did
 use Rattle.sheet.specs.declared.Turn.{Turn}
 use Rattle.sheet.specs.declared.Turn.the-variants as turn
-use Rattle.sheet.specs.Machine.{most, State, effectOf, endAnswer, leftAnswer, after, done, turnOf}
-use Rattle.sheet.specs.Code.{effectBy, Counted, Does, turnBy, TurnCounted, TurnsBy, Turns}
-use Rattle.sheet.proofs.StackLaws.{sized}
+use Rattle.step.specs.Effect.{most, State, effectOf}
+use Rattle.sheet.specs.Machine.{endAnswer, leftAnswer, after, done, turnOf}
+use Rattle.step.specs.Code.{effectBy, Counted, Does}
+use Rattle.sheet.specs.Code.{turnBy, TurnCounted, TurnsBy, Turns}
+use Rattle.step.proofs.StackLaws.{sized}
 
 -- a call without value, test by test
 module _ (size place next high used : ℕ) where

@@ -18,7 +18,8 @@ use Rattle.frame.specs.Frame.{isItem}
 use Rattle.frame.specs.declared.Item.{Item}
 use Rattle.frame.specs.declared.Item.the-variants.{Push, Unary, Binary, Call, CallTemplate, Take, End, Bad}
 use Rattle.frame.specs.declared.Placed.{Placed}
-use Rattle.sheet.specs.Machine.{most, State, height, Effect, goes, silent, ends, stops, onto, pushEffect, unaryEffect, binaryEffect, callEffect, templateEffect, takeEffect, effectOf, endAnswer, leftAnswer, after, Turned, more, done, turnOf, runItems}
+use Rattle.step.specs.Effect.{most, State, height, Effect, goes, silent, ends, stops, onto, pushEffect, unaryEffect, binaryEffect, callEffect, templateEffect, takeEffect, effectOf}
+use Rattle.sheet.specs.Machine.{endAnswer, leftAnswer, after, Turned, more, done, turnOf, runItems}
 use Rattle.sheet.specs.Kept.{beyond, visited}
 use Rattle.sheet.proofs.Demand1.{run-on, run-over}
 

@@ -1,77 +1,20 @@
--- What the code goes by: a stack is the first values of a lent slice. The promise of `type_sheet` is read without it; `Good` stands in the laws of runs.
--- Assumes nothing.
-use Prim.Native.Nat.{ℕ, _≤_, _<_, _^_}
+-- What the code of a turn goes by. Assumes nothing.
+use Prim.Native.Nat.{ℕ, _≤_, _<_}
 use mathlib.Core.Path.{_≡_}
 use mathlib.Core.List.{List}
-use lib.ListN.{length, getD, take}
-use Rattle.table.specs.Table.{Sound}
-use Rattle.table.specs.Placing.{Outcome}
-use Rattle.answer.specs.declared.Place.{Place}
-use Rattle.answer.specs.declared.Reason.{Reason}
-use Rattle.answer.specs.declared.Answer.{Answer}
-use Rattle.answer.specs.declared.Answer.the-variants.{Value, NoValue, Refused}
-use Rattle.call_ty.specs.Codes.{Under}
-use Rattle.sheet.specs.declared.Did.{Did}
-use Rattle.sheet.specs.declared.Did.the-variants as did
+use lib.ListN.{length, getD}
+use Rattle.step.specs.declared.Did.{Did}
+use Rattle.step.specs.Effect.{most}
+use Rattle.step.specs.Code.{stateOf, effectBy}
 use Rattle.sheet.specs.declared.Turn.{Turn}
 use Rattle.sheet.specs.declared.Turn.the-variants as turn
-use Rattle.sheet.specs.Machine.{most, State, Effect, goes, silent, ends, stops, onto, after, Turned, more, done}
-
--- the state of a slice of values of which the first are the stack
-abbrev pub stateOf : ℕ → List ℕ → ℕ → List ℕ → State
-stateOf count vals used words = record { stack = take count vals; used = used; words = words }
-
--- a state that a run reaches: the table is sound, every value is a number of it, and the stack is no higher than it may be
-pub record Good (st : State) : Type 0 where
-  pub sound : Sound (st .words) (st .used)
-  pub under : Under (st .used) (st .stack)
-  pub high : length (st .stack) ≤ most
-
--- what the functions of one item ask for
-pub record Ready (count : ℕ) (vals : List ℕ) (used : ℕ) (words : List ℕ) : Type 0 where
-  pub size : length vals ≡ most
-  pub fits : count ≤ most
-  pub good : Good (stateOf count vals used words)
+use Rattle.sheet.specs.Machine.{after, Turned, more, done}
 
 -- the values of the stack are bytes, as the numbers of a table of 256 entries are
 pub record Small (count : ℕ) (vals : List ℕ) : Type 0 where
   pub fits : count ≤ length vals
   pub size : length vals ≡ most
   pub bytes : (i : ℕ) → i < count → getD vals i 0 < 256
-
--- an answer whose value can be pushed over the values below
-abbrev pub Pushes : ℕ → Answer → Type 0
-Pushes base (Value t m) = (base < most) × (t .0 < 2 ^ 32)
-Pushes base (NoValue m) = Unit {0}
-Pushes base (Refused r) = Unit {0}
-
--- a refusal, as the code answers it
-abbrev pub turnedAway : Reason → Place → ℕ → Did
-turnedAway reason place used = did.Refused (record { reason = reason; place = place; used = used })
-
--- an effect, by the code's answer, the values and the words
-unfoldable pub effectBy : Did → List ℕ → List ℕ → Effect
-effectBy (did.Went count used) vals words = goes (stateOf count vals used words)
-effectBy (did.Silent count used) vals words = silent (stateOf count vals used words)
-effectBy (did.Ended count used) vals words = ends (stateOf count vals used words)
-effectBy (did.Refused r) vals words = stops r words
-
--- the counted values lie within the slice
-unfoldable pub Counted : Did → Type 0
-Counted (did.Went count used) = count ≤ most
-Counted (did.Silent count used) = count ≤ most
-Counted (did.Ended count used) = count ≤ most
-Counted (did.Refused r) = Unit {0}
-
--- what the functions of one item promise
-pub record Does (e : Effect) (r : Did) (vals words : List ℕ) : Type 0 where
-  pub effect : effectBy r vals words ≡ e
-  pub counted : Counted r
-
--- what putting an answer on the stack promises, whatever words stand in the table
-pub record Settles (base : ℕ) (before : List ℕ) (a : Answer) (r : Did) (vals : List ℕ) : Type 0 where
-  pub effect : (words : List ℕ) → effectBy r vals words ≡ onto (take base before) (record { answer = a; words = words })
-  pub counted : Counted r
 
 -- a turn, by the code's answer
 unfoldable pub turnBy : Turn → List ℕ → List ℕ → Turned

@@ -7,7 +7,8 @@ use Rattle.table.specs.Table.{stride, Keeps}
 use Rattle.answer.specs.declared.Answer.{Answer}
 use Rattle.answer.specs.declared.Answer.the-variants.{Value, NoValue, Refused}
 use Rattle.frame.specs.declared.Placed.{Placed}
-use Rattle.sheet.specs.Machine.{State, Turned, more, done, turnOf}
+use Rattle.step.specs.Effect.{State}
+use Rattle.sheet.specs.Machine.{Turned, more, done, turnOf}
 
 -- a table of n entries in the words w became one of m entries in the words v: the earlier entries stand at their numbers with their words, and no
 -- word behind the m entries changed

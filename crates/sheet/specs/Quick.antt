@@ -10,8 +10,9 @@ use Rattle.frame.specs.Frame.{pick, place, typeNo, kindPush, kindUnary, kindBin
 use Rattle.frame.specs.declared.Item.{Item}
 use Rattle.frame.specs.declared.Item.the-variants.{Push, Unary, Binary, Bad}
 use Rattle.sheet.specs.declared.Rushed.{Rushed}
-use Rattle.sheet.specs.Machine.{most, goes, effectOf, runItems}
-use Rattle.sheet.specs.Code.{stateOf, Ready}
+use Rattle.step.specs.Effect.{most, goes, effectOf}
+use Rattle.sheet.specs.Machine.{runItems}
+use Rattle.step.specs.Code.{stateOf, Ready}
 
 -- the item of a number
 unfoldable pub itemOf : ℕ → Item

@@ -22,8 +22,9 @@ use Rattle.frame.specs.Frame.{version, headerSize, headerOk, itemAt, itemsWithi
 use Rattle.frame.specs.declared.Item.{Item}
 use Rattle.frame.specs.declared.Item.the-variants.{Push, Unary, Binary, Call, CallTemplate, Take, End, Bad}
 use Rattle.frame.proofs.FrameLaws.{framed, own-place, headed}
-use Rattle.sheet.specs.Machine.{State, height, operands, below, typeOf, Effect, goes, silent, ends, stops, onto, having, holding, calling, pushEffect, unaryEffect, binaryEffect, callEffect, templateEffect, takeEffect, effectOf, entryOf, bytesOf, endAnswer, leftAnswer, after, Turned, more, done, turnOf, onward, runItems, begun, typeSheet}
-use Rattle.sheet.specs.Code.{Good}
+use Rattle.step.specs.Effect.{State, height, operands, below, typeOf, Effect, goes, silent, ends, stops, onto, having, holding, calling, pushEffect, unaryEffect, binaryEffect, callEffect, templateEffect, takeEffect, effectOf, entryOf, bytesOf}
+use Rattle.sheet.specs.Machine.{endAnswer, leftAnswer, after, Turned, more, done, turnOf, onward, runItems, begun, typeSheet}
+use Rattle.step.specs.Code.{Good}
 use Rattle.sheet.proofs.Keeping.{EffectKept, item-kept}
 use Rattle.sheet.proofs.Running.{turn-item, turn-kept, sheet-unsound, sheet-unheaded, sheet-runs}
 use Rattle.swartabelk.specs.Code.{Fits}

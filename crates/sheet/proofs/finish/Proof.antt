@@ -3,13 +3,13 @@ use Prim.Native.Nat.{_<_, _≤_}
 use lib.ListN.{length}
 use borrow.Author.Tests.{eq-eqb, ne-eqb}
 use native.Mathlib.Omega.{arith}
-use Rattle.sheet.proofs.StackLaws.{sized, value-in}
+use Rattle.step.proofs.StackLaws.{sized, value-in}
 use borrow.Author.Needs.{needs}
 use Rattle.sheet.proofs.finish.Statement.{statement}
 use Rattle.sheet.proofs.finish.Tie as tie
 use Rattle.sheet.proofs.finish.Reads as reads
 use Rattle.sheet.proofs.finish.Lts as lts
-use Rattle.sheet.proofs.number.Reads as number-reads
+use Rattle.step.proofs.number.Reads as number-reads
 use Rattle.table.proofs.accepted.Reads as accepted-reads
 use Rattle.table.proofs.refused.Reads as refused-reads
 

@@ -1,7 +1,7 @@
 -- `sheet::noted_turn` meets its contract: the turn is that of `one_turn`, and what an operator left may be noted under its key. Assumes nothing.
 use mathlib.Core.Path.{_∙_}
 use Rattle.frame.specs.Frame.{itemAt}
-use Rattle.sheet.specs.Code.{stateOf}
+use Rattle.step.specs.Code.{stateOf}
 use Rattle.sheet.proofs.MemoLaws.{ready-small, recalls-turn, keyed-small, turn-leaves, turn-noted}
 use borrow.Author.Needs.{needs}
 use Rattle.sheet.proofs.noted_turn.Statement.{statement}

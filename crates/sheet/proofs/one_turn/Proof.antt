@@ -1,5 +1,5 @@
 -- `sheet::one_turn` meets its contract: what the step did decides the turn. Assumes nothing.
-use Rattle.sheet.specs.Code.{stateOf}
+use Rattle.step.specs.Code.{stateOf}
 use Rattle.sheet.proofs.Running.{name-in}
 use Rattle.sheet.proofs.Turning.{turn-at}
 use borrow.Author.Needs.{needs}
@@ -8,7 +8,7 @@ use Rattle.sheet.proofs.one_turn.Tie as tie
 use Rattle.sheet.proofs.one_turn.Reads as reads
 use Rattle.sheet.proofs.one_turn.Lts as lts
 use Rattle.frame.proofs.item_at.Reads as item-at-reads
-use Rattle.sheet.proofs.step.Reads as step-reads
+use Rattle.step.proofs.step.Reads as step-reads
 use Rattle.sheet.proofs.turn_by.Reads as turn-by-reads
 
 item-at-requires : tie.Need-item-at-requires

@@ -3,28 +3,32 @@ use Prim.Native.Nat.{_<_, _%_}
 use mathlib.Core.Logic.{inl}
 use mathlib.Core.Path.{refl}
 use native.Mathlib.Omega.{arith}
-use lib.Dec.{leb}
 use borrow.Author.Tests.{leb-false}
+use lib.Dec.{leb}
 use Rattle.sheet.proofs.MemoLaws.{neither, quick-push}
 use borrow.Author.Needs.{needs}
 use Rattle.sheet.proofs.quick_push.Statement.{statement}
 use Rattle.sheet.proofs.quick_push.Tie as tie
 use Rattle.sheet.proofs.quick_push.Reads as reads
 use Rattle.sheet.proofs.quick_push.Lts as lts
-use Rattle.sheet.proofs.number.Reads as number-reads
+use Rattle.step.proofs.value.Reads as value-reads
 
-number-requires : tie.Need-number-requires
-number-requires c κs = search needs
+cast-stack : tie.Need-cast-stack
+cast-stack c = search needs
 
 returns : tie.Need-returns
 returns c = record { went = inl (refl, refl) }
+
+value-requires : tie.Need-value-requires
+value-requires c κs = search needs
 
 mul-stack : tie.Need-mul-stack
 mul-stack c = search needs
 
 slice-write-stack : tie.Need-slice-write-stack
-slice-write-stack c = let n = neither (leb (c .before .before .before .before .before .args .used) (c .before .before .number .result .0)) (leb 64 (c .before .before .before .before .before .args .count)) (c .if1 .left) in
-    let f : c .before .before .before .before .before .args .count < 64 = leb-false _ _ (n .1) in
+slice-write-stack c = let a = c .before .before .before .before .before .args in
+    let n = neither (leb (a .used) (a .x % 256)) (leb 64 (a .count)) (c .before .if1 .left) in
+    let f : a .count < 64 = leb-false _ _ (n .1) in
     omega (arith, f, c .before .before .before .before .before .pre .0 .size)
 
 add-result : tie.Need-add-result
@@ -35,13 +39,20 @@ same-length c = search needs
 
 returns-2 : tie.Need-returns-2
 returns-2 c = let a = c .before .before .before .before .before .args in
-    let n = neither (leb (a .used) (c .before .before .number .result .0)) (leb 64 (a .count)) (c .if1 .left) in
+    let n = neither (leb (a .used) (a .x % 256)) (leb 64 (a .count)) (c .before .if1 .left) in
     let f : a .count < 64 = leb-false _ _ (n .1) in
-    let g : c .before .before .number .result .0 < a .used = leb-false _ _ (n .0) in
-    let h : a .x % 256 < a .used = rw (c .before .before .number .ensures) at g in
-    quick-push (a .count) (a .stack .now) (a .used) (a .table .now) (c .before .before .before .before .before .pre .0) (a .x) (c .before .before .before .before .before .pre .1) h f
+    let h : a .x % 256 < a .used = leb-false _ _ (n .0) in
+    quick-push (a .count) (a .stack .now) (a .used) (a .table .now) (c .before .before .before .before .before .pre .0) (a .x) (c .value .result) (c .value .ensures) (c .before .before .before .before .before .pre .1) h f
 
 pub quick-push-spec : {M : Type 1} → statement M
 quick-push-spec =
     tie.close
-    (tie.spec number-requires returns mul-stack slice-write-stack add-result same-length returns-2)
+    (tie.spec
+    cast-stack
+    returns
+    value-requires
+    mul-stack
+    slice-write-stack
+    add-result
+    same-length
+    returns-2)

@@ -1,22 +1,22 @@
--- `sheet::step` meets its contract: each item by the function of its kind. Assumes nothing.
-use Rattle.sheet.specs.Machine.{effectOf}
-use Rattle.sheet.specs.Code.{effectBy, Counted}
+-- `step::step` meets its contract: each item by the function of its kind. Assumes nothing.
+use Rattle.step.specs.Effect.{effectOf}
+use Rattle.step.specs.Code.{effectBy, Counted}
 use Rattle.answer.specs.declared.Reason.the-variants.{Framing}
-use Rattle.sheet.proofs.Effects.{refusing}
+use Rattle.step.proofs.Effects.{refusing}
 use mathlib.Core.Path.{refl}
 use borrow.Author.Needs.{needs}
-use Rattle.sheet.proofs.step.Statement.{statement}
-use Rattle.sheet.proofs.step.Tie as tie
-use Rattle.sheet.proofs.step.Reads as reads
-use Rattle.sheet.proofs.step.Lts as lts
-use Rattle.sheet.proofs.binary.Reads as binary-reads
-use Rattle.sheet.proofs.call.Reads as call-reads
-use Rattle.sheet.proofs.call_template.Reads as call-template-reads
-use Rattle.sheet.proofs.entry.Reads as entry-reads
-use Rattle.sheet.proofs.push.Reads as push-reads
-use Rattle.sheet.proofs.stopped.Reads as stopped-reads
-use Rattle.sheet.proofs.take_in.Reads as take-in-reads
-use Rattle.sheet.proofs.unary.Reads as unary-reads
+use Rattle.step.proofs.step.Statement.{statement}
+use Rattle.step.proofs.step.Tie as tie
+use Rattle.step.proofs.step.Reads as reads
+use Rattle.step.proofs.step.Lts as lts
+use Rattle.step.proofs.binary.Reads as binary-reads
+use Rattle.step.proofs.call.Reads as call-reads
+use Rattle.step.proofs.call_template.Reads as call-template-reads
+use Rattle.step.proofs.entry.Reads as entry-reads
+use Rattle.step.proofs.push.Reads as push-reads
+use Rattle.step.proofs.stopped.Reads as stopped-reads
+use Rattle.step.proofs.take_in.Reads as take-in-reads
+use Rattle.step.proofs.unary.Reads as unary-reads
 
 enum-known-item : tie.Need-enum-known-item
 enum-known-item c = search needs

@@ -24,11 +24,11 @@ use Rattle.answer.specs.declared.Answer.the-variants.{Value, NoValue, Refused}
 use Rattle.ops_ty.specs.Ops.{unaryOutcome, binaryOutcome}
 use Rattle.call_ty.specs.Calls.{callOutcome}
 use Rattle.call_ty.specs.Codes.{Under}
-use Rattle.sheet.specs.declared.Did.{Did}
-use Rattle.sheet.specs.declared.Did.the-variants as did
-use Rattle.sheet.specs.Machine.{most, State, Effect, goes, stop, pushed, onto, pushEffect, unaryEffect, binaryEffect, calling, callEffect, templateEffect, takeEffect}
-use Rattle.sheet.specs.Code.{stateOf, Ready, turnedAway, effectBy, Counted, Does, Settles}
-use Rattle.sheet.proofs.StackLaws.{next-value, sized, below-them, operand-in, operands-lent, value-in}
+use Rattle.step.specs.declared.Did.{Did}
+use Rattle.step.specs.declared.Did.the-variants as did
+use Rattle.step.specs.Effect.{most, State, Effect, goes, stop, pushed, onto, pushEffect, unaryEffect, binaryEffect, calling, callEffect, templateEffect, takeEffect}
+use Rattle.step.specs.Code.{stateOf, Ready, turnedAway, effectBy, Counted, Does, Settles}
+use Rattle.step.proofs.StackLaws.{next-value, sized, below-them, operand-in, operands-lent, value-in}
 
 -- the same effect
 pub does-as : {e f : Effect} {r : Did} {vals w : List ℕ} → e ≡ f → Does e r vals w → Does f r vals w

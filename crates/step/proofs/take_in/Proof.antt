@@ -1,17 +1,17 @@
--- `sheet::take_in` meets its contract: 5, 11, then the entry. Assumes nothing.
+-- `step::take_in` meets its contract: 5, 11, then the entry. Assumes nothing.
 use mathlib.Core.Path.{sym, _∙_}
 use borrow.Author.Tests.{not-true, not-false}
-use Rattle.sheet.proofs.Items.{take-pushes, take-does}
-use Rattle.sheet.proofs.Effects.{refusing, take-wrong, take-full}
+use Rattle.step.proofs.Items.{take-pushes, take-does}
+use Rattle.step.proofs.Effects.{refusing, take-wrong, take-full}
 use Rattle.answer.specs.declared.Reason.the-variants.{Template, Stack}
 use borrow.Author.Needs.{needs}
-use Rattle.sheet.proofs.take_in.Statement.{statement}
-use Rattle.sheet.proofs.take_in.Tie as tie
-use Rattle.sheet.proofs.take_in.Reads as reads
-use Rattle.sheet.proofs.take_in.Lts as lts
+use Rattle.step.proofs.take_in.Statement.{statement}
+use Rattle.step.proofs.take_in.Tie as tie
+use Rattle.step.proofs.take_in.Reads as reads
+use Rattle.step.proofs.take_in.Lts as lts
 use Rattle.entering.proofs.answer_of.Reads as answer-of-reads
-use Rattle.sheet.proofs.settle.Reads as settle-reads
-use Rattle.sheet.proofs.stopped.Reads as stopped-reads
+use Rattle.step.proofs.settle.Reads as settle-reads
+use Rattle.step.proofs.stopped.Reads as stopped-reads
 use Rattle.table.proofs.allowed.Reads as allowed-reads
 use Rattle.entering.proofs.enter.Reads as enter-reads
 

@@ -1,18 +1,18 @@
--- `sheet::unary` meets its contract: one value leaves the stack, and the answer of `unary_at` on it is put in its place. Assumes nothing.
+-- `step::unary` meets its contract: one value leaves the stack, and the answer of `unary_at` on it is put in its place. Assumes nothing.
 use native.Mathlib.Omega.{arith}
-use Rattle.sheet.proofs.Items.{unary-under, unary-pushes, unary-does}
-use Rattle.sheet.proofs.Effects.{refusing, unary-short}
+use Rattle.step.proofs.Items.{unary-under, unary-pushes, unary-does}
+use Rattle.step.proofs.Effects.{refusing, unary-short}
 use Rattle.answer.specs.declared.Reason.the-variants.{Stack}
 use borrow.Author.Needs.{needs}
-use Rattle.sheet.proofs.unary.Statement.{statement}
-use Rattle.sheet.proofs.unary.Tie as tie
-use Rattle.sheet.proofs.unary.Reads as reads
-use Rattle.sheet.proofs.unary.Lts as lts
+use Rattle.step.proofs.unary.Statement.{statement}
+use Rattle.step.proofs.unary.Tie as tie
+use Rattle.step.proofs.unary.Reads as reads
+use Rattle.step.proofs.unary.Lts as lts
 use Rattle.ops_ty.proofs.unary_at.Reads as unary-at-reads
-use Rattle.sheet.proofs.number.Reads as number-reads
-use Rattle.sheet.proofs.settle.Reads as settle-reads
-use Rattle.sheet.proofs.stopped.Reads as stopped-reads
-use Rattle.sheet.proofs.wide.Reads as wide-reads
+use Rattle.step.proofs.number.Reads as number-reads
+use Rattle.step.proofs.settle.Reads as settle-reads
+use Rattle.step.proofs.stopped.Reads as stopped-reads
+use Rattle.step.proofs.wide.Reads as wide-reads
 
 stopped-requires : tie.Need-stopped-requires
 stopped-requires c κs = search needs

@@ -33,8 +33,8 @@ use Rattle.call_ty.proofs.Lists.{types-formed}
 use Rattle.call_ty.proofs.Ends.{Ends, rule-call-ends}
 use Rattle.call_ty.proofs.Ends.Ends.{refused, silent, valued}
 use Rattle.call_ty.proofs.Demand1.{call-refused, call-silent, call-accepted}
-use Rattle.sheet.specs.Machine.{most}
-use Rattle.sheet.specs.Code.{Pushes}
+use Rattle.step.specs.Effect.{most}
+use Rattle.step.specs.Code.{Pushes}
 
 -- the count of a refusal is the one that came in
 call-counted : (place : ℕ) (w : List ℕ) (n : ℕ) → Sound w n → (name tplt args : List ℕ) → Under n tplt → Under n args

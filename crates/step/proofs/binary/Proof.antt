@@ -1,18 +1,18 @@
--- `sheet::binary` meets its contract: two values leave the stack, and the answer of `binary_at` on them is put in their place. Assumes nothing.
+-- `step::binary` meets its contract: two values leave the stack, and the answer of `binary_at` on them is put in their place. Assumes nothing.
 use native.Mathlib.Omega.{arith}
-use Rattle.sheet.proofs.Items.{binary-under, binary-pushes, binary-does}
-use Rattle.sheet.proofs.Effects.{refusing, binary-short}
+use Rattle.step.proofs.Items.{binary-under, binary-pushes, binary-does}
+use Rattle.step.proofs.Effects.{refusing, binary-short}
 use Rattle.answer.specs.declared.Reason.the-variants.{Stack}
 use borrow.Author.Needs.{needs}
-use Rattle.sheet.proofs.binary.Statement.{statement}
-use Rattle.sheet.proofs.binary.Tie as tie
-use Rattle.sheet.proofs.binary.Reads as reads
-use Rattle.sheet.proofs.binary.Lts as lts
+use Rattle.step.proofs.binary.Statement.{statement}
+use Rattle.step.proofs.binary.Tie as tie
+use Rattle.step.proofs.binary.Reads as reads
+use Rattle.step.proofs.binary.Lts as lts
 use Rattle.ops_ty.proofs.binary_at.Reads as binary-at-reads
-use Rattle.sheet.proofs.number.Reads as number-reads
-use Rattle.sheet.proofs.settle.Reads as settle-reads
-use Rattle.sheet.proofs.stopped.Reads as stopped-reads
-use Rattle.sheet.proofs.wide.Reads as wide-reads
+use Rattle.step.proofs.number.Reads as number-reads
+use Rattle.step.proofs.settle.Reads as settle-reads
+use Rattle.step.proofs.stopped.Reads as stopped-reads
+use Rattle.step.proofs.wide.Reads as wide-reads
 
 stopped-requires : tie.Need-stopped-requires
 stopped-requires c κs = search needs

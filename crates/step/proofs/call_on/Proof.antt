@@ -1,13 +1,13 @@
--- `sheet::call_on` meets its contract: the last values leave the stack as the operands, and the answer is put in their place. Assumes nothing.
+-- `step::call_on` meets its contract: the last values leave the stack as the operands, and the answer is put in their place. Assumes nothing.
 use native.Mathlib.Omega.{arith}
-use Rattle.sheet.proofs.Items.{args-under, call-pushes, call-does}
+use Rattle.step.proofs.Items.{args-under, call-pushes, call-does}
 use borrow.Author.Needs.{needs}
-use Rattle.sheet.proofs.call_on.Statement.{statement}
-use Rattle.sheet.proofs.call_on.Tie as tie
-use Rattle.sheet.proofs.call_on.Reads as reads
-use Rattle.sheet.proofs.call_on.Lts as lts
+use Rattle.step.proofs.call_on.Statement.{statement}
+use Rattle.step.proofs.call_on.Tie as tie
+use Rattle.step.proofs.call_on.Reads as reads
+use Rattle.step.proofs.call_on.Lts as lts
 use Rattle.call_ty.proofs.call_at.Reads as call-at-reads
-use Rattle.sheet.proofs.settle.Reads as settle-reads
+use Rattle.step.proofs.settle.Reads as settle-reads
 
 sub-base : tie.Need-sub-base
 sub-base c = search needs

@@ -1,20 +1,20 @@
--- `sheet::call_template` meets its contract: 11 where values lack, 2 for a template that is no type, else the call with it. Assumes nothing.
+-- `step::call_template` meets its contract: 11 where values lack, 2 for a template that is no type, else the call with it. Assumes nothing.
 use Rattle.answer.specs.declared.Reason.the-variants.{NoSuchType, Stack}
-use Rattle.sheet.specs.Machine.{bytesOf}
-use Rattle.sheet.proofs.Effects.{does-as, refusing, template-short, template-unknown, template-goes}
-use Prim.Native.Nat.{ℕ, zero, suc, _<_}
+use Rattle.step.specs.Effect.{bytesOf}
+use Rattle.step.proofs.Effects.{does-as, refusing, template-short, template-unknown, template-goes}
+use Prim.Native.Nat.{ℕ, zero, suc, _<_, _≤_}
 use native.Mathlib.Omega.{arith}
 use lib.ListN.{getD}
 use mathlib.Core.List.{[], _∷_}
 use borrow.Author.Needs.{needs}
-use Rattle.sheet.proofs.call_template.Statement.{statement}
-use Rattle.sheet.proofs.call_template.Tie as tie
-use Rattle.sheet.proofs.call_template.Reads as reads
-use Rattle.sheet.proofs.call_template.Lts as lts
+use Rattle.step.proofs.call_template.Statement.{statement}
+use Rattle.step.proofs.call_template.Tie as tie
+use Rattle.step.proofs.call_template.Reads as reads
+use Rattle.step.proofs.call_template.Lts as lts
 use Rattle.frame.proofs.part_of.Reads as part-of-reads
-use Rattle.sheet.proofs.call_on.Reads as call-on-reads
-use Rattle.sheet.proofs.stopped.Reads as stopped-reads
-use Rattle.sheet.proofs.wide.Reads as wide-reads
+use Rattle.step.proofs.call_on.Reads as call-on-reads
+use Rattle.step.proofs.stopped.Reads as stopped-reads
+use Rattle.step.proofs.wide.Reads as wide-reads
 
 -- the list of one number below n
 one : (t n : ℕ) → t < n → (i : ℕ) → i < 1 → getD (t ∷ []) i 0 < n
@@ -29,7 +29,7 @@ stopped-requires c κs = search needs
 
 returns : tie.Need-returns
 returns c = let a = c .before .before .before .before .before .before .args in
-    let l = rw (c .before .before .wide .ensures) at (c .before .if1 .taken) in
+    let l : a .high < a .k = omega (arith, c .before .before .wide .ensures, c .before .if1 .taken) in
     refusing (a .place) (a .high) (a .stack .now) (a .n) (a .table .now) Stack (c .stopped .ensures) (template-short (a .place) (a .high) (a .stack .now) (a .n) (a .table .now) (c .before .before .before .before .before .before .pre .0) (bytesOf (a .sheet .now) (a .name)) (a .t .0) (a .k) l)
 
 stopped-requires-2 : tie.Need-stopped-requires-2
@@ -37,7 +37,7 @@ stopped-requires-2 c κs = search needs
 
 returns-2 : tie.Need-returns-2
 returns-2 c = let a = c .before .before .before .before .before .before .before .args in
-    let l = rw (c .before .before .before .wide .ensures) at (c .before .before .if1 .left) in
+    let l : a .k ≤ a .high = omega (arith, c .before .before .before .wide .ensures, c .before .before .if1 .left) in
     refusing (a .place) (a .high) (a .stack .now) (a .n) (a .table .now) NoSuchType (c .stopped2 .ensures) (template-unknown (a .place) (a .high) (a .stack .now) (a .n) (a .table .now) (c .before .before .before .before .before .before .before .pre .0) (bytesOf (a .sheet .now) (a .name)) (a .t .0) (a .k) l (c .before .if2 .taken))
 
 part-of-requires : tie.Need-part-of-requires
@@ -60,7 +60,7 @@ same-length-2 c = search needs
 
 returns-3 : tie.Need-returns-3
 returns-3 c = let a = c .before .before .before .before .before .before .before .before .before .before .before .before .before .before .before .args in
-    let l = rw (c .before .before .before .before .before .before .before .before .before .before .before .wide .ensures) at (c .before .before .before .before .before .before .before .before .before .before .if1 .left) in
+    let l : a .k ≤ a .high = omega (arith, c .before .before .before .before .before .before .before .before .before .before .before .wide .ensures, c .before .before .before .before .before .before .before .before .before .before .if1 .left) in
     does-as (template-goes (a .place) (a .high) (a .stack .now) (a .n) (a .table .now) (c .before .before .before .before .before .before .before .before .before .before .before .before .before .before .before .pre .0) (bytesOf (a .sheet .now) (a .name)) (a .t .0) (a .k) l (c .before .before .before .before .before .before .before .before .before .if2 .left)) (rw (c .before .before .before .before .before .before .before .before .before .before .before .wide .ensures, c .before .before .before .before .before .before .before .before .part-of .ensures .bytes) at (c .before .before .before .before .call-on .ensures))
 
 pub call-template-spec : {M : Type 1} → statement M

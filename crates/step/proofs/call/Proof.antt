@@ -1,16 +1,16 @@
--- `sheet::call` meets its contract: 11 where values lack, else the call without a template list. Assumes nothing.
+-- `step::call` meets its contract: 11 where values lack, else the call without a template list. Assumes nothing.
 use Rattle.answer.specs.declared.Reason.the-variants.{Stack}
-use Rattle.sheet.specs.Machine.{bytesOf}
-use Rattle.sheet.proofs.Effects.{does-as, refusing, call-short, call-goes}
+use Rattle.step.specs.Effect.{bytesOf}
+use Rattle.step.proofs.Effects.{does-as, refusing, call-short, call-goes}
 use borrow.Author.Needs.{needs}
-use Rattle.sheet.proofs.call.Statement.{statement}
-use Rattle.sheet.proofs.call.Tie as tie
-use Rattle.sheet.proofs.call.Reads as reads
-use Rattle.sheet.proofs.call.Lts as lts
+use Rattle.step.proofs.call.Statement.{statement}
+use Rattle.step.proofs.call.Tie as tie
+use Rattle.step.proofs.call.Reads as reads
+use Rattle.step.proofs.call.Lts as lts
 use Rattle.frame.proofs.part_of.Reads as part-of-reads
-use Rattle.sheet.proofs.call_on.Reads as call-on-reads
-use Rattle.sheet.proofs.stopped.Reads as stopped-reads
-use Rattle.sheet.proofs.wide.Reads as wide-reads
+use Rattle.step.proofs.call_on.Reads as call-on-reads
+use Rattle.step.proofs.stopped.Reads as stopped-reads
+use Rattle.step.proofs.wide.Reads as wide-reads
 
 wide-requires : tie.Need-wide-requires
 wide-requires c κs = search needs

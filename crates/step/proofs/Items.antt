@@ -25,12 +25,12 @@ use Rattle.ops_ty.specs.Ops.{unaryOutcome, binaryOutcome}
 use Rattle.ops_ty.proofs.Demand1.{unary-at-kept, binary-at-kept}
 use Rattle.call_ty.specs.Calls.{callOutcome}
 use Rattle.call_ty.specs.Codes.{Under}
-use Rattle.sheet.specs.declared.Did.{Did}
-use Rattle.sheet.specs.Machine.{most, State, onto, unaryEffect, binaryEffect, calling, callEffect, templateEffect, takeEffect}
-use Rattle.sheet.specs.Code.{stateOf, Ready, Pushes, Does, Settles}
-use Rattle.sheet.proofs.StackLaws.{sized, operands-lent, under-drop}
-use Rattle.sheet.proofs.Answers.{call-at-kept, no-operand, pushes}
-use Rattle.sheet.proofs.Effects.{does-as, settled, value-under, unary-goes, binary-goes, calling-on, take-goes}
+use Rattle.step.specs.declared.Did.{Did}
+use Rattle.step.specs.Effect.{most, State, onto, unaryEffect, binaryEffect, calling, callEffect, templateEffect, takeEffect}
+use Rattle.step.specs.Code.{stateOf, Ready, Pushes, Does, Settles}
+use Rattle.step.proofs.StackLaws.{sized, operands-lent, under-drop}
+use Rattle.step.proofs.Answers.{call-at-kept, no-operand, pushes}
+use Rattle.step.proofs.Effects.{does-as, settled, value-under, unary-goes, binary-goes, calling-on, take-goes}
 
 module _ (place : Place) (count : ℕ) (vals : List ℕ) (used : ℕ) (w : List ℕ) (ready : Ready count vals used w) where
   abbrev st : State

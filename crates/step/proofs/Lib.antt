@@ -1,0 +1,5 @@
+pub mod StackLaws
+pub mod Answers
+pub mod Effects
+pub mod Items
+pub mod OneReply

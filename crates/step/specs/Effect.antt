@@ -1,0 +1,142 @@
+-- Document 01, "The sheet" and "What is answered": what an item does. Its effect is that of the single call on the operands that the stack holds.
+-- Assumes nothing.
+use Prim.Native.Nat.{ℕ, _-_}
+use mathlib.Core.Bool.{Bool, true, false, cond}
+use mathlib.Core.List.{List, [], _∷_, _++_, map}
+use lib.ListN.{length, getD, take, drop}
+use lib.Dec.{ltb, leb}
+use Rattle.conv.specs.Types.{Ty}
+use Rattle.table.specs.Table.{allowedb}
+use Rattle.table.specs.Denote.{typeAt, tyOf}
+use Rattle.table.specs.Placing.{Outcome, entering}
+use Rattle.table.specs.declared.Entry.{Entry}
+use Rattle.answer.specs.declared.Reason.{Reason}
+use Rattle.answer.specs.declared.Reason.the-variants.{NoSuchType, Template, Framing, Stack}
+use Rattle.answer.specs.declared.Refusal.{Refusal}
+use Rattle.answer.specs.declared.Answer.{Answer}
+use Rattle.answer.specs.declared.Answer.the-variants.{Value, NoValue, Refused}
+use Rattle.frame.specs.declared.Part.{Part}
+use Rattle.frame.specs.declared.Item.{Item}
+use Rattle.frame.specs.declared.Item.the-variants.{Push, Unary, Binary, Call, CallTemplate, Take, End, Bad}
+use Rattle.ops_ty.specs.Ops.{unaryOutcome, binaryOutcome}
+use Rattle.call_ty.specs.Calls.{callOutcome}
+
+-- THE STACK
+
+-- "its stack holds 64 values"
+abbrev pub most : ℕ
+most = 64
+
+-- what a value of the stack is, made of a type's number, and the number that it holds
+abbrev pub valueOf : ℕ → ℕ
+valueOf t = t
+
+abbrev pub numberOf : ℕ → ℕ
+numberOf v = v
+
+-- the machine's state: the stack from its bottom, the used count, and every word of the table
+pub record State : Type 0 where
+  pub stack : List ℕ
+  pub used : ℕ
+  pub words : List ℕ
+
+abbrev pub height : State → ℕ
+height st = length (st .stack)
+
+-- "Operands leave the stack in written order": the values of k operands, the deepest first; and what is left below them
+abbrev pub operands : ℕ → State → List ℕ
+operands k st = drop (height st - k) (st .stack)
+
+abbrev pub below : ℕ → State → List ℕ
+below k st = take (height st - k) (st .stack)
+
+-- the type that a value stands for
+abbrev pub typeOf : State → ℕ → Ty
+typeOf st v = typeAt (st .words) (numberOf v)
+
+-- WHAT AN ITEM DOES
+
+-- the next state; the state that a call without value leaves; the state in which the items end; or a refusal, and every word of the table then
+pub data Effect : Type 0 where
+  goes : State → Effect
+  silent : State → Effect
+  ends : State → Effect
+  stops : Refusal → List ℕ → Effect
+
+abbrev pub stop : Reason → ℕ → State → Effect
+stop reason place st = stops (record { reason = reason; place = record { 0 = place }; used = st .used }) (st .words)
+
+-- a type's number as one value more
+abbrev pub pushed : List ℕ → ℕ → List ℕ
+pushed vs t = vs ++ (valueOf t ∷ [])
+
+-- a call's outcome, over the values that stand below its operands: its value is pushed
+abbrev pub answered : List ℕ → Answer → List ℕ → Effect
+answered vs (Value t m) w = goes (record { stack = pushed vs (t .0); used = m; words = w })
+answered vs (NoValue m) w = silent (record { stack = vs; used = m; words = w })
+answered vs (Refused r) w = stops r w
+
+unfoldable pub onto : List ℕ → Outcome → Effect
+onto vs o = answered vs (o .answer) (o .words)
+
+-- the bytes of a name
+abbrev pub bytesOf : List ℕ → Part → List ℕ
+bytesOf s p = take (p .length) (drop (p .start .0) s)
+
+-- the entry that a take asks for
+abbrev pub entryOf : ℕ → ℕ → ℕ → ℕ → Entry
+entryOf kind p q elem = record { kind = kind; p = p; q = q; elem = elem }
+
+-- an item at a place of the sheet. "10, 11, then the call's order; push gives 2 before 11, take gives 5, 11, 9"
+
+module _ (place : ℕ) (st : State) where
+  -- 11 where the stack has fewer than k values
+  abbrev pub having : ℕ → Effect → Effect
+  having k e = cond (leb k (height st)) e (stop Stack place st)
+
+  -- 11 for a 65th value
+  abbrev pub holding : Effect → Effect
+  holding e = cond (ltb (height st) most) e (stop Stack place st)
+
+  unfoldable pub pushEffect : ℕ → Effect
+  pushEffect t =
+      cond (ltb t (st .used))
+      (holding (goes (record { stack = pushed (st .stack) t; used = st .used; words = st .words })))
+      (stop NoSuchType place st)
+
+  unfoldable pub unaryEffect : ℕ → Effect
+  unaryEffect op = having 1 (onto (below 1 st) (unaryOutcome place (st .words) (st .used) op (typeOf st (getD (operands 1 st) 0 0))))
+
+  unfoldable pub binaryEffect : ℕ → Effect
+  binaryEffect op =
+      having 2
+      (onto (below 2 st) (binaryOutcome place (st .words) (st .used) op (typeOf st (getD (operands 2 st) 0 0)) (typeOf st (getD (operands 2 st) 1 0))))
+
+  -- a call of k operands, with the types of its template list
+  abbrev pub calling : List ℕ → List Ty → ℕ → Effect
+  calling name ts k = onto (below k st) (callOutcome place (st .words) (st .used) name ts (map (typeOf st) (operands k st)))
+
+  unfoldable pub callEffect : List ℕ → ℕ → Effect
+  callEffect name k = having k (calling name [] k)
+
+  -- the template's number is the only one of a sheet's call that can be no type's
+  unfoldable pub templateEffect : List ℕ → ℕ → ℕ → Effect
+  templateEffect name t k =
+      having k (cond (ltb t (st .used)) (calling name (typeAt (st .words) t ∷ []) k) (stop NoSuchType place st))
+
+  -- 6 take: "enters the type and pushes it"
+  unfoldable pub takeEffect : Entry → Effect
+  takeEffect e =
+      cond (allowedb (st .words) (st .used) e)
+      (holding (onto (st .stack) (entering place (st .words) (st .used) (tyOf (st .words) e))))
+      (stop Template place st)
+
+  unfoldable pub effectOf : List ℕ → Item → Effect
+  effectOf s (Push t) = pushEffect (t .0)
+  effectOf s (Unary op) = unaryEffect op
+  effectOf s (Binary op) = binaryEffect op
+  effectOf s (Call k name) = callEffect (bytesOf s name) k
+  effectOf s (CallTemplate t k name) = templateEffect (bytesOf s name) (t .0) k
+  effectOf s (Take kind p q elem) = takeEffect (entryOf kind p q elem)
+  effectOf s End = ends st
+  effectOf s Bad = stop Framing place st
