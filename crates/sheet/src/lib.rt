@@ -89,10 +89,10 @@ fn leave(size: usize, place: Place, next: Place, count: usize, used: usize) -> A
     if count != 0 {
         return table::refused(Reason::Stack, place, used);
     }
-    if next.0 != size {
-        return table::refused(Reason::Stack, place, used);
+    if next.0 == size {
+        return table::no_value(used);
     }
-    table::no_value(used)
+    table::refused(Reason::Stack, place, used)
 }
 
 // The turn after what an item at a place did, in a sheet of `size` bytes.
