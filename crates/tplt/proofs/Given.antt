@@ -1,20 +1,20 @@
 -- Which type each head and list gives, and which refusal, over a sound table of n entries. Assumes nothing.
 use Prim.Native.Nat.{ℕ, _≤_, _<_}
 use mathlib.Core.Path.{_≡_, refl, sym, _∙_, ap, subst}
-use mathlib.Core.Bool.{Bool, true, false, _&&_, _||_, not, cond}
+use mathlib.Core.Bool.{Bool, true, false, cond}
 use mathlib.Core.List.{List, [], _∷_}
 use native.Mathlib.Omega.{arith}
-use lib.Dec.{leb, ltb, eqb}
+use lib.Dec.{leb, eqb}
 use lib.IntN.{ℤ, pos, negsuc}
 use borrow.Author.Tests.{lt-ltb, ltb-true, le-leb, lt-leb, leb-true, eqb-true, eqb-false, ne-eqb}
-use Rattle.conv.specs.Types.{Ty, i32, u32, f32, f16, isWidth}
+use Rattle.conv.specs.Types.{isWidth}
 use Rattle.conv.specs.Types.Ty.{vec, mat, array, runtime, atomic}
 use Rattle.table.specs.Table.{scalars, soundb}
 use Rattle.table.specs.Denote.{typeAt}
-use Rattle.table.specs.Placing.{Outcome, turnedDown, entering}
+use Rattle.table.specs.Placing.{turnedDown, entering}
 use Rattle.answer.specs.declared.Reason.the-variants.{Unknown, Template, Count}
-use Rattle.tplt.specs.Heads.{digit, nameOf, headOf, heads, amongst, named, bytes}
-use Rattle.tplt.specs.Params.{typeParam, i32Param, u32Param, paramOf, paramsOf, isKnown, isTyped, typesKnown, alone, paired, argumentsOf, countZ, countOf}
+use Rattle.tplt.specs.Heads.{nameOf, headOf}
+use Rattle.tplt.specs.Params.{typeParam, i32Param, u32Param, paramOf, paramsOf, isKnown, isTyped, typesKnown, argumentsOf, countZ, countOf}
 use Rattle.tplt.specs.Templates.{isConcrete, isMatrixComponent, isAtomicComponent, isElement, vecParsed, matParsed, atomicParsed, arrayOfType, arrayParsed, parsedOf, typeOf, outcomeOf, templateOutcome}
 use Rattle.tplt.specs.declared.head.Head.{Head}
 use Rattle.tplt.specs.declared.head.Head.the-variants.{Vector, Matrix, Atomic, Array, NoHead}

@@ -1,22 +1,21 @@
 -- The arguments of a list, by its length, and the loop over its pairs. Assumes nothing.
 use Prim.Native.Nat.{ℕ, zero, suc, _+_, _%_, _≤_, _<_}
-use mathlib.Core.Path.{_≡_, refl, sym, _∙_, ap}
-use mathlib.Core.Bool.{Bool, true, false, _&&_, cond}
+use mathlib.Core.Path.{_≡_, refl}
+use mathlib.Core.Bool.{Bool, true, false, cond}
 use mathlib.Core.List.{List, [], _∷_}
 use native.Mathlib.Omega.{arith}
-use lib.ListN.{length, getD, drop}
-use lib.Dec.{T, eqb, leb, ltb}
+use lib.ListN.{length, drop}
+use lib.Dec.{eqb, leb, ltb}
 use lib.IntN.{ℤ, pos, negsuc}
 use borrow.Author.Tests.{ltb-true}
 use denote.Enum.Declared.{tagOf}
 use types.Run.{OneOf, miss}
 use Rattle.answer.specs.declared.TypeNo.{TypeNo}
-use Rattle.tplt.specs.Params.{typeParam, i32Param, u32Param, paramOf, paramsOf, isKnown, isTyped, typesKnown, alone, before, paired, formOf, argumentsOf, countZ, countOf}
+use Rattle.tplt.specs.Params.{typeParam, i32Param, u32Param, paramOf, paramsOf, isKnown, isTyped, typesKnown, alone, before, paired, formOf, argumentsOf, countOf}
 use Rattle.tplt.specs.Steps.{numberOf, paramAt}
 use Rattle.tplt.specs.declared.param.TpltParam.{TpltParam}
 use Rattle.tplt.specs.declared.param.TpltParam.the-variants.{Typed, NoType, AbstractInt, I32, U32, Other}
-use Rattle.tplt.specs.declared.param.Arguments.{Arguments}
-use Rattle.tplt.specs.declared.param.Arguments.the-variants.{One, Two, Amiss}
+use Rattle.tplt.specs.declared.param.Arguments.the-variants.{Two, Amiss}
 use Rattle.tplt.specs.declared.param.ArrayCount.the-variants.{Unfit}
 use Rattle.tplt.proofs.param.TpltParam.{the-type}
 

@@ -8,27 +8,26 @@ use lib.Dec.{leb, ltb, eqb}
 use lib.IntN.{ℤ, pos, negsuc}
 use denote.Enum.Declared.{tagOf}
 use types.Run.{OneOf, miss}
-use borrow.Author.Tests.{le-ltb, lt-ltb, ltb-true, ltb-false, ne-eqb, leb-true}
+use borrow.Author.Tests.{ltb-true, ltb-false, ne-eqb}
 use Rattle.conv.specs.Types.{Ty, abstractInt, isWidth, isFloat, isValue, isRuntime, formed}
 use Rattle.conv.specs.Types.Ty.{scalar, vec, mat, array, runtime, atomic, ptr, ref, frexp, modf}
 use Rattle.table.specs.Table.{scalars, ceiling, kindRuntime, entryAt, allowedb, Sound}
 use Rattle.table.specs.Denote.{made, typeAt, tyOf, kindOf}
 use Rattle.table.specs.Enter.{EnterDone, entryAnswer}
-use Rattle.table.specs.Placing.{Outcome, entering}
+use Rattle.table.specs.Placing.{entering}
 use Rattle.table.specs.declared.Entry.{Entry}
 use Rattle.table.specs.declared.Entered.{Entered}
 use Rattle.answer.specs.declared.TypeNo.{TypeNo}
 use Rattle.answer.specs.declared.Answer.{Answer}
 use Rattle.answer.specs.declared.Reason.the-variants.{Unknown, Template, Count}
-use Rattle.table.proofs.SoundLaws.{and-left, and-right, and-both}
-use Rattle.table.proofs.KindLaws.{split, clash, and-true}
+use Rattle.table.proofs.KindLaws.{split, clash}
 use Rattle.table.proofs.TypeLaws.{kind-of}
 use Rattle.table.proofs.FormedLaws.{clean, formed-at}
 use Rattle.table.proofs.EnterLaws.{allow}
 use Rattle.table.proofs.PlacingLaws.{enter-outcome}
 use Rattle.tplt.specs.Params.{countZ, countOf}
 use Rattle.tplt.specs.Templates.{isConcrete, isMatrixComponent, isAtomicComponent, isElement, component, vecParsed, matParsed, atomicParsed, counted, arrayOfType, arrayParsed, parsedOf, typeOf, outcomeOf, arrayOf}
-use Rattle.tplt.specs.Steps.{aloneIn, vecEntry, matEntry, atomicEntry, countEntry, arrayEntry, entryIn, numberOf, Below, numberIn, Fit, Outcomes}
+use Rattle.tplt.specs.Steps.{aloneIn, vecEntry, matEntry, atomicEntry, countEntry, arrayEntry, entryIn, Below, numberIn, Fit, Outcomes}
 use Rattle.tplt.specs.declared.head.Head.{Head}
 use Rattle.tplt.specs.declared.head.Head.the-variants.{Vector, Matrix, Atomic, Array, NoHead}
 use Rattle.tplt.specs.declared.param.TpltParam.{TpltParam}

@@ -2,14 +2,13 @@
 -- The promise of a call is read without it. Assumes nothing.
 use Prim.Native.Nat.{ℕ, _+_, _*_, _<_}
 use mathlib.Core.Path.{_≡_}
-use mathlib.Core.Bool.{Bool, true, false, cond}
+use mathlib.Core.Bool.{true, cond}
 use mathlib.Core.List.{List, [], _∷_}
 use lib.Dec.{eqb}
 use lib.ListN.{getD}
 use lib.IntN.{ℤ, pos}
 use Rattle.conv.specs.Types.{bool, abstractInt, formed}
 use Rattle.table.specs.Table.{kindVec, kindMat, kindArray, kindRuntime, kindAtomic}
-use Rattle.table.specs.Placing.{Outcome}
 use Rattle.table.specs.declared.Entry.{Entry}
 use Rattle.answer.specs.declared.TypeNo.{TypeNo}
 use Rattle.answer.specs.declared.Answer.{Answer}

@@ -1,8 +1,7 @@
 -- `replay_templates::clear` is safe and ends: a store keeps the length. Assumes nothing.
-use Prim.Native.Nat.{_-_, _≤_}
+use Prim.Native.Nat.{_-_}
 use mathlib.Core.Path.{_≡_, refl}
-use native.Mathlib.Omega.{arith}
-use lib.ListN.{length, length-set}
+use lib.ListN.{length}
 use borrow.Author.Needs.{needs}
 use Rattle.replay_templates.proofs.clear.Statement.{statement}
 use Rattle.replay_templates.proofs.clear.Tie as tie

@@ -1,6 +1,5 @@
 -- `replay_templates::number` is safe and ends. Assumes nothing.
-use Prim.Native.Nat.{_-_, _≤_}
-use lib.ListN.{length}
+use Prim.Native.Nat.{_-_}
 use borrow.Author.Needs.{needs}
 use Rattle.replay_templates.proofs.number.Statement.{statement}
 use Rattle.replay_templates.proofs.number.Tie as tie

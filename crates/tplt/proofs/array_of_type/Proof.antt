@@ -1,5 +1,5 @@
 -- `tplt::array_of_type` meets its contract: by the test on the element and the count. Assumes nothing.
-use mathlib.Core.Path.{_≡_, sym, _∙_}
+use mathlib.Core.Path.{sym, _∙_}
 use borrow.Author.Tests.{not-true, not-false}
 use Rattle.tplt.specs.Templates.{arrayOfType}
 use Rattle.tplt.proofs.TemplateLaws.{counted-fits}

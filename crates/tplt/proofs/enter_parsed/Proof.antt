@@ -1,5 +1,5 @@
 -- `tplt::enter_parsed` meets its contract: a refusal stands, and the entry of a template may be taken and stands for its type. Assumes nothing.
-use mathlib.Core.Path.{_≡_, sym, _∙_, ap}
+use mathlib.Core.Path.{sym, _∙_, ap}
 use Rattle.tplt.specs.Templates.{outcomeOf}
 use Rattle.tplt.proofs.TemplateLaws.{word-below, entered-outcome, outcome-entered}
 use borrow.Author.Needs.{needs}

@@ -1,5 +1,5 @@
 -- `tplt::ArrayTemplate::parse` meets its contract: by the cases of the list. Assumes nothing.
-use mathlib.Core.Path.{_≡_, _∙_, ap}
+use mathlib.Core.Path.{_∙_, ap}
 use Rattle.tplt.specs.Templates.{arrayOfType, arrayParsed}
 use borrow.Author.Needs.{needs}
 use Rattle.tplt.proofs.ArrayTemplate.parse.Statement.{statement}

@@ -1,5 +1,5 @@
 -- `tplt::head::head_at` meets its contract: antt computes the head of each number. Assumes nothing.
-use mathlib.Core.Path.{_≡_, sym, ap}
+use mathlib.Core.Path.{sym, ap}
 use borrow.Author.Tests.{ne-eqb}
 use Rattle.tplt.specs.Heads.{heads}
 use Rattle.tplt.specs.Steps.{keyOf, headAt}

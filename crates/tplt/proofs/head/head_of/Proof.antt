@@ -1,5 +1,5 @@
 -- `tplt::head::head_of` meets its contract: a long name is none, and any other is the head of its number. Assumes nothing.
-use mathlib.Core.Path.{_≡_, _∙_, ap}
+use mathlib.Core.Path.{_∙_, ap}
 use borrow.Author.Needs.{needs}
 use Rattle.tplt.specs.Heads.{heads}
 use Rattle.tplt.specs.Steps.{headAt}

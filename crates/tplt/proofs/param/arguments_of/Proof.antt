@@ -1,5 +1,5 @@
 -- `tplt::param::arguments_of` meets its contract: by the length of the list, and the laws of its arguments. Assumes nothing.
-use mathlib.Core.Path.{_≡_, sym, _∙_, ap}
+use mathlib.Core.Path.{sym, _∙_, ap}
 use native.Mathlib.Omega.{arith}
 use Rattle.tplt.specs.Params.{isTyped, alone, paired}
 use Rattle.tplt.specs.Steps.{paramAt}

@@ -1,5 +1,5 @@
 -- `tplt::param::count_of` meets its contract: by the cases of the literal. Assumes nothing.
-use mathlib.Core.Path.{_≡_, _∙_, ap}
+use mathlib.Core.Path.{_∙_, ap}
 use mir.ValLaws.{toZ-ofZ}
 use mir.Syntax.{w32, w64}
 use Rattle.tplt.specs.Params.{countZ, countOf}

@@ -1,6 +1,6 @@
 -- `tplt::param::param_at` meets its contract: the pair is read as it stands. Assumes nothing.
 use Prim.Native.Nat.{_+_}
-use mathlib.Core.Path.{_≡_, _∙_}
+use mathlib.Core.Path.{_∙_}
 use lib.ListN.{getD}
 use lib.IntN.{pos}
 use Rattle.tplt.proofs.SignedLaws.{pair-back}
