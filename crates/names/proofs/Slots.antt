@@ -7,11 +7,11 @@ use mathlib.Core.Path.{_≡_, refl, sym, _∙_, ap}
 use mathlib.Core.Logic.{_⊎_, inl, inr}
 use mathlib.Core.Bool.{Bool, true, false, cond}
 use mathlib.Core.List.{List, [], _∷_}
-use lib.Dec.{T, eqb, eqb→eq}
+use lib.Dec.{T, eqb, ltb, eqb→eq, ltb→lt}
 use lib.ListN.{length, getD}
 use borrow.Author.Tests.{ne-eqb}
 use Rattle.conv.specs.Rank.{both}
-use Rattle.conv.proofs.Finite.{below, all}
+use Rattle.conv.proofs.Finite.{below, both-left, both-right}
 use Rattle.names.specs.Names.{bytes, Row, names, noRow, nameAt, count, sameBytes, ruleOf}
 use Rattle.names.specs.Names.Known.{unknown}
 use Rattle.names.specs.Search.{width, mixedFrom, slotOf, firstFrom, rowOfSlot}
@@ -53,6 +53,13 @@ no-slot h n = nowhere names 0 h (λ j m. n j (rw counted at m)) ∙ counted
 pub own-row : (k : ℕ) → k < count → rowOfSlot (slotOf (nameAt k)) ≡ k
 unfolding bytes names nameAt both mixedFrom slotOf firstFrom rowOfSlot
 own-row k h = eqb→eq _ _ (below count (λ k. eqb (rowOfSlot (slotOf (nameAt k))) k) tt k h)
+
+-- the slot of row k leads to it
+pub slot-row : (k : ℕ) {slot v : ℕ} → T (both (ltb k count) (eqb (slotOf (nameAt k)) v)) → slot ≡ v → k ≡ rowOfSlot slot
+slot-row k {slot} {v} t e =
+    let h = ltb→lt k count (both-left (ltb k count) _ t) in
+    let q = eqb→eq (slotOf (nameAt k)) v (both-right (ltb k count) _ t) in
+    sym (own-row k h) ∙ ap rowOfSlot (q ∙ sym e)
 
 -- A NAME IS LOOKED FOR AT THE ROW OF ITS SLOT and nowhere else: where that row is none, or has another name, the name has no rule
 
