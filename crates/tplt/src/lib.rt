@@ -6,8 +6,8 @@ ghost use Rattle.table.specs.Denote.{typeAt};
 ghost use Rattle.tplt.specs.Templates.{isConcrete, isMatrixComponent, isAtomicComponent, isElement, vecParsed, matParsed, atomicParsed, arrayOfType, arrayParsed, parsedOf, TemplateDone};
 ghost use Rattle.tplt.specs.Steps.{aloneIn, vecEntry, matEntry, atomicEntry, arrayEntry, numberIn, entryIn, Below, Fit, Outcomes};
 
-pub mod head;
-pub mod param;
+mod head;
+mod param;
 
 use entering::answer_of;
 use entering::enter;
