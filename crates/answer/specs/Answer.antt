@@ -59,6 +59,6 @@ pub record WithoutValue (used : ℕ) (r : Answer) : Type 0 where
   pub made : r ≡ NoValue used
   pub numbers : numbersOf r ≡ record { refusal = 0; value = []; place = 0; used = used }
 
-pub record Turned (reason : Reason) (place : Place) (used : ℕ) (r : Answer) : Type 0 where
+pub record RefusedWith (reason : Reason) (place : Place) (used : ℕ) (r : Answer) : Type 0 where
   pub made : r ≡ Refused (record { reason = reason; place = place; used = used })
   pub numbers : numbersOf r ≡ record { refusal = reasonNo reason; value = []; place = place .0; used = used }

@@ -1,6 +1,6 @@
 // The one answer that every call gives, built and numbered here alone.
 ghost use mathlib.Core.Path.{_≡_};
-ghost use Rattle.answer.specs.Answer.{reasonNo, Accepted, WithoutValue, Turned};
+ghost use Rattle.answer.specs.Answer.{reasonNo, numbersOf, Accepted, WithoutValue, RefusedWith};
 
 // The number of a table entry.
 pub struct TypeNo(pub usize);
@@ -52,7 +52,7 @@ pub fn no_value(used: usize) -> Answer
 }
 
 pub fn refused(reason: Reason, place: Place, used: usize) -> Answer
-    ensures { λ r. ⌜ Turned reason place used r ⌝ }
+    ensures { λ r. ⌜ RefusedWith reason place used r ⌝ }
 {
     Answer::Refused(Refusal {
         reason,
@@ -79,5 +79,16 @@ pub fn reason_no(r: Reason) -> u8
         Reason::Stack => 11,
         Reason::TooLong => 12,
         Reason::NonePreferred => 13,
+    }
+}
+
+// The used count that an answer tells.
+pub fn used_of(a: Answer) -> usize
+    ensures { λ r. ⌜ r ≡ numbersOf a .used ⌝ }
+{
+    match a {
+        Answer::Value(_, used) => used,
+        Answer::NoValue(used) => used,
+        Answer::Refused(r) => r.used,
     }
 }

@@ -16,16 +16,13 @@ use Rattle.answer.specs.declared.Refusal.{Refusal}
 use Rattle.answer.specs.declared.Answer.{Answer}
 use Rattle.answer.specs.declared.Answer.the-variants.{Value, NoValue, Refused}
 use Rattle.table.proofs.Demand1.{entering-stands, entering-missing, entering-refused, entering-valued}
+use Rattle.table.proofs.Giving.{whole}
 use Rattle.call_ty.specs.Calls.{callOutcome, typeBuiltinFn}
 use Rattle.call_ty.specs.Codes.{Under}
 use Rattle.call_ty.proofs.Lists.{types, types-formed}
 use Rattle.call_ty.proofs.Ends.{Ends, Single, rule-call-ends, single-ends}
 use Rattle.call_ty.proofs.Ends.Ends.{refused, silent, valued}
 use Rattle.call_ty.proofs.Ends.Single.{early, late}
-
--- an answer and its words are the outcome
-pub whole : (o : Outcome) (a : Answer) (v : List ℕ) → Gave o a v → o ≡ record { answer = a; words = v }
-whole o a v g = λ i. record { answer = sym (g .reply) i; words = sym (g .words) i }
 
 -- an accepted type: it stands where it is answered, the table grew by it and its parts alone, and each of these was absent
 pub record Accepted (w : List ℕ) (n : ℕ) (R : Ty) (t : TypeNo) (m : ℕ) (v : List ℕ) : Type 0 where

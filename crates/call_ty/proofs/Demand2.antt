@@ -22,7 +22,7 @@ use Rattle.call_ty.proofs.Lists.{types, types-formed}
 use Rattle.call_ty.proofs.Ends.{Ends, Single, rule-call-ends, single-ends}
 use Rattle.call_ty.proofs.Ends.Ends.{refused, silent, valued}
 use Rattle.call_ty.proofs.Ends.Single.{early, late}
-use Rattle.call_ty.proofs.Demand1.{whole}
+use Rattle.table.proofs.Giving.{whole}
 
 -- the name has a rule, and the rule gives the type at the number that is answered
 pub record Typed (rule : Known) (ts us : List Ty) (t : TypeNo) (v : List ℕ) : Type 0 where

@@ -34,7 +34,7 @@ use Rattle.call_ty.proofs.Ways.{by-call}
 use Rattle.call_ty.proofs.Ends.{Ends, Single, thirteen, rule-call-ends, single-ends}
 use Rattle.call_ty.proofs.Ends.Ends.{refused, silent, valued}
 use Rattle.call_ty.proofs.Ends.Single.{early, late}
-use Rattle.call_ty.proofs.Demand1.{whole}
+use Rattle.table.proofs.Giving.{whole}
 
 module _ (place : ℕ) (w : List ℕ) (n : ℕ) (s : Sound w n) (name : List ℕ) (row : ℕ) (ts us : List Ty)
     (ruled : ruleOf name ≡ known row) (listed : row < overloadRows) (fu : allFormed us ≡ true)

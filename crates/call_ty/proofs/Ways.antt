@@ -25,6 +25,7 @@ use Rattle.answer.specs.declared.Reason.the-variants.{Unsound, NoSuchType, Refe
 use Rattle.table.proofs.TypeLaws.{type-scalar}
 use Rattle.table.proofs.FormedLaws.{formed-at}
 use Rattle.table.proofs.PlacingLaws.{standing-outcome}
+use Rattle.table.proofs.Giving.{gave}
 use Rattle.ruled.specs.Call.{anyReference, judgedOutcome}
 use Rattle.call_ty.specs.Calls.{firstIn, wideNumeric, templateRight, operandsOf, ldexpTakes, judgeLdexp, withoutValue, givenBy, givenOutcome, byRule, callOutcome, allUnder, typeBuiltinFn}
 use Rattle.call_ty.specs.Codes.{Under, numericCode, ldexpCodes}
@@ -33,10 +34,10 @@ use Rattle.call_ty.proofs.Lists.{types, type-in}
 
 -- what the two makers of an accepted answer give
 pub gave-accepted : (t : TypeNo) {r : Answer} (w : List ℕ) (n : ℕ) → Accepted t n r → Gave (record { answer = accept (t .0) n; words = w }) r w
-gave-accepted t w n a = record { reply = a .made; words = refl }
+gave-accepted t w n a = gave (a .made) refl
 
 pub gave-none : {r : Answer} (w : List ℕ) (n : ℕ) → WithoutValue n r → Gave (withoutValue w n) r w
-gave-none w n a = record { reply = a .made; words = refl }
+gave-none w n a = gave (a .made) refl
 
 -- THE TEMPLATE LIST
 

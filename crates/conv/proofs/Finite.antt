@@ -1,10 +1,12 @@
 -- A test at every number below a bound, which antt computes, and the laws that turn it into a fact at each: so a table's rule is proved.
 -- Assumes nothing.
-use mathlib.Core.Path.{_≡_, refl}
+use mathlib.Core.Path.{_≡_, refl, _∙_, ap}
+use mathlib.Core.Logic.{_⊎_, inl, inr}
 use mathlib.Core.Bool.{Bool, true, false}
 use mathlib.Core.List.{List, []}
-use Prim.Native.Nat.{ℕ, zero, suc, _+_, _*_, _<_}
-use native.Mathlib.Nat.{le-of-suc-le-suc, not-suc-le-zero}
+use Prim.Native.Nat.{ℕ, zero, suc, _+_, _*_, _<_, _≤_}
+use native.Mathlib.Omega.{arith}
+use native.Mathlib.Nat.{eq-or-lt-of-le, le-of-suc-le-suc, not-suc-le-zero}
 use lib.Dec.{T, eqb, eqb→eq}
 use lib.ListN.{getD}
 use Rattle.conv.specs.Rank.{both}
@@ -77,3 +79,22 @@ table₂ g m n xs t a b ha hb = eqb→eq (getD xs (a * n + b) 0) (g a b) (below�
 pub board : (g : ℕ → ℕ → ℕ) (m n : ℕ) (xs : List (List ℕ)) → T (all m (λ a. all n (λ b. eqb (getD (getD xs a []) b 0) (g a b)))) → (a b : ℕ) → a < m → b < n
     → getD (getD xs a []) b 0 ≡ g a b
 board g m n xs t a b ha hb = eqb→eq (getD (getD xs a []) b 0) (g a b) (below₂ m n (λ a b. eqb (getD (getD xs a []) b 0) (g a b)) t a b ha hb)
+
+-- WHAT THE `_` OF A `match` KNOWS: of an arm for each of s 0 to s (n - 1), that the number is none of them
+
+abbrev pub Others : (ℕ → ℕ) → ℕ → ℕ → Type 0
+Others s zero h = Unit
+Others s (suc n) h = Others s n h × (h ≡ s n → ⊥)
+
+pub others : (s : ℕ → ℕ) (n h : ℕ) → Others s n h → (k : ℕ) → k < n → h ≡ s k → ⊥
+others s zero h o k l = absurd (not-suc-le-zero l)
+others s (suc n) h o k l = go (eq-or-lt-of-le (le-of-suc-le-suc l)) (others s n h (o .0) k)
+  where
+    go : (k ≡ n) ⊎ (k < n) → (k < n → h ≡ s k → ⊥) → h ≡ s k → ⊥
+    go (inl e) later q = o .1 (q ∙ ap s e)
+    go (inr m) later q = later m q
+
+-- of an arm for each of the first n numbers
+pub above : (n k : ℕ) → Others (λ i. i) n k → n ≤ k
+above zero k h = omega arith
+above (suc n) k h = let l = above n k (h .0) in let q = h .1 in omega arith

@@ -2,8 +2,9 @@
 ghost use mathlib.Core.Path.{_≡_};
 ghost use Prim.Native.Nat.{ℕ, _+_, _*_, _≤_};
 ghost use lib.ListN.{length};
-ghost use Rattle.table.specs.Table.{stride, ceiling, putEntry, findIn, Sound};
-ghost use Rattle.table.specs.Enter.{free, container, EnterDone, EnterTwoDone, entryAnswer, EnterTypeDone};
+ghost use Rattle.table.specs.Table.{stride, scalars, ceiling, putEntry, findIn, Sound};
+ghost use Rattle.table.specs.Enter.{withScalars, free, container, EnterDone, EnterTwoDone, entryAnswer};
+ghost use Rattle.table.specs.Placing.{enterType, Gave};
 ghost use Rattle.table.specs.declared.Found.the-variants.{Nothing};
 use table::Answer;
 use table::CEILING;
@@ -12,6 +13,7 @@ use table::Entry;
 use table::Found;
 use table::Place;
 use table::Reason;
+use table::SCALARS;
 use table::STRIDE;
 use table::TypeNo;
 use table::accepted;
@@ -30,6 +32,27 @@ fn put_entry(words: &mut [u32], i: usize, e: Entry)
     words[at + 1] = e.p;
     words[at + 2] = e.q;
     words[at + 3] = e.elem;
+}
+
+// The seven scalars, as the first entries.
+pub fn put_scalars(words: &mut [u32])
+    requires { ⌜ scalars * stride ≤ length (now words) ⌝ }
+    ensures { λ _. ⌜ now (words .exit) ≡ withScalars scalars (now (words .entry)) ⌝ }
+{
+    let mut i = 0;
+    while i < SCALARS {
+        put_entry(
+            words,
+            i,
+            Entry {
+                kind: i as u32,
+                p: 0,
+                q: 0,
+                elem: 0,
+            },
+        );
+        i += 1;
+    }
 }
 
 // How many entries more the slice and the ceiling leave room for.
@@ -112,7 +135,7 @@ pub fn answer_of(place: Place, n: usize, r: Entered) -> Answer
 
 // For a host: the type that e stands for, entered where it is absent.
 pub fn enter_type(words: &mut [u32], n: usize, e: Entry) -> Answer
-    ensures { λ r. ⌜ EnterTypeDone (now (words .entry)) n e r (now (words .exit)) ⌝ }
+    ensures { λ r. ⌜ Gave (enterType (now (words .entry)) n e) r (now (words .exit)) ⌝ }
 {
     if !sound(words, n) {
         return refused(Reason::Unsound, Place(0), n);

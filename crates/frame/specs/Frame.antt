@@ -50,7 +50,7 @@ abbrev pub typeNo : ℕ → TypeNo
 typeNo n = record { 0 = n }
 
 abbrev pub part : ℕ → ℕ → Part
-part start length = record { start = place start; length = length }
+part start size = record { start = place start; length = size }
 
 -- where no item stands there is no next: the place is given for it
 abbrev pub still : Item → ℕ → Placed

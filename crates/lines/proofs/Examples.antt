@@ -6,7 +6,8 @@ use Rattle.table.specs.Table.{chainBy, chain}
 use Rattle.table.specs.Denote.{typeAt}
 use Rattle.answer.specs.declared.Reason.the-variants.{NoOverload}
 use Rattle.answer.specs.declared.Answer.the-variants.{NoValue}
-use Rattle.spell.specs.Spell.{ascii, named, decimalBy, decimal, spelling}
+use Rattle.text.specs.Text.{ascii, decimalBy, decimal}
+use Rattle.spell.specs.Spell.{named, spelling}
 use Rattle.lines.specs.Lines.{typeLine, refusedLine, firstLine, secondLine, lineEnd, linesOf, start}
 
 pub written-out :

@@ -3,3 +3,4 @@ pub mod Valued
 pub mod Long
 pub mod Examples
 pub mod OneReply
+pub mod Worked

@@ -11,7 +11,7 @@ use lib.Seq.{take-all}
 use borrow.Author.Tests.{ltb-true, ltb-false}
 use Rattle.table.specs.Table.{scalars}
 use Rattle.table.specs.Placing.{Outcome}
-use Rattle.spell.specs.Spell.{ascii, decimalBy, decimal}
+use Rattle.text.specs.Text.{ascii, decimalBy, decimal}
 use Rattle.frame.specs.Frame.{version, headerSize, longest, headerOk}
 use Rattle.frame.proofs.FrameLaws.{headed}
 use Rattle.sheet.proofs.Demand1.{sheet-header}

@@ -3,8 +3,8 @@ use Prim.Native.Nat.{ℕ}
 use mathlib.Core.Path.{_≡_}
 use mathlib.Core.List.{List}
 use Rattle.answer.specs.declared.Answer.{Answer}
-use Rattle.spell.specs.Parts.{Put}
-use Rattle.spell.proofs.OneReply.{one-put}
+use Rattle.text.specs.Text.{Put}
+use Rattle.text.proofs.OneReply.{one-put}
 use Rattle.lines.specs.Lines.{linesOf, report}
 
 pub one-write : (w : List ℕ) (a : Answer) {out : List ℕ} {r q : ℕ} {u v : List ℕ} → Put out 0 (linesOf w a) r u → Put out 0 (linesOf w a) q v → (r ≡ q) × (u ≡ v)

@@ -9,7 +9,8 @@ use Rattle.table.specs.Placing.{Outcome}
 use Rattle.answer.specs.declared.Refusal.{Refusal}
 use Rattle.answer.specs.declared.Answer.{Answer}
 use Rattle.answer.specs.declared.Answer.the-variants.{Value, NoValue, Refused}
-use Rattle.spell.specs.Spell.{ascii, decimal, spelling}
+use Rattle.text.specs.Text.{ascii, decimal}
+use Rattle.spell.specs.Spell.{spelling}
 use Rattle.sheet.specs.Machine.{typeSheet}
 
 -- `type 5 f32`: the type's number and its spelling
@@ -38,6 +39,10 @@ lineEnd = 10 ∷ []
 
 unfoldable pub linesOf : List ℕ → Answer → List ℕ
 linesOf w a = firstLine w a ++ lineEnd ++ secondLine a ++ lineEnd
+
+-- the two lines of an answer have no more bytes: a type has at most 80 for each of 256 entries
+abbrev pub linesRoom : ℕ
+linesRoom = 32768
 
 -- "The program starts from the seven scalars": their entries, and room for 256
 abbrev pub start : List ℕ

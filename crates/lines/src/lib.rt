@@ -5,12 +5,14 @@ use answer::TypeNo;
 use sheet::type_sheet;
 ghost use mathlib.Core.Path.{_≡_};
 ghost use mathlib.Core.List.{_++_};
-ghost use Prim.Native.Nat.{_+_, _*_, _<_};
+ghost use Prim.Native.Nat.{_+_, _*_, _<_, _≤_};
 ghost use lib.ListN.{length};
 ghost use Rattle.table.specs.Table.{Sound};
-ghost use Rattle.spell.specs.Spell.{decimal};
-ghost use Rattle.spell.specs.Parts.{Put, far};
-ghost use Rattle.lines.specs.Lines.{typeLine, refusedLine, firstLine, usedOf, linesOf, start, report, Spellable};
+ghost use Rattle.text.specs.Text.{decimal, Put, far};
+ghost use Rattle.lines.specs.Lines.{typeLine, refusedLine, firstLine, linesOf, linesRoom, start, report, Spellable};
+
+// The bytes that any answer's two lines have room in.
+pub const ROOM: usize = 32768;
 
 // The words of a table that has room for 256 entries.
 const WORDS: usize = 1024;
@@ -22,7 +24,7 @@ fn put_text(out: &mut [u8], at: usize, text: &[u8]) -> usize
 {
     let mut j = 0;
     while j < text.len() {
-        spell::put_byte(out, at + j, text[j]);
+        text::put_byte(out, at + j, text[j]);
         j += 1;
     }
     at + j
@@ -34,25 +36,25 @@ fn put_after(out: &mut [u8], at: usize, text: &[u8], n: usize) -> usize
     ensures { λ r. ⌜ Put (now (out .entry)) at (now (text .entry) ++ decimal n) r (now (out .exit)) ⌝ }
 {
     let a = put_text(out, at, text);
-    spell::put_number(out, a, n)
+    text::put_number(out, a, n)
 }
 
 // The first line of a type.
 fn type_line(words: &[u32], used: usize, t: TypeNo, out: &mut [u8]) -> usize
     requires { ⌜ Sound (now words) used × (t .0 < used) ⌝ }
     ensures { λ r. ⌜ Put (now (out .entry)) 0 (typeLine (now (words .entry)) (t .0)) r (now (out .exit)) ⌝ }
-    ensures { λ r. ⌜ r < far ⌝ }
+    ensures { λ r. ⌜ r + 64 ≤ linesRoom ⌝ }
 {
     let i = t.0;
     let a = put_after(out, 0, b"type ", i);
-    let b = spell::put_byte(out, a, b' ');
+    let b = text::put_byte(out, a, b' ');
     spell::spell_type(words, used, i, out, b)
 }
 
 // The first line of a refusal.
 fn refused_line(r: Refusal, out: &mut [u8]) -> usize
     ensures { λ k. ⌜ Put (now (out .entry)) 0 (refusedLine r) k (now (out .exit)) ⌝ }
-    ensures { λ k. ⌜ k + 16 < far * 2 ⌝ }
+    ensures { λ k. ⌜ k + 64 ≤ linesRoom ⌝ }
 {
     let why = r.reason;
     let place = r.place;
@@ -63,7 +65,7 @@ fn refused_line(r: Refusal, out: &mut [u8]) -> usize
 fn first_line(words: &[u32], a: Answer, out: &mut [u8]) -> usize
     requires { ⌜ Spellable (now words) a ⌝ }
     ensures { λ r. ⌜ Put (now (out .entry)) 0 (firstLine (now (words .entry)) a) r (now (out .exit)) ⌝ }
-    ensures { λ r. ⌜ r + 16 < far * 2 ⌝ }
+    ensures { λ r. ⌜ r + 64 ≤ linesRoom ⌝ }
 {
     match a {
         Answer::Value(t, used) => type_line(words, used, t, out),
@@ -72,26 +74,16 @@ fn first_line(words: &[u32], a: Answer, out: &mut [u8]) -> usize
     }
 }
 
-// The used count of an answer.
-fn used_of(a: Answer) -> usize
-    ensures { λ r. ⌜ r ≡ usedOf a ⌝ }
-{
-    match a {
-        Answer::Value(_, used) => used,
-        Answer::NoValue(used) => used,
-        Answer::Refused(r) => r.used,
-    }
-}
-
 // The two lines of an answer, from the start of the output: how many bytes they have. Those that the output has no room for are left out.
 pub fn write(words: &[u32], a: Answer, out: &mut [u8]) -> usize
     requires { ⌜ Spellable (now words) a ⌝ }
     ensures { λ r. ⌜ Put (now (out .entry)) 0 (linesOf (now (words .entry)) a) r (now (out .exit)) ⌝ }
+    ensures { λ r. ⌜ r ≤ linesRoom ⌝ }
 {
     let end = first_line(words, a, out);
-    let next = spell::put_byte(out, end, b'\n');
-    let last = put_after(out, next, b"entries ", used_of(a));
-    spell::put_byte(out, last, b'\n')
+    let next = text::put_byte(out, end, b'\n');
+    let last = put_after(out, next, b"entries ", answer::used_of(a));
+    text::put_byte(out, last, b'\n')
 }
 
 // The words of a table of the seven scalars.
@@ -99,18 +91,14 @@ fn scalars() -> [u32; 1024]
     ensures { λ r. ⌜ r ≡ start ⌝ }
 {
     let mut words = [0; WORDS];
-    words[table::STRIDE] = 1;
-    words[2 * table::STRIDE] = 2;
-    words[3 * table::STRIDE] = 3;
-    words[4 * table::STRIDE] = 4;
-    words[5 * table::STRIDE] = 5;
-    words[6 * table::STRIDE] = 6;
+    entering::put_scalars(&mut words);
     words
 }
 
 // For a host: the two lines of a sheet that is typed over the seven scalars, from the start of the output; how many bytes they have.
 pub fn answer_sheet(bytes: &[u8], out: &mut [u8]) -> usize
     ensures { λ r. ⌜ Put (now (out .entry)) 0 (report (now (bytes .entry))) r (now (out .exit)) ⌝ }
+    ensures { λ r. ⌜ r ≤ linesRoom ⌝ }
 {
     let mut words = scalars();
     let a = type_sheet(&mut words, table::SCALARS, bytes);

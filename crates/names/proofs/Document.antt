@@ -9,7 +9,8 @@ use lib.Dec.{T, eqb}
 use lib.ListN.{length}
 use Rattle.conv.specs.Rank.{both}
 use Rattle.conv.proofs.Finite.{both-left, both-right}
-use Rattle.names.specs.Names.{bytes, Row, names, sameBytes, Known, ruleIn, ruleOf, ruleBitcast, ruleArrayLength, ruleLdexp, ruleStorageBarrier, ruleTextureBarrier, ruleWorkgroupBarrier}
+use Rattle.text.specs.Text.{ascii}
+use Rattle.names.specs.Names.{Row, names, sameBytes, Known, ruleIn, ruleOf, ruleBitcast, ruleArrayLength, ruleLdexp, ruleStorageBarrier, ruleTextureBarrier, ruleWorkgroupBarrier}
 use Rattle.names.specs.Names.Known.{known, unknown}
 use Rattle.names.proofs.Bytes.{same-bytes}
 use Rattle.names.proofs.Rows.{isKnown, is-known}
@@ -29,7 +30,7 @@ under rule [] = []
 under rule (w ∷ ws) = record { name = w; rule = rule } ∷ under rule ws
 
 abbrev group : ℕ → String → List Row
-group rule text = under rule (words (bytes text))
+group rule text = under rule (words (ascii text))
 
 -- "Ruled, 88"
 pub ruled : List Row
@@ -93,11 +94,11 @@ abbrev pub document : List Row
 document = ruled ++ crateRules
 
 pub ruled-count : length ruled ≡ 88
-unfolding bytes words ahead under ruled
+unfolding ascii words ahead under ruled
 ruled-count = refl
 
 pub crate-count : length crateRules ≡ 6
-unfolding bytes words ahead under crateRules
+unfolding ascii words ahead under crateRules
 crate-count = refl
 
 -- every row of a list has its rule in another
@@ -125,5 +126,5 @@ same-rules rs other t u s = go (ruleIn rs s) refl (ruleIn other s) refl
 
 -- THE TABLE SAYS WHAT DOCUMENT 01 SAYS, of all bytes
 pub as-document : (s : List ℕ) → ruleOf s ≡ ruleIn document s
-unfolding bytes words ahead under ruled crateRules names both sameBytes ruleIn isKnown covers
+unfolding ascii words ahead under ruled crateRules names both sameBytes ruleIn isKnown covers
 as-document s = same-rules names document tt tt s

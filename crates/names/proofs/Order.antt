@@ -12,11 +12,12 @@ use lib.Dec.{T, eqb, ltb, ltb→lt}
 use borrow.Author.Tests.{eqb-true, eq-eqb, ne-eqb, lt-ltb, ltb-true, ltb-false}
 use Rattle.conv.specs.Rank.{both}
 use Rattle.conv.proofs.Finite.{below}
-use Rattle.names.specs.Names.{bytes, names, nameAt, before, count, Sorted}
+use Rattle.text.specs.Text.{ascii}
+use Rattle.names.specs.Names.{names, nameAt, before, count, Sorted}
 
 -- "The 94 builtin names stand sorted by their bytes"
 pub sorted : Sorted
-unfolding bytes names nameAt before both
+unfolding ascii names nameAt before both
 sorted k h = below (count - 1) (λ k. before (nameAt k) (nameAt (k + 1))) tt k (omega arith)
 
 -- THE ORDER of names, by the first byte of each

@@ -10,7 +10,8 @@ use lib.ListN.{length, getD}
 use borrow.Author.Tests.{ltb-true}
 use Rattle.conv.specs.Rank.{both}
 use Rattle.conv.proofs.Finite.{below, both-left, both-right}
-use Rattle.names.specs.Names.{bytes, Row, names, nameAt, sameBytes, Known, ruleIn, ruleOf, noRow, count, overloadRows, ruleBitcast, ruleWorkgroupBarrier}
+use Rattle.text.specs.Text.{ascii}
+use Rattle.names.specs.Names.{Row, names, nameAt, sameBytes, Known, ruleIn, ruleOf, noRow, count, overloadRows, ruleBitcast, ruleWorkgroupBarrier}
 use Rattle.names.specs.Search.{ruleAt, width}
 use Rattle.names.specs.Names.Known.{known, unknown}
 use Rattle.names.proofs.Bytes.{differ}
@@ -22,7 +23,7 @@ unfolding names
 counted = refl
 
 pub short : (k : ℕ) → k < count → length (nameAt k) ≤ width
-unfolding bytes names nameAt both
+unfolding ascii names nameAt both
 short k h = leb→le _ _ (below count (λ k. leb (length (nameAt k)) width) tt k h)
 
 -- THE RULE OF EACH LISTED NAME IS ITS OWN
@@ -37,7 +38,7 @@ is-known (known r) n t = rw (eqb→eq r n t)
 is-known unknown n t = absurd t
 
 pub found : (k : ℕ) → k < count → ruleOf (nameAt k) ≡ known (ruleAt k)
-unfolding bytes names nameAt ruleAt both sameBytes ruleIn isKnown
+unfolding ascii names nameAt ruleAt both sameBytes ruleIn isKnown
 found k h = is-known _ _ (below count (λ k. isKnown (ruleOf (nameAt k)) (ruleAt k)) tt k h)
 
 -- A NAME THAT NO ROW HAS has no rule

@@ -2,9 +2,7 @@
 -- Assumes nothing.
 use Prim.Native.Nat.{ℕ, zero, suc, _+_, _≤_, _<_, zero-le, suc-le-suc}
 use native.Mathlib.Omega.{arith}
-use native.Mathlib.Nat.{eq-or-lt-of-le, le-of-suc-le-suc}
 use mathlib.Core.Path.{_≡_, refl, sym, _∙_, ap}
-use mathlib.Core.Logic.{_⊎_, inl, inr}
 use mathlib.Core.Bool.{Bool, true, false, cond}
 use mathlib.Core.List.{List, [], _∷_}
 use lib.Dec.{T, eqb, ltb, eqb→eq, ltb→lt}
@@ -12,29 +10,12 @@ use lib.ListN.{length, getD}
 use borrow.Author.Tests.{ne-eqb}
 use Rattle.conv.specs.Rank.{both}
 use Rattle.conv.proofs.Finite.{below, both-left, both-right}
-use Rattle.names.specs.Names.{bytes, Row, names, noRow, nameAt, count, sameBytes, ruleOf}
+use Rattle.text.specs.Text.{ascii}
+use Rattle.names.specs.Names.{Row, names, noRow, nameAt, count, sameBytes, ruleOf}
 use Rattle.names.specs.Names.Known.{unknown}
 use Rattle.names.specs.Search.{width, mixedFrom, slotOf, firstFrom, rowOfSlot}
 use Rattle.names.proofs.Bytes.{not-same}
 use Rattle.names.proofs.Rows.{counted, short, missing}
-
--- a number that is none of the first n slots, as the `_` of a `match` with an arm for each of them has it
-abbrev pub Others : (ℕ → ℕ) → ℕ → ℕ → Type 0
-Others s zero h = Unit
-Others s (suc n) h = Others s n h × (h ≡ s n → ⊥)
-
-pub others : (s : ℕ → ℕ) (n h : ℕ) → Others s n h → (k : ℕ) → k < n → h ≡ s k → ⊥
-others s zero h o k l = absurd (omega arith)
-others s (suc n) h o k l = go (eq-or-lt-of-le (le-of-suc-le-suc l)) (others s n h (o .0) k)
-  where
-    go : (k ≡ n) ⊎ (k < n) → (k < n → h ≡ s k → ⊥) → h ≡ s k → ⊥
-    go (inl e) later q = o .1 (q ∙ ap s e)
-    go (inr m) later q = later m q
-
--- of an arm for each of the first n numbers
-pub above : (n k : ℕ) → Others (λ i. i) n k → n ≤ k
-above zero k h = omega arith
-above (suc n) k h = let l = above n k (h .0) in let q = h .1 in omega arith
 
 -- a slot that no name has
 nowhere : (rs : List Row) (k h : ℕ) → ((j : ℕ) → j < length rs → h ≡ slotOf (getD rs j noRow .name) → ⊥) → firstFrom rs k h ≡ k + length rs
@@ -51,7 +32,7 @@ no-slot h n = nowhere names 0 h (λ j m. n j (rw counted at m)) ∙ counted
 
 -- every name is found at its own row
 pub own-row : (k : ℕ) → k < count → rowOfSlot (slotOf (nameAt k)) ≡ k
-unfolding bytes names nameAt both mixedFrom slotOf firstFrom rowOfSlot
+unfolding ascii names nameAt both mixedFrom slotOf firstFrom rowOfSlot
 own-row k h = eqb→eq _ _ (below count (λ k. eqb (rowOfSlot (slotOf (nameAt k))) k) tt k h)
 
 -- the slot of row k leads to it

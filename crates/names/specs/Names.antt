@@ -1,19 +1,14 @@
 -- THE BUILTIN NAMES of document 01, "Builtins": each with its rule, and the rule of any bytes that are offered as a name. Assumes nothing.
 use Prim.Native.Nat.{ℕ, _+_, _<_}
-use Prim.Native.Char.{code}
-use Prim.Native.String.{String, [] as noText, _∷_ as _then_}
+use Prim.Native.String.{String}
 use mathlib.Core.Bool.{Bool, true, false, cond}
 use mathlib.Core.List.{List, [], _∷_}
 use lib.Dec.{T, eqb, ltb}
 use lib.ListN.{getD}
+use Rattle.text.specs.Text.{ascii}
 use Rattle.conv.specs.Rank.{both}
 use Rattle.names.specs.declared.Rule.{Rule}
 use Rattle.names.specs.declared.Rule.the-variants.{Is, Unknown}
-
--- the bytes of a text: every letter of these names is one byte
-unfoldable pub bytes : String → List ℕ
-bytes noText = []
-bytes (c then s) = code c ∷ bytes s
 
 -- A RULE is a number of its own, which a name put in later does not move: of a ruled name its row of overloads, which is below 47 and whose place and names
 -- the comments of `overload/specs/Rows.antt` give; of a crate rule one of the numbers from 100 on
@@ -44,7 +39,7 @@ pub record Row : Type 0 where
   pub rule : ℕ
 
 abbrev pub row : String → ℕ → Row
-row text rule = record { name = bytes text; rule = rule }
+row text rule = record { name = ascii text; rule = rule }
 
 -- "The 94 builtin names stand sorted by their bytes"
 unfoldable pub names : List Row

@@ -16,7 +16,7 @@ use Rattle.conv.proofs.Finite.{both-left, both-right, both-pair, below}
 use Rattle.conv.proofs.Ranks.{order}
 use Rattle.overload.specs.Overload.{Overload, or, fits, Preferred, Judged, Resolved}
 use Rattle.overload.specs.Overload.Judged.{gives, noneFits, nonePreferred}
-use Rattle.overload.specs.Rows.{Size, Family, formAt, typeAt, overload, wrapped, N, rows, overloadsOf, ofRow}
+use Rattle.overload.specs.Rows.{Size, Family, formAt, patternTy, overload, wrapped, N, rows, overloadsOf, ofRow}
 use Rattle.overload.specs.Code.{shapeOfNo, shapeNo, operand, sizeOfNo, familyOf, startOf, noFamily, firstParam, familyAt, pivotNo, sizeAt, encode, wordOf, member, firstOf, preference, fitsAt, firstX, lastX, formsOf}
 use Rattle.overload.proofs.Preference.{Sized, or-cases, Beats, beats, one-judgment}
 use Rattle.overload.proofs.Slots.{sized-no}
@@ -142,7 +142,7 @@ module _ (row : ℕ) (xs : List ℕ) (f n : ℕ) (a : At row xs f n) where
       let hz : Sized (sizeOfNo n) = sized-no n (size-small f n hf (a .low) (a .high)) (size-proper f n hf (a .low) (a .high)) in
       shape-back (firstX xs / 7) (formAt (firstParam (familyOf f) .form) (sizeOfNo n))
       (shape-of-fit (firstX xs) (sizeOfNo n) t (firstParam (familyOf f)) hz (g .set t (both-left _ _ h)) (param-small f 0 hf (omega arith))
-      (fits-at (typeAt (sizeOfNo n) t) (familyOf f .params) xs (both-right (member t (familyOf f .set)) _ h) 0 (omega arith)))
+      (fits-at (patternTy (sizeOfNo n) t) (familyOf f .params) xs (both-right (member t (familyOf f .set)) _ h) 0 (omega arith)))
       ∙ sym (ap (λ (k : ℕ). sizeAt k (firstX xs / 7) (lastX xs / 7)) (pivot-word f ∙ e))
       ∙ a .size
 

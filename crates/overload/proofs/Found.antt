@@ -18,7 +18,7 @@ use Rattle.conv.proofs.Ranks.{order}
 use Rattle.conv.proofs.Made.{shape-made}
 use Rattle.overload.specs.Overload.{Overload, or, fits, listed, Preferred, Judged, Resolved}
 use Rattle.overload.specs.Overload.Judged.{gives, noneFits, nonePreferred}
-use Rattle.overload.specs.Rows.{Size, Family, Pattern, formAt, componentAt, typeAt, overload, N, operators, builtins, rows, overloadsOf, ofFamilies, ofRow}
+use Rattle.overload.specs.Rows.{Size, Family, Pattern, formAt, componentAt, patternTy, overload, N, operators, builtins, rows, overloadsOf, ofFamilies, ofRow}
 use Rattle.overload.specs.Code as code
 use Rattle.overload.specs.Code.{shapeOfNo, shapeNo, operand, sizeOfNo, sizeNo, familyOf, startOf, noFamily, firstParam, lastParam, formsAt, familyAt, pivotNo, sizeAt, encode, wordOf, member, firstOf, preference, liftOf, fitsAt, firstX, lastX, formsOf}
 use Rattle.overload.proofs.Preference.{Sized, smallC, allSmall, someT, slot-cost, pick-test, or-cases, Beats, beats}
@@ -45,7 +45,7 @@ fits-at g (p ∷ ps) (x ∷ xs) h zero l = both-left _ _ h
 fits-at g (p ∷ ps) (x ∷ xs) h (suc i) l = fits-at g ps xs (both-right (converts (operand x) (g p)) _ h) i (le-of-suc-le-suc l)
 
 -- the shape of an operand that converts is the parameter's
-pub shape-of-fit : (x : ℕ) (z : Size) (t : ℕ) (p : Pattern) → Sized z → t < 7 → T (smallC (p .of)) → T (converts (operand x) (typeAt z t p))
+pub shape-of-fit : (x : ℕ) (z : Size) (t : ℕ) (p : Pattern) → Sized z → t < 7 → T (smallC (p .of)) → T (converts (operand x) (patternTy z t p))
     → T (sameShape (shapeOfNo (x / 7)) (formAt (p .form) z))
 shape-of-fit x z t p hz ht hs h =
     pick-test (sameShape (shapeOfNo (x / 7)) (formAt (p .form) z)) (rankOf (componentOf (operand x)) (componentAt (p .of) t))
@@ -138,13 +138,13 @@ module _ (row : ℕ) (xs : List ℕ) (o : Overload) (h : T (fits (o .params) (ma
       let is : o ≡ overload (familyOf f) (q .t) (sizeOfNo n) = q .is ∙ (λ j. overload (sym e j) (q .t) (sym (w .back) j)) in
       let fitting : T (fitsAt f n (q .t) xs) = subst (λ (k : Overload). T (fits (k .params) (map operand xs))) is h in
       let count : length xs ≡ length (familyOf f .params) =
-      sym (length-map xs operand) ∙ sym (fits-length (map (typeAt (sizeOfNo n) (q .t)) (familyOf f .params)) (map operand xs) fitting) ∙ length-map (familyOf f .params) (typeAt (sizeOfNo n) (q .t)) in
+      sym (length-map xs operand) ∙ sym (fits-length (map (patternTy (sizeOfNo n) (q .t)) (familyOf f .params)) (map operand xs) fitting) ∙ length-map (familyOf f .params) (patternTy (sizeOfNo n) (q .t)) in
       let hz : Sized (sizeOfNo n) = sized-no n (w .small) (w .proper) in
       let ht : q .t < 7 = g .set (q .t) inSet in
       let at : (k : ℕ) → k < length (familyOf f .params) → T (sameShape (shapeOfNo (getD xs k 0 / 7)) (formAt (getD (familyOf f .params) k N .form) (sizeOfNo n))) =
       λ k hk.
       shape-of-fit (getD xs k 0) (sizeOfNo n) (q .t) (getD (familyOf f .params) k N) hz ht (param-small f k hf hk)
-      (fits-at (typeAt (sizeOfNo n) (q .t)) (familyOf f .params) xs fitting k hk) in
+      (fits-at (patternTy (sizeOfNo n) (q .t)) (familyOf f .params) xs fitting k hk) in
       let a = at 0 (omega arith) in
       let b : T (sameShape (shapeOfNo (lastX xs / 7)) (formAt (lastParam (familyOf f) .form) (sizeOfNo n))) =
       subst (λ (k : ℕ). T (sameShape (shapeOfNo (getD xs (k - 1) 0 / 7)) (formAt (lastParam (familyOf f) .form) (sizeOfNo n)))) (sym count)

@@ -13,7 +13,7 @@ use Rattle.conv.specs.Rank.{pick, both, none, rankOf, converts, accepts}
 use Rattle.conv.proofs.Finite.{both-right}
 use Rattle.conv.proofs.Ranks.{order, rank-to}
 use Rattle.overload.specs.Overload.{fits}
-use Rattle.overload.specs.Rows.{Size, Pattern, Component, typeAt, N}
+use Rattle.overload.specs.Rows.{Size, Pattern, Component, patternTy, N}
 use Rattle.overload.specs.Rows.Component.{ofT, just}
 use Rattle.overload.specs.Code.{operand, sizeOfNo, patternOfNo, formNo, componentNo, askedOf, familyOf, wordOf, fitsAt, firstParam, member, firstOf, liftOf, preference}
 use Rattle.overload.proofs.Preference.{isT, or-left, or-right}
@@ -24,7 +24,7 @@ use Rattle.overload.proofs.Demand3.{takes, preference-small, first-some
 
 -- do the operands from i on fit the parameters from i on?
 abbrev pub restAt : ℕ → ℕ → ℕ → List ℕ → ℕ → Bool
-restAt f n t xs i = fits (map (typeAt (sizeOfNo n) t) (drop i (familyOf f .params))) (map operand (drop i xs))
+restAt f n t xs i = fits (map (patternTy (sizeOfNo n) t) (drop i (familyOf f .params))) (map operand (drop i xs))
 
 both-assoc : (a b c : Bool) → both (both a b) c ≡ both a (both b c)
 unfolding both
@@ -32,19 +32,19 @@ both-assoc true b c = refl
 both-assoc false b c = refl
 
 rest-cons : (z : Size) (t : ℕ) (ps : List Pattern) (xs : List ℕ) (i : ℕ) → i < length ps → i < length xs
-    → fits (map (typeAt z t) (drop i ps)) (map operand (drop i xs))
-    ≡ both (converts (operand (getD xs i 0)) (typeAt z t (getD ps i N))) (fits (map (typeAt z t) (drop (i + 1) ps)) (map operand (drop (i + 1) xs)))
+    → fits (map (patternTy z t) (drop i ps)) (map operand (drop i xs))
+    ≡ both (converts (operand (getD xs i 0)) (patternTy z t (getD ps i N))) (fits (map (patternTy z t) (drop (i + 1) ps)) (map operand (drop (i + 1) xs)))
 unfolding fits
 rest-cons z t ps xs i hp hx = rw (add-one, drop-cons ps i N hp, drop-cons xs i 0 hx)
 
 module _ (f n t : ℕ) (xs : List ℕ) (i : ℕ) (hf : f < 61) (hp : i < length (familyOf f .params)) (hx : i < length xs) where
   -- one parameter, by its word
-  pub rest-step : restAt f n t xs i ≡ both (converts (operand (getD xs i 0)) (typeAt (sizeOfNo n) t (patternOfNo (wordOf f (i + 1))))) (restAt f n t xs (i + 1))
+  pub rest-step : restAt f n t xs i ≡ both (converts (operand (getD xs i 0)) (patternTy (sizeOfNo n) t (patternOfNo (wordOf f (i + 1))))) (restAt f n t xs (i + 1))
   rest-step =
       rest-cons (sizeOfNo n) t (familyOf f .params) xs i hp hx
-      ∙ ap (λ (p : Pattern). both (converts (operand (getD xs i 0)) (typeAt (sizeOfNo n) t p)) (restAt f n t xs (i + 1))) (sym (param-is f i hf hp))
+      ∙ ap (λ (p : Pattern). both (converts (operand (getD xs i 0)) (patternTy (sizeOfNo n) t p)) (restAt f n t xs (i + 1))) (sym (param-is f i hf hp))
 
-  pub join-step : (j r : ℕ) → accepts r t ≡ both (accepts j t) (converts (operand (getD xs i 0)) (typeAt (sizeOfNo n) t (patternOfNo (wordOf f (i + 1)))))
+  pub join-step : (j r : ℕ) → accepts r t ≡ both (accepts j t) (converts (operand (getD xs i 0)) (patternTy (sizeOfNo n) t (patternOfNo (wordOf f (i + 1)))))
       → both (accepts r t) (restAt f n t xs (i + 1)) ≡ both (accepts j t) (restAt f n t xs i)
   join-step j r e = rw (rest-step, e) (both-assoc _ _ _)
 
@@ -112,7 +112,7 @@ module _ (f n : ℕ) (xs : List ℕ) (hf : f < 61) (low : wordOf f 8 ≤ n) (hig
   module _ (j i : ℕ) (g : Joining f n xs j i) where
     -- the step of a join at i
     abbrev Stepped : ℕ → Type 0
-    Stepped r = (t : ℕ) → t < 7 → accepts r t ≡ both (accepts j t) (converts (operand (getD xs i 0)) (typeAt (sizeOfNo n) t (patternOfNo (wordOf f (i + 1)))))
+    Stepped r = (t : ℕ) → t < 7 → accepts r t ≡ both (accepts j t) (converts (operand (getD xs i 0)) (patternTy (sizeOfNo n) t (patternOfNo (wordOf f (i + 1)))))
 
     pub joining-next : (r : ℕ) → i < length xs → r < 7 → Stepped r → Joining f n xs r (i + 1)
     joining-next r hi hr e =

@@ -1,4 +1,4 @@
--- The lines of the tables: what a number has as its entries, by tests that antt computes, and what the `_` of a `match` knows. Assumes nothing.
+-- The lines of the tables: what a number has as its entries, by tests that antt computes. Assumes nothing.
 use Prim.Native.Nat.{ℕ, zero, suc, _*_, _/_, _^_, _<_, _≤_}
 use native.Mathlib.Omega.{arith}
 use mathlib.Core.Path.{_≡_, refl, sym, _∙_, ap, subst}
@@ -13,15 +13,6 @@ use Rattle.conv.proofs.Finite.{implies, modus, all, below}
 use Rattle.overload.specs.Rows.{Family, operators, builtins}
 use Rattle.overload.specs.Code as code
 use Rattle.overload.specs.Code.{noFamily, familyOf, familyAt, encode, askedOf, liftOf, entry, orNone, sets, setOf, Families, Word, Starts, Lifts}
-
--- a number that is none of the first n, as the `_` of a `match` with an arm for each of them has it
-abbrev pub Other : ℕ → ℕ → Type 0
-Other zero k = Unit
-Other (suc n) k = Other n k × (k ≡ n → ⊥)
-
-pub above : (n k : ℕ) → Other n k → n ≤ k
-above zero k h = omega arith
-above (suc n) k h = let l = above n k (h .0) in let q = h .1 in omega arith
 
 -- a line whose entries pass the test has them
 pub line : (b n : ℕ) (g : ℕ → ℕ) (w : ℕ) → T (all n (λ i. eqb (entry b w i) (g i))) → (i : ℕ) → i < n → entry b w i ≡ g i

@@ -17,7 +17,7 @@ use Rattle.conv.proofs.Finite.{both-left, both-right}
 use Rattle.conv.proofs.Made.{made-rank, shape-made, component-made}
 use Rattle.overload.specs.Overload.{Overload, fits, noMore, less, or, Preferred, Judged, Resolved}
 use Rattle.overload.specs.Overload.Judged.{gives, noneFits, nonePreferred}
-use Rattle.overload.specs.Rows.{Size, Pattern, Family, formAt, componentAt, typeAt, overload, rows, overloadsOf, ofRow, judgeRow}
+use Rattle.overload.specs.Rows.{Size, Pattern, Family, formAt, componentAt, patternTy, overload, rows, overloadsOf, ofRow, judgeRow}
 use Rattle.overload.specs.Code.{shapeOfNo, shapeNo, operand, codeOf, sizeNo, startOf, noFamily}
 use Rattle.overload.proofs.Preference.{Sized, smallC, allSmall, form-small, component-small, one-judgment}
 use Rattle.overload.proofs.Slots.{by-shape, sized-no}
@@ -179,15 +179,15 @@ pub record Params (ps : List Ty) : Type 0 where
   pub sized : Sized z
   pub scalar : t < 7
   pub small : T (allSmall patterns)
-  pub are : ps ≡ map (typeAt z t) patterns
+  pub are : ps ≡ map (patternTy z t) patterns
 
 rank-alike : (x : Ty) (z : Size) (t : ℕ) (p : Pattern) → formed x ≡ true → Sized z → t < 7 → T (smallC (p .of))
-    → conversionRank x (typeAt z t p) ≡ conversionRank (operand (codeOf x)) (typeAt z t p)
+    → conversionRank x (patternTy z t p) ≡ conversionRank (operand (codeOf x)) (patternTy z t p)
 rank-alike x z t p f hz ht hs =
     code-alike x f (formAt (p .form) z) (componentAt (p .of) t) (form-small (p .form) z hz) (component-small (p .of) t ht hs)
 
 module _ (z : Size) (t : ℕ) (hz : Sized z) (ht : t < 7) where
-  fits-by : (ps : List Pattern) (ts : List Ty) → T (allSmall ps) → allFormed ts ≡ true → fits (map (typeAt z t) ps) ts ≡ fits (map (typeAt z t) ps) (map operand (codesOf ts))
+  fits-by : (ps : List Pattern) (ts : List Ty) → T (allSmall ps) → allFormed ts ≡ true → fits (map (patternTy z t) ps) ts ≡ fits (map (patternTy z t) ps) (map operand (codesOf ts))
   unfolding fits allFormed
   fits-by [] [] s f = refl
   fits-by [] (x ∷ xs) s f = refl
@@ -198,7 +198,7 @@ module _ (z : Size) (t : ℕ) (hz : Sized z) (ht : t < 7) where
 
   module _ (y : Size) (u : ℕ) (hy : Sized y) (hu : u < 7) where
     no-more-by : (ts : List Ty) (ps qs : List Pattern) → T (allSmall ps) → T (allSmall qs) → allFormed ts ≡ true
-        → noMore ts (map (typeAt z t) ps) (map (typeAt y u) qs) ≡ noMore (map operand (codesOf ts)) (map (typeAt z t) ps) (map (typeAt y u) qs)
+        → noMore ts (map (patternTy z t) ps) (map (patternTy y u) qs) ≡ noMore (map operand (codesOf ts)) (map (patternTy z t) ps) (map (patternTy y u) qs)
     unfolding noMore allFormed
     no-more-by [] ps qs s v f = refl
     no-more-by (x ∷ xs) [] qs s v f = refl
@@ -208,7 +208,7 @@ module _ (z : Size) (t : ℕ) (hz : Sized z) (ht : t < 7) where
         (no-more-by xs ps qs (both-right (smallC (p .of)) _ s) (both-right (smallC (q .of)) _ v) (and-right (formed x) _ f) i))
 
     less-by : (ts : List Ty) (ps qs : List Pattern) → T (allSmall ps) → T (allSmall qs) → allFormed ts ≡ true
-        → less ts (map (typeAt z t) ps) (map (typeAt y u) qs) ≡ less (map operand (codesOf ts)) (map (typeAt z t) ps) (map (typeAt y u) qs)
+        → less ts (map (patternTy z t) ps) (map (patternTy y u) qs) ≡ less (map operand (codesOf ts)) (map (patternTy z t) ps) (map (patternTy y u) qs)
     unfolding less allFormed
     less-by [] ps qs s v f = refl
     less-by (x ∷ xs) [] qs s v f = refl
@@ -243,13 +243,13 @@ module _ (ts : List Ty) (f : allFormed ts ≡ true) where
   no-more-same : (ps qs : List Ty) → Params ps → Params qs → noMore ts ps qs ≡ noMore (map operand (codesOf ts)) ps qs
   no-more-same ps qs a b =
       subst (λ (rs : List Ty). noMore ts rs qs ≡ noMore (map operand (codesOf ts)) rs qs) (sym (a .are))
-      (subst (λ (rs : List Ty). noMore ts (map (typeAt (a .z) (a .t)) (a .patterns)) rs ≡ noMore (map operand (codesOf ts)) (map (typeAt (a .z) (a .t)) (a .patterns)) rs) (sym (b .are))
+      (subst (λ (rs : List Ty). noMore ts (map (patternTy (a .z) (a .t)) (a .patterns)) rs ≡ noMore (map operand (codesOf ts)) (map (patternTy (a .z) (a .t)) (a .patterns)) rs) (sym (b .are))
       (no-more-by (a .z) (a .t) (a .sized) (a .scalar) (b .z) (b .t) (b .sized) (b .scalar) ts (a .patterns) (b .patterns) (a .small) (b .small) f))
 
   less-same : (ps qs : List Ty) → Params ps → Params qs → less ts ps qs ≡ less (map operand (codesOf ts)) ps qs
   less-same ps qs a b =
       subst (λ (rs : List Ty). less ts rs qs ≡ less (map operand (codesOf ts)) rs qs) (sym (a .are))
-      (subst (λ (rs : List Ty). less ts (map (typeAt (a .z) (a .t)) (a .patterns)) rs ≡ less (map operand (codesOf ts)) (map (typeAt (a .z) (a .t)) (a .patterns)) rs) (sym (b .are))
+      (subst (λ (rs : List Ty). less ts (map (patternTy (a .z) (a .t)) (a .patterns)) rs ≡ less (map operand (codesOf ts)) (map (patternTy (a .z) (a .t)) (a .patterns)) rs) (sym (b .are))
       (less-by (a .z) (a .t) (a .sized) (a .scalar) (b .z) (b .t) (b .sized) (b .scalar) ts (a .patterns) (b .patterns) (a .small) (b .small) f))
 
   module _ (row : ℕ) where

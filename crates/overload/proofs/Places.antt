@@ -17,7 +17,7 @@ use Rattle.conv.specs.Rank.Shape.{one, vector, matrix, other}
 use Rattle.conv.proofs.Finite.{both-left, both-right, both-pair, implies, modus, all, below, below₂}
 use Rattle.conv.proofs.Made.{shape-made}
 use Rattle.overload.specs.Overload.{Overload, or, fits}
-use Rattle.overload.specs.Rows.{Size, Family, Pattern, formAt, typeAt, overload, N, operators, builtins, rows, overloadsOf}
+use Rattle.overload.specs.Rows.{Size, Family, Pattern, formAt, patternTy, overload, N, operators, builtins, rows, overloadsOf}
 use Rattle.overload.specs.Code as code
 use Rattle.overload.specs.Code.{shapeOfNo, shapeNo, operand, sizeOfNo, sizeNo, familyOf, startOf, noFamily, firstParam, lastParam, formsAt, familyAt, pivotNo, sizeAt, wordOf, member, askedOf}
 use Rattle.overload.proofs.Preference.{Sized, smallC, slot-cost, pick-test, or-cases}

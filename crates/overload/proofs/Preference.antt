@@ -15,7 +15,7 @@ use Rattle.conv.proofs.Ranks.{rank-from, order, rises}
 use Rattle.conv.proofs.Made.{made-rank}
 use Rattle.overload.specs.Overload.{Overload, fits, noMore, less, or, Preferred, Judged, Resolved}
 use Rattle.overload.specs.Overload.Judged.{gives, noneFits, nonePreferred}
-use Rattle.overload.specs.Rows.{Size, Form, Component, Pattern, formAt, componentAt, typeAt}
+use Rattle.overload.specs.Rows.{Size, Form, Component, Pattern, formAt, componentAt, patternTy}
 use Rattle.overload.specs.Rows.Form.{sized, single, vecC, vecR, left, right, turned, square}
 use Rattle.overload.specs.Rows.Component.{ofT, just}
 
@@ -122,7 +122,7 @@ component-small (just k) t h s = ltb→lt k 7 s
 
 -- what an operand costs at a parameter
 pub slot-cost : (x : Ty) (z : Size) (t : ℕ) (p : Pattern) → Sized z → t < 7 → T (smallC (p .of))
-    → conversionRank x (typeAt z t p) ≡ pick (sameShape (shapeOf x) (formAt (p .form) z)) (rankOf (componentOf x) (componentAt (p .of) t)) none
+    → conversionRank x (patternTy z t p) ≡ pick (sameShape (shapeOf x) (formAt (p .form) z)) (rankOf (componentOf x) (componentAt (p .of) t)) none
 slot-cost x z t p hz ht hs =
     made-rank x (formAt (p .form) z) (componentAt (p .of) t) (form-small (p .form) z hz) (component-small (p .of) t ht hs)
 
@@ -143,8 +143,8 @@ weaken a b h = let l = ltb→lt a b h in le→leb a b (omega arith)
 
 module _ (z : Size) (t u : ℕ) (hz : Sized z) (ht : t < 7) (hu : u < 7) (earlier : T (ltb (order t) (order u))) where
   -- at a parameter of T the earlier costs less
-  rises-at : (x : Ty) (f : Form) → T (converts x (typeAt z t (record { form = f; of = ofT }))) → T (converts x (typeAt z u (record { form = f; of = ofT })))
-      → T (ltb (conversionRank x (typeAt z t (record { form = f; of = ofT }))) (conversionRank x (typeAt z u (record { form = f; of = ofT }))))
+  rises-at : (x : Ty) (f : Form) → T (converts x (patternTy z t (record { form = f; of = ofT }))) → T (converts x (patternTy z u (record { form = f; of = ofT })))
+      → T (ltb (conversionRank x (patternTy z t (record { form = f; of = ofT }))) (conversionRank x (patternTy z u (record { form = f; of = ofT }))))
   unfolding componentAt
   rises-at x f p q =
       let et = slot-cost x z t (record { form = f; of = ofT }) hz ht tt in
@@ -154,15 +154,15 @@ module _ (z : Size) (t u : ℕ) (hz : Sized z) (ht : t < 7) (hu : u < 7) (earlie
       (λ a b. rises (componentOf x) t u (from-small (componentOf x) t a) ht hu a b earlier))
 
   -- at every parameter it costs no more
-  no-more-at : (x : Ty) (f : Form) (c : Component) → T (smallC c) → T (converts x (typeAt z t (record { form = f; of = c })))
-      → T (converts x (typeAt z u (record { form = f; of = c })))
-      → T (leb (conversionRank x (typeAt z t (record { form = f; of = c }))) (conversionRank x (typeAt z u (record { form = f; of = c }))))
+  no-more-at : (x : Ty) (f : Form) (c : Component) → T (smallC c) → T (converts x (patternTy z t (record { form = f; of = c })))
+      → T (converts x (patternTy z u (record { form = f; of = c })))
+      → T (leb (conversionRank x (patternTy z t (record { form = f; of = c }))) (conversionRank x (patternTy z u (record { form = f; of = c }))))
   unfolding componentAt
   no-more-at x f ofT s a b = weaken (conversionRank x (made (formAt f z) t)) (conversionRank x (made (formAt f z) u)) (rises-at x f a b)
   no-more-at x f (just k) s a b = le→leb (conversionRank x (made (formAt f z) k)) (conversionRank x (made (formAt f z) k)) (omega arith)
 
-  no-more : (xs : List Ty) (ps : List Pattern) → T (allSmall ps) → T (fits (map (typeAt z t) ps) xs) → T (fits (map (typeAt z u) ps) xs)
-      → T (noMore xs (map (typeAt z t) ps) (map (typeAt z u) ps))
+  no-more : (xs : List Ty) (ps : List Pattern) → T (allSmall ps) → T (fits (map (patternTy z t) ps) xs) → T (fits (map (patternTy z u) ps) xs)
+      → T (noMore xs (map (patternTy z t) ps) (map (patternTy z u) ps))
   unfolding fits noMore
   no-more [] [] s a b = tt
   no-more [] (p ∷ ps) s a b = tt
@@ -171,14 +171,14 @@ module _ (z : Size) (t u : ℕ) (hz : Sized z) (ht : t < 7) (hu : u < 7) (earlie
       both-pair _ _ (no-more-at x (p .form) (p .of) (both-left _ _ s) (both-left _ _ a) (both-left _ _ b))
       (no-more xs ps (both-right (smallC (p .of)) _ s) (both-right _ _ a) (both-right _ _ b))
 
-  less-at : (x : Ty) (f : Form) (c : Component) → T (isT c) → T (converts x (typeAt z t (record { form = f; of = c })))
-      → T (converts x (typeAt z u (record { form = f; of = c })))
-      → T (ltb (conversionRank x (typeAt z t (record { form = f; of = c }))) (conversionRank x (typeAt z u (record { form = f; of = c }))))
+  less-at : (x : Ty) (f : Form) (c : Component) → T (isT c) → T (converts x (patternTy z t (record { form = f; of = c })))
+      → T (converts x (patternTy z u (record { form = f; of = c })))
+      → T (ltb (conversionRank x (patternTy z t (record { form = f; of = c }))) (conversionRank x (patternTy z u (record { form = f; of = c }))))
   less-at x f ofT s a b = rises-at x f a b
   less-at x f (just k) s a b = absurd s
 
-  less-some : (xs : List Ty) (ps : List Pattern) → T (someT ps) → T (fits (map (typeAt z t) ps) xs) → T (fits (map (typeAt z u) ps) xs)
-      → T (less xs (map (typeAt z t) ps) (map (typeAt z u) ps))
+  less-some : (xs : List Ty) (ps : List Pattern) → T (someT ps) → T (fits (map (patternTy z t) ps) xs) → T (fits (map (patternTy z u) ps) xs)
+      → T (less xs (map (patternTy z t) ps) (map (patternTy z u) ps))
   unfolding fits less
   less-some [] [] s a b = s
   less-some [] (p ∷ ps) s a b = absurd a
@@ -189,6 +189,6 @@ module _ (z : Size) (t u : ℕ) (hz : Sized z) (ht : t < 7) (hu : u < 7) (earlie
       (or-cases (isT (p .of)) (someT ps) s)
 
   -- of two overloads of a family at one size that both fit, the one of the earlier T is preferred
-  pub beats : (xs : List Ty) (ps : List Pattern) → T (allSmall ps) → T (someT ps) → T (fits (map (typeAt z t) ps) xs) → T (fits (map (typeAt z u) ps) xs)
-      → Beats xs (map (typeAt z t) ps) (map (typeAt z u) ps)
+  pub beats : (xs : List Ty) (ps : List Pattern) → T (allSmall ps) → T (someT ps) → T (fits (map (patternTy z t) ps) xs) → T (fits (map (patternTy z u) ps) xs)
+      → Beats xs (map (patternTy z t) ps) (map (patternTy z u) ps)
   beats xs ps s h a b = (no-more xs ps s a b, less-some xs ps h a b)

@@ -14,7 +14,7 @@ use Rattle.conv.specs.Rank.{pick, none, Shape, formOf, sameShape, made, accepts
 use Rattle.conv.proofs.Finite.{both-left, both-right}
 use Rattle.overload.specs.Overload.{Overload, Judged, Resolved}
 use Rattle.overload.specs.Overload.Judged.{gives, noneFits}
-use Rattle.overload.specs.Rows.{Size, Wrap, Family, formAt, componentAt, typeAt, overload, wrapped, operators, builtins, rows, ofRow}
+use Rattle.overload.specs.Rows.{Size, Wrap, Family, formAt, componentAt, patternTy, overload, wrapped, operators, builtins, rows, ofRow}
 use Rattle.overload.specs.Rows.Wrap.{bare, inFrexp, inModf}
 use Rattle.overload.specs.Code as code
 use Rattle.overload.specs.Code.{shapeOfNo, operand, sizeOfNo, formOfNo, componentOfNo, patternNo, patternOfNo, wrapNo, askedOf, familyOf, familyAt, sizeAt, encode, wordOf, member, firstOf, preference, liftOf, fitsAt, firstX, lastX, formsOf, orNone, outOf, judgedOf}
@@ -52,14 +52,14 @@ module _ (f n : ℕ) (hf : f < 61) (low : wordOf f 8 ≤ n) (high : n ≤ wordOf
 
   -- a number of that shape is the type by the pattern
   pub result-is : (t s : ℕ) → s < 7 → s ≡ pick (eqb (wordOf f 5 % 8) 7) t (wordOf f 5 % 8)
-      → operand (7 * askedOf (wordOf f 5 / 8) n + s) ≡ typeAt (sizeOfNo n) t (familyOf f .result)
+      → operand (7 * askedOf (wordOf f 5 / 8) n + s) ≡ patternTy (sizeOfNo n) t (familyOf f .result)
   result-is t s hs e =
       let k = askedOf (wordOf f 5 / 8) n in
       let q : (7 * k + s) / 7 ≡ k = omega arith in
       let r : (7 * k + s) % 7 ≡ s = omega arith in
       (λ i. made (shapeOfNo (q i)) (r i))
       ∙ (λ i. made (shape-is i) ((e ∙ sym (component-no (wordOf f 5 % 8) t)) i))
-      ∙ ap (typeAt (sizeOfNo n) t) (ap patternOfNo result-word ∙ pattern-back (familyOf f .result) (good f hf .result))
+      ∙ ap (patternTy (sizeOfNo n) t) (ap patternOfNo result-word ∙ pattern-back (familyOf f .result) (good f hf .result))
 
 pub wrap-word : (f : ℕ) → wordOf f 6 ≡ wrapNo (familyOf f .wrap)
 unfolding encode
@@ -163,7 +163,7 @@ module _ (row : ℕ) (xs : List ℕ) (f : ℕ) (e : f ≡ familyAt row (formsOf 
           lift-apart q = none-takes row xs f n at-place (first-is ∙ q)
 
           -- the preferred overload
-          pub preferred : t ≢ none → (o : Out) → outOf o ≡ wrapped (familyOf f .wrap) (typeAt (sizeOfNo n) t (familyOf f .result))
+          pub preferred : t ≢ none → (o : Out) → outOf o ≡ wrapped (familyOf f .wrap) (patternTy (sizeOfNo n) t (familyOf f .result))
               → Resolved (ofRow row) (map operand xs) (judgedOf (Gives o))
           unfolding Resolved judgedOf
           preferred q o r = (overload (familyOf f) t (sizeOfNo n), first-preferred row xs f n at-place t first-is q, r)

@@ -12,7 +12,7 @@ use Rattle.conv.specs.Rank.Shape.{one, vector, matrix, other}
 use Rattle.conv.proofs.Finite.{implies, modus, same, same-eq, below, below₃}
 use Rattle.conv.proofs.Ranks.{join}
 use Rattle.conv.proofs.Made.{shape-made}
-use Rattle.overload.specs.Rows.{Size, Form, Component, Pattern, formAt, componentAt, typeAt}
+use Rattle.overload.specs.Rows.{Size, Form, Component, Pattern, formAt, componentAt, patternTy}
 use Rattle.overload.specs.Rows.Component.{ofT, just}
 use Rattle.overload.specs.Code.{shapeOfNo, shapeNo, operand, sizeOfNo, formOfNo, componentOfNo, patternOfNo, askedOf}
 use Rattle.overload.proofs.Preference.{Sized, smallC, slot-cost}
@@ -65,7 +65,7 @@ by-shape other a p c = refl
 
 module _ (x n t p : ℕ) (hx : x < 256) (hn : n < 41) (h13 : n ≢ 13) (ht : t < 7) (hp : p < 64) where
   -- what the operand x costs at the pattern p
-  pub slot-no : conversionRank (operand x) (typeAt (sizeOfNo n) t (patternOfNo p))
+  pub slot-no : conversionRank (operand x) (patternTy (sizeOfNo n) t (patternOfNo p))
       ≡ pick (eqb (x / 7) (askedOf (p / 8) n)) (rankOf (x % 7) (pick (eqb (p % 8) 7) t (p % 8))) none
   slot-no =
       slot-cost (operand x) (sizeOfNo n) t (patternOfNo p) (sized-no n hn h13) ht (small-no (p % 8) (omega arith))
@@ -74,13 +74,13 @@ module _ (x n t p : ℕ) (hx : x < 256) (hn : n < 41) (h13 : n ≢ 13) (ht : t <
       ∙ ap (λ (b : Bool). pick b (rankOf (x % 7) (pick (eqb (p % 8) 7) t (p % 8))) none) (shape-test (p / 8) n (x / 7) (omega arith) hn (omega arith))
 
   -- the four ways of a parameter
-  pub slot-apart : x / 7 ≢ askedOf (p / 8) n → converts (operand x) (typeAt (sizeOfNo n) t (patternOfNo p)) ≡ false
+  pub slot-apart : x / 7 ≢ askedOf (p / 8) n → converts (operand x) (patternTy (sizeOfNo n) t (patternOfNo p)) ≡ false
   slot-apart h = rw (slot-no, ne-eqb (x / 7) (askedOf (p / 8) n) h)
 
-  pub slot-T : x / 7 ≡ askedOf (p / 8) n → p % 8 ≡ 7 → converts (operand x) (typeAt (sizeOfNo n) t (patternOfNo p)) ≡ ltb (rankOf (x % 7) t) none
+  pub slot-T : x / 7 ≡ askedOf (p / 8) n → p % 8 ≡ 7 → converts (operand x) (patternTy (sizeOfNo n) t (patternOfNo p)) ≡ ltb (rankOf (x % 7) t) none
   slot-T h k = rw (slot-no, eq-eqb (x / 7) (askedOf (p / 8) n) h, eq-eqb (p % 8) 7 k)
 
-  pub slot-fixed : x / 7 ≡ askedOf (p / 8) n → p % 8 ≢ 7 → converts (operand x) (typeAt (sizeOfNo n) t (patternOfNo p)) ≡ ltb (rankOf (x % 7) (p % 8)) none
+  pub slot-fixed : x / 7 ≡ askedOf (p / 8) n → p % 8 ≢ 7 → converts (operand x) (patternTy (sizeOfNo n) t (patternOfNo p)) ≡ ltb (rankOf (x % 7) (p % 8)) none
   slot-fixed h k = rw (slot-no, eq-eqb (x / 7) (askedOf (p / 8) n) h, ne-eqb (p % 8) 7 k)
 
 -- THE STEP OF A JOIN: r is the join of j and of the operand x at a parameter

@@ -12,7 +12,7 @@ use Rattle.conv.specs.Rank.{pick, both, none, rankOf, Shape, formOf, columnsOf,
 use Rattle.conv.specs.Rank.Shape.{one, vector, matrix, other}
 use Rattle.overload.specs.Overload.{or, fits, Judged}
 use Rattle.overload.specs.Overload.Judged.{gives, noneFits, nonePreferred}
-use Rattle.overload.specs.Rows.{Size, size, Form, Component, Pattern, Wrap, Family, formAt, typeAt, float, integer, numeric, signed, bits, only, N, rows}
+use Rattle.overload.specs.Rows.{Size, size, Form, Component, Pattern, Wrap, Family, formAt, patternTy, float, integer, numeric, signed, bits, only, N, rows}
 use Rattle.overload.specs.Rows.Form.{sized, single, vecC, vecR, left, right, turned, square}
 use Rattle.overload.specs.Rows.Component.{ofT, just}
 use Rattle.overload.specs.Rows.Wrap.{bare, inFrexp, inModf}
@@ -180,7 +180,7 @@ liftOf set s = firstOf preference (λ t. both (member t set) (ltb (rankOf s t) n
 
 -- do the operands xs fit a family at a size and a T?
 abbrev pub fitsAt : ℕ → ℕ → ℕ → List ℕ → Bool
-fitsAt f n t xs = fits (map (typeAt (sizeOfNo n) t) (familyOf f .params)) (map operand xs)
+fitsAt f n t xs = fits (map (patternTy (sizeOfNo n) t) (familyOf f .params)) (map operand xs)
 
 -- the first and the last of the operands, and the forms of both: 3 times that of the first, plus that of the last
 abbrev pub firstX : List ℕ → ℕ

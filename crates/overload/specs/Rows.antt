@@ -83,8 +83,8 @@ pub record Pattern : Type 0 where
   pub of : Component
 
 -- the type of a pattern at a size and a T
-abbrev pub typeAt : Size → ℕ → Pattern → Ty
-typeAt z t p = made (formAt (p .form) z) (componentAt (p .of) t)
+abbrev pub patternTy : Size → ℕ → Pattern → Ty
+patternTy z t p = made (formAt (p .form) z) (componentAt (p .of) t)
 
 -- a result is a type by pattern, or the result type of frexp or of modf over one
 pub data Wrap : Type 0 where
@@ -105,7 +105,7 @@ pub record Family : Type 0 where
   pub result : Pattern
 
 abbrev pub overload : Family → ℕ → Size → Overload
-overload f t z = record { params = map (typeAt z t) (f .params); result = wrapped (f .wrap) (typeAt z t (f .result)) }
+overload f t z = record { params = map (patternTy z t) (f .params); result = wrapped (f .wrap) (patternTy z t (f .result)) }
 
 -- in the order of T's number, then of width, or columns and rows
 

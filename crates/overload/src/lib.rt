@@ -11,7 +11,7 @@ ghost use lib.ListN.{length};
 ghost use lib.Dec.{eqb};
 ghost use Rattle.conv.specs.Rank.{pick, both, none, converts, formOf, accepts};
 ghost use Rattle.overload.specs.Overload.{Resolved};
-ghost use Rattle.overload.specs.Rows.{ofRow, typeAt, wrapped, judgeRow};
+ghost use Rattle.overload.specs.Rows.{ofRow, patternTy, wrapped, judgeRow};
 ghost use Rattle.overload.specs.Code.{shapeOfNo, operand, sizeOfNo, patternOfNo, askedOf, familyOf, wordOf, sizeAt, fitsAt, formsOf, familyAt, orNone, Word, Starts, outOf, judgedOf};
 
 // How many rows there are.
@@ -124,7 +124,7 @@ fn common(n: u8, j: u8, s: u8) -> u8
 // One parameter: the scalar that is joined so far, with the operand x at the pattern p. Equal scalars need no table.
 fn join_slot(p: u8, n: u8, starts: u64, j: u8, x: u8) -> u8
     requires { ⌜ (p < 64) × (n < 41) × (n ≢ 13) × Starts n starts × (askedOf (p / 8) n < 13) × (j < 7) ⌝ }
-    ensures { λ r. ⌜ ((r ≡ 255) ⊎ (r < 7)) × ((t : ℕ) → t < 7 → accepts r t ≡ both (accepts j t) (converts (operand x) (typeAt (sizeOfNo n) t (patternOfNo p)))) ⌝ }
+    ensures { λ r. ⌜ ((r ≡ 255) ⊎ (r < 7)) × ((t : ℕ) → t < 7 → accepts r t ≡ both (accepts j t) (converts (operand x) (patternTy (sizeOfNo n) t (patternOfNo p)))) ⌝ }
 {
     let s = component(p, n, starts, x);
     if s == NONE {
@@ -169,7 +169,7 @@ fn join(f: u8, w: u64, n: u8, starts: u64, xs: &[u8]) -> u8
 // The number of a family's result at a size and a T.
 fn result_of(f: u8, w: u64, n: u8, starts: u64, t: u8) -> u8
     requires { ⌜ (f < 61) × Word f w × (wordOf f 8 ≤ n) × (n ≤ wordOf f 9) × Starts n starts × (t < 7) ⌝ }
-    ensures { λ r. ⌜ operand r ≡ typeAt (sizeOfNo n) t (familyOf f .result) ⌝ }
+    ensures { λ r. ⌜ operand r ≡ patternTy (sizeOfNo n) t (familyOf f .result) ⌝ }
 {
     let p = tables::word(f, w, RESULT);
     let start = tables::start(p, n, starts);
@@ -183,7 +183,7 @@ fn result_of(f: u8, w: u64, n: u8, starts: u64, t: u8) -> u8
 // The result type of a family at a size and a T.
 fn out_of(f: u8, w: u64, n: u8, starts: u64, t: u8) -> Out
     requires { ⌜ (f < 61) × Word f w × (wordOf f 8 ≤ n) × (n ≤ wordOf f 9) × Starts n starts × (t < 7) ⌝ }
-    ensures { λ r. ⌜ outOf r ≡ wrapped (familyOf f .wrap) (typeAt (sizeOfNo n) t (familyOf f .result)) ⌝ }
+    ensures { λ r. ⌜ outOf r ≡ wrapped (familyOf f .wrap) (patternTy (sizeOfNo n) t (familyOf f .result)) ⌝ }
 {
     let x = result_of(f, w, n, starts, t);
     let wrap = tables::word(f, w, WRAP);

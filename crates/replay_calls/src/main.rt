@@ -245,6 +245,7 @@ fn replay(words: &mut [u32], s: &[u8]) {
 fn main() {
     let mut buffer = io::large_buffer();
     let n = io::read_full(0, &mut buffer);
-    let mut words = vectors::scalars();
+    let mut words = [0u32; 256];
+    entering::put_scalars(&mut words);
     replay(&mut words, &buffer[..n]);
 }

@@ -62,7 +62,8 @@ fn replay(words: &mut [u32], s: &[u8]) -> u64 {
 fn main() {
     let mut buffer = io::large_buffer();
     let n = io::read_full(0, &mut buffer);
-    let mut words = vectors::scalars();
+    let mut words = [0u32; 256];
+    entering::put_scalars(&mut words);
     let agreed = replay(&mut words, &buffer[..n]);
     io::write_all(1, b"operators: ");
     io::print_decimal(1, agreed);

@@ -212,9 +212,7 @@ fn clear(words: &mut [u32]) {
 fn scalars(words: &mut [u32], filled: usize) {
     if filled == 1 {
         if 28 <= words.len() {
-            for i in 0..7 {
-                words[4 * i] = i as u32;
-            }
+            entering::put_scalars(words);
         }
     }
 }

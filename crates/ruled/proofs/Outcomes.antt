@@ -13,7 +13,7 @@ use Rattle.overload.proofs.Operands.{and-left, and-right}
 use Rattle.table.specs.Table.{scalars, kindVec, kindMat, kindFrexp, kindModf, allowedb, Sound}
 use Rattle.table.specs.Denote.{made, typeAt, tyOf, kindOf, pOf, qOf}
 use Rattle.table.specs.Enter.{entered, enterWords, EnterDone, enteredTwo, enterTwoWords, EnterTwoDone, container, entryAnswer}
-use Rattle.answer.specs.Answer.{Turned}
+use Rattle.answer.specs.Answer.{RefusedWith}
 use Rattle.answer.specs.declared.Reason.{Reason}
 use Rattle.answer.specs.declared.Place.{Place}
 use Rattle.table.specs.Placing.{turnedDown, Outcome, Gave, entering, entryOf}
@@ -26,6 +26,7 @@ use Rattle.table.proofs.FormedLaws.{clean}
 use Rattle.table.proofs.EnterLaws.{allow, allow-vec, allow-mat, ty-made}
 use Rattle.table.proofs.EnterTwoLaws.{holder}
 use Rattle.table.proofs.PlacingLaws.{enter-outcome, enter-two-outcome, standing-outcome}
+use Rattle.table.proofs.Giving.{gave}
 use Rattle.ruled.specs.Result.{vecEntry, matEntry, resultEntry, ResultDone, PlainDone}
 use Rattle.ruled.proofs.Codes.{operand-scalar, operand-vec, operand-mat, operand-other}
 
@@ -176,11 +177,11 @@ module _ (w : List ℕ) (n x : ℕ) where
 
 -- an outcome in its two parts
 pub gave-from : {x r : Answer} {v : List ℕ} {o p : Outcome} → r ≡ x → record { answer = x; words = v } ≡ o → o ≡ p → Gave p r v
-gave-from e q h = record { reply = e ∙ ap (λ (o : Outcome). o .answer) (q ∙ h); words = ap (λ (o : Outcome). o .words) (q ∙ h) }
+gave-from e q h = gave (e ∙ ap (λ (o : Outcome). o .answer) (q ∙ h)) (ap (λ (o : Outcome). o .words) (q ∙ h))
 
 pub gave-as : {r : Answer} {v : List ℕ} {o p : Outcome} → o ≡ p → Gave o r v → Gave p r v
-gave-as h g = record { reply = g .reply ∙ ap (λ (o : Outcome). o .answer) h; words = g .words ∙ ap (λ (o : Outcome). o .words) h }
+gave-as h g = gave (g .reply ∙ ap (λ (o : Outcome). o .answer) h) (g .words ∙ ap (λ (o : Outcome). o .words) h)
 
 -- a refusal
-pub gave-refused : (reason : Reason) (place : Place) {r : Answer} (w : List ℕ) (n : ℕ) → Turned reason place n r → Gave (turnedDown reason (place .0) w n) r w
-gave-refused reason place w n t = record { reply = t .made; words = refl }
+pub gave-refused : (reason : Reason) (place : Place) {r : Answer} (w : List ℕ) (n : ℕ) → RefusedWith reason place n r → Gave (turnedDown reason (place .0) w n) r w
+gave-refused reason place w n t = gave (t .made) refl

@@ -12,7 +12,7 @@ use borrow.Author.Tests.{lt-ltb, le-leb}
 use Rattle.table.specs.Table.{soundb, allowedb}
 use Rattle.table.specs.Denote.{typeAt, tyOf}
 use Rattle.table.specs.Enter.{entered, enterWords, enterTypeReply, enterTypeWords}
-use Rattle.table.specs.Placing.{Outcome, entering}
+use Rattle.table.specs.Placing.{Outcome, entering, enterType}
 use Rattle.table.specs.declared.Entry.{Entry}
 use Rattle.table.specs.declared.Entered.{Entered}
 use Rattle.table.specs.declared.Entered.the-variants.{There, Full}
@@ -24,9 +24,10 @@ use Rattle.ops_ty.specs.Ops.{unaryOutcome, binaryOutcome, typeUnaryOp, typeBina
 use Rattle.call_ty.specs.Calls.{callOutcome, allUnder, typeBuiltinFn}
 use Rattle.call_ty.specs.Codes.{Under}
 use Rattle.call_ty.proofs.Lists.{under-all}
-use Rattle.step.specs.Effect.{most, State, height, operands, below, numberOf, stop, onto, calling, unaryEffect, binaryEffect, callEffect, templateEffect, takeEffect}
+use Rattle.held.specs.Held.{numberOf}
+use Rattle.step.specs.Effect.{most, State, height, operands, below, stop, onto, calling, unaryEffect, binaryEffect, callEffect, templateEffect, takeEffect}
 use Rattle.step.specs.Code.{Good}
-use Rattle.sheet.specs.Single.{moved, enterType}
+use Rattle.sheet.specs.Single.{moved}
 use Rattle.step.proofs.StackLaws.{under-drop}
 use Rattle.sheet.proofs.Moving.{entering-moved, unary-moved, binary-moved, call-moved}
 

@@ -27,8 +27,10 @@ use Rattle.answer.specs.declared.Answer.{Answer}
 use Rattle.answer.specs.declared.Answer.the-variants.{Value, NoValue, Refused}
 use Rattle.table.proofs.TypeLaws.{type-keeps}
 use Rattle.table.proofs.PlacingLaws.{standing-outcome}
+use Rattle.table.proofs.Giving.{gave-whole}
 use Rattle.table.proofs.Demand1.{entering-stands}
 use Rattle.table.proofs.KindLaws.{split}
+use Rattle.table.proofs.SlotLaws.{zeros, zero-at}
 use Rattle.table.proofs.SoundLaws.{and-left, and-right}
 use Rattle.ruled.specs.Call.{anyReference, judgedOutcome, ruledOutcome}
 use Rattle.ruled.proofs.Demands.{Kept}
@@ -208,7 +210,7 @@ module _ (place : Place) (count : ℕ) (vals : List ℕ) (used : ℕ) (w : List 
   standing : (t : ℕ) → t < used → (o : Outcome) → o ≡ entering (place .0) w used (typeAt w t) → Gave o (accept t used) w
   standing t h o e =
       let q = e ∙ standing-outcome (place .0) w used sound t (typeAt w t) h refl in
-      record { reply = sym (ap (λ (x : Outcome). x .answer) q); words = sym (ap (λ (x : Outcome). x .words) q) }
+      gave-whole (sym q)
 
   pub binary-values : 2 ≤ count → (getD vals (count - 2) 0 < 256) × (getD vals (count - 2 + 1) 0 < 256)
   binary-values h = (small (count - 2) (omega arith), small (count - 2 + 1) (omega arith))
@@ -521,15 +523,5 @@ neither true b h = impossible (cc)
 neither false b h = (refl, h)
 
 -- a memo of empty slots, which a test finds
-unfoldable pub zeros : List ℕ → Bool
-zeros [] = true
-zeros (x ∷ xs) = eqb x 0 && zeros xs
-
-zero-at : (l : List ℕ) → zeros l ≡ true → (i : ℕ) → getD l i 0 ≡ 0
-unfolding zeros
-zero-at [] h i = refl
-zero-at (x ∷ xs) h zero = eqb-true x 0 (and-left (eqb x 0) _ h)
-zero-at (x ∷ xs) h (suc i) = zero-at xs (and-right (eqb x 0) _ h) i
-
 pub recalls-none : (memo w : List ℕ) (n : ℕ) → length memo ≡ slots → zeros memo ≡ true → Recalls memo w n
 recalls-none memo w n l z = record { size = l; holds = λ i h. rw (zero-at memo z i) (holds-none w n) }

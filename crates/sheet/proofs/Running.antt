@@ -8,6 +8,7 @@ use native.Mathlib.Omega.{arith}
 use lib.ListN.{length, take}
 use Rattle.table.specs.Table.{soundb, Sound}
 use Rattle.table.specs.Placing.{Outcome, Gave, turnedDown}
+use Rattle.table.proofs.Giving.{gave-whole}
 use Rattle.answer.specs.declared.Reason.the-variants.{Unsound, Framing}
 use Rattle.answer.specs.declared.Place.{Place}
 use Rattle.answer.specs.declared.Answer.{Answer}
@@ -134,7 +135,7 @@ module _ (s w₀ : List ℕ) (n₀ : ℕ) (w vals : List ℕ) (count n at : ℕ)
     left-done a t =
         let o : Outcome = record { answer = a; words = w' } in
         let r = sym (run-done s at st o (sym (t .turned))) ∙ l .rest in
-        record { reply = ap (λ (y : Outcome). y .answer) r; words = ap (λ (y : Outcome). y .words) r }
+        gave-whole r
 
 -- QUICK ITEMS: one more leaves the rest as it was
 

@@ -12,7 +12,8 @@ use Rattle.answer.specs.declared.Answer.{Answer}
 use Rattle.answer.specs.declared.Answer.the-variants.{NoValue, Refused}
 use Rattle.frame.specs.Frame.{version, headerSize, headerOk, itemsFrom}
 use Rattle.frame.specs.declared.Placed.{Placed}
-use Rattle.step.specs.Effect.{numberOf, State, height, Effect, goes, silent, ends, stops, effectOf}
+use Rattle.held.specs.Held.{numberOf}
+use Rattle.step.specs.Effect.{State, height, Effect, goes, silent, ends, stops, effectOf}
 
 -- what a turn of the machine comes to: the state in which it goes on, or the sheet's outcome
 pub data Turned : Type 0 where

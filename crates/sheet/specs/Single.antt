@@ -1,9 +1,6 @@
 -- The outcome of a single call, taken at an item's place: "Single calls have place 0". Assumes nothing.
 use Prim.Native.Nat.{ℕ}
-use mathlib.Core.List.{List}
-use Rattle.table.specs.Enter.{enterTypeReply, enterTypeWords}
 use Rattle.table.specs.Placing.{Outcome}
-use Rattle.table.specs.declared.Entry.{Entry}
 use Rattle.answer.specs.declared.Answer.{Answer}
 use Rattle.answer.specs.declared.Answer.the-variants.{Value, NoValue, Refused}
 
@@ -16,7 +13,3 @@ placing place (Refused r) = Refused (record { reason = r .reason; place = record
 -- an outcome with its refusal at a place: the words are the same
 abbrev pub moved : ℕ → Outcome → Outcome
 moved place o = record { answer = placing place (o .answer); words = o .words }
-
--- what a host gets that enters a type
-abbrev pub enterType : List ℕ → ℕ → Entry → Outcome
-enterType w n e = record { answer = enterTypeReply w n e; words = enterTypeWords w n e }

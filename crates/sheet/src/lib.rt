@@ -77,7 +77,7 @@ fn finish(size: usize, stack: &[u32], count: usize, used: usize) -> Answer
     ensures { λ r. ⌜ r ≡ endAnswer size (take count (now (stack .entry))) used ⌝ }
 {
     if count == 1 {
-        return table::accepted(step::number(stack[0]), used);
+        return table::accepted(held::number(stack[0]), used);
     }
     table::refused(Reason::Stack, Place(size), used)
 }
@@ -240,7 +240,7 @@ fn quick_push(x: u32, stack: &mut [u32], count: usize, table: &[u32], used: usiz
     if (used <= t.0) | (VALUES <= count) {
         return 0;
     }
-    stack[count] = step::value(t);
+    stack[count] = held::value(t);
     count + 1
 }
 

@@ -17,8 +17,9 @@ use Rattle.table.proofs.SoundLaws.{and-left, and-right}
 use Rattle.table.proofs.KindLaws.{split, clash, by-kind, innermost, fract-kind}
 use Rattle.table.proofs.TypeLaws.{type-scalar, row-at, scalar-key, kind-above, type-words, kind-of, type-vec, type-mat, type-array, type-runtime, type-atomic, type-ptr, type-ref, type-frexp, type-modf}
 use Rattle.table.proofs.FormedLaws.{formed-at}
-use Rattle.spell.specs.Spell.{ascii, scalarNames, spaceNames, accessNames, named, decimal, fractScalar, fractName, spelling}
-use Rattle.spell.specs.Parts.{headNames, textOf, headOf, opening, lastOf, closing, argsOf, fractText, fractOf}
+use Rattle.text.specs.Text.{ascii, decimal}
+use Rattle.spell.specs.Spell.{scalarNames, spaceNames, accessNames, named, fractScalar, fractName, spelling}
+use Rattle.spell.specs.Parts.{headNames, textOf, headText, opening, lastOf, closing, argsOf, fractText, fractPart}
 use Rattle.spell.proofs.Rows.{vec-row, mat-row, atomic-row, ptr-row, ref-row}
 
 -- the parts of the table of texts
@@ -54,59 +55,59 @@ space-group h o s c t d a g = simp append-assoc
 
 module _ (e : Entry) where
   abbrev Args : Ty → List ℕ
-  Args t = headOf e ++ (opening e ++ spelling t ++ closing e)
+  Args t = headText e ++ (opening e ++ spelling t ++ closing e)
 
   on-vec : e .kind ≡ 7 → spelling (vec (e .p) (e .elem)) ≡ Args (scalar (e .elem))
-  unfolding spelling headOf opening lastOf closing textOf named ascii
+  unfolding spelling headText opening lastOf closing textOf named ascii
   on-vec h = rw h (simp append-assoc)
 
   on-mat : e .kind ≡ 8 → spelling (mat (e .p) (e .q) (e .elem)) ≡ Args (scalar (e .elem))
-  unfolding spelling headOf opening lastOf closing textOf named ascii
+  unfolding spelling headText opening lastOf closing textOf named ascii
   on-mat h = rw h (mat-group (ascii "mat") (decimal (e .p)) (ascii "x") (decimal (e .q)) (ascii "<") (named scalarNames (e .elem)) (ascii ">"))
 
   on-atomic : e .kind ≡ 11 → spelling (atomic (e .elem)) ≡ Args (scalar (e .elem))
-  unfolding spelling headOf opening lastOf closing textOf named ascii
+  unfolding spelling headText opening lastOf closing textOf named ascii
   on-atomic h = rw h (simp append-assoc)
 
   module _ (t : Ty) where
     on-array : e .kind ≡ 9 → spelling (array (e .p) t) ≡ Args t
-    unfolding spelling headOf opening lastOf closing textOf named ascii
+    unfolding spelling headText opening lastOf closing textOf named ascii
     on-array h = rw h (simp append-assoc)
 
     on-runtime : e .kind ≡ 10 → spelling (runtime t) ≡ Args t
-    unfolding spelling headOf opening lastOf closing textOf named ascii
+    unfolding spelling headText opening lastOf closing textOf named ascii
     on-runtime h = rw h (simp append-assoc)
 
     on-ptr : e .kind ≡ 12 → e .p < 6 → e .q < 3 → spelling (ptr (e .p) (e .q) t) ≡ Args t
-    unfolding spelling headOf opening lastOf closing textOf named ascii
+    unfolding spelling headText opening lastOf closing textOf named ascii
     on-ptr h p q =
         rw (h, text-space (e .p) p, text-access (e .q) q)
         (space-group (ascii "ptr") (ascii "<") (named spaceNames (e .p)) (ascii ",") (spelling t) (ascii ",") (named accessNames (e .q)) (ascii ">"))
 
     on-ref : e .kind ≡ 13 → e .p < 6 → e .q < 3 → spelling (ref (e .p) (e .q) t) ≡ Args t
-    unfolding spelling headOf opening lastOf closing textOf named ascii
+    unfolding spelling headText opening lastOf closing textOf named ascii
     on-ref h p q =
         rw (h, text-space (e .p) p, text-access (e .q) q)
         (space-group (ascii "ref") (ascii "<") (named spaceNames (e .p)) (ascii ",") (spelling t) (ascii ",") (named accessNames (e .q)) (ascii ">"))
 
-    on-frexp : e .kind ≡ 14 → spelling (frexp t) ≡ headOf e ++ fractName t
-    unfolding spelling headOf textOf named
+    on-frexp : e .kind ≡ 14 → spelling (frexp t) ≡ headText e ++ fractName t
+    unfolding spelling headText textOf named
     on-frexp h = rw h
 
-    on-modf : e .kind ≡ 15 → spelling (modf t) ≡ headOf e ++ fractName t
-    unfolding spelling headOf textOf named
+    on-modf : e .kind ≡ 15 → spelling (modf t) ≡ headText e ++ fractName t
+    unfolding spelling headText textOf named
     on-modf h = rw h
 
-  on-scalar : e .kind < 7 → spelling (scalar (e .kind)) ≡ headOf e
-  unfolding spelling headOf
+  on-scalar : e .kind < 7 → spelling (scalar (e .kind)) ≡ headText e
+  unfolding spelling headText
   on-scalar h = rw (ne-eqb (e .kind) 7 (λ q. omega arith), ne-eqb (e .kind) 8 (λ q. omega arith), text-scalar (e .kind) h)
 
-  fract-on-scalar : e .kind < 7 → fractName (scalar (e .kind)) ≡ fractOf e
-  unfolding fractName fractOf
+  fract-on-scalar : e .kind < 7 → fractName (scalar (e .kind)) ≡ fractPart e
+  unfolding fractName fractPart
   fract-on-scalar h = rw (ne-eqb (e .kind) 7 (λ q. omega arith), fract-text (e .kind) h)
 
-  fract-on-vec : e .kind ≡ 7 → e .elem < 7 → fractName (vec (e .p) (e .elem)) ≡ fractOf e
-  unfolding fractName fractOf headOf textOf named
+  fract-on-vec : e .kind ≡ 7 → e .elem < 7 → fractName (vec (e .p) (e .elem)) ≡ fractPart e
+  unfolding fractName fractPart headText textOf named
   fract-on-vec h l = rw (h, fract-text (e .elem) l)
 
 -- any other kind has no row
@@ -125,7 +126,7 @@ module _ (w : List ℕ) (n : ℕ) (s : Sound w n) where
       (λ b. absurd (omega (arith, type-words w n s i (ltb-false i 7 b) l .high)))
 
   -- what `fract` is, in a result type's name
-  fract-is : (i : ℕ) → i < n → isFract (typeAt w i) ≡ true → fractName (typeAt w i) ≡ fractOf (entryAt w i)
+  fract-is : (i : ℕ) → i < n → isFract (typeAt w i) ≡ true → fractName (typeAt w i) ≡ fractPart (entryAt w i)
   fract-is i l f =
       split (ltb (entryAt w i .kind) 7)
       (λ b. let h = ltb-true (entryAt w i .kind) 7 b in ap fractName (scalar-is i l h) ∙ fract-on-scalar (entryAt w i) h)
@@ -140,11 +141,11 @@ module _ (w : List ℕ) (n : ℕ) (s : Sound w n) where
   under i l h = let a = kind-above w n s i l h in (a, row-at w n s i a l .0)
 
   -- a scalar: its name alone
-  pub alone : (i : ℕ) → i < n → entryAt w i .kind < 7 → spelling (typeAt w i) ≡ headOf (entryAt w i)
+  pub alone : (i : ℕ) → i < n → entryAt w i .kind < 7 → spelling (typeAt w i) ≡ headText (entryAt w i)
   alone i l h = ap spelling (scalar-is i l h) ∙ on-scalar (entryAt w i) h
 
   -- a head, then its arguments
-  pub with-args : (i : ℕ) → i < n → 7 ≤ entryAt w i .kind → entryAt w i .kind < 14 → spelling (typeAt w i) ≡ headOf (entryAt w i) ++ argsOf w i
+  pub with-args : (i : ℕ) → i < n → 7 ≤ entryAt w i .kind → entryAt w i .kind < 14 → spelling (typeAt w i) ≡ headText (entryAt w i) ++ argsOf w i
   with-args i l lo hi =
       by-kind (e .kind)
       (λ h. let t = type-vec w n s i l h in rw (t, type-scalar w (e .elem) (vec-row _ _ (rw t at f))) (on-vec e h))
@@ -165,7 +166,7 @@ module _ (w : List ℕ) (n : ℕ) (s : Sound w n) where
       f = formed-at w n s i l
 
   -- a result type: its name alone
-  pub with-result : (i : ℕ) → i < n → 14 ≤ entryAt w i .kind → spelling (typeAt w i) ≡ headOf (entryAt w i) ++ fractOf (entryAt w (entryAt w i .elem))
+  pub with-result : (i : ℕ) → i < n → 14 ≤ entryAt w i .kind → spelling (typeAt w i) ≡ headText (entryAt w i) ++ fractPart (entryAt w (entryAt w i .elem))
   unfolding formed
   with-result i l lo =
       by-kind (e .kind)
@@ -189,5 +190,5 @@ module _ (w : List ℕ) (n : ℕ) (s : Sound w n) where
       f : formed (typeAt w i) ≡ true
       f = formed-at w n s i l
 
-      fract : isFract (typeAt w (e .elem)) ≡ true → headOf e ++ fractName (typeAt w (e .elem)) ≡ headOf e ++ fractOf (entryAt w (e .elem))
-      fract q = ap (λ (x : List ℕ). headOf e ++ x) (fract-is (e .elem) (omega (arith, z .1)) q)
+      fract : isFract (typeAt w (e .elem)) ≡ true → headText e ++ fractName (typeAt w (e .elem)) ≡ headText e ++ fractPart (entryAt w (e .elem))
+      fract q = ap (λ (x : List ℕ). headText e ++ x) (fract-is (e .elem) (omega (arith, z .1)) q)

@@ -2,7 +2,8 @@
 use mathlib.Core.Path.{_≡_, refl}
 use Rattle.conv.specs.Types.{abstractInt, abstractFloat, i32, u32, f32, f16, storage, handle, read, write}
 use Rattle.conv.specs.Types.Ty.{scalar, vec, mat, array, runtime, atomic, ptr, ref, frexp, modf}
-use Rattle.spell.specs.Spell.{ascii, named, decimalBy, decimal, fractScalar, fractName, spelling}
+use Rattle.text.specs.Text.{ascii, decimalBy, decimal}
+use Rattle.spell.specs.Spell.{named, fractScalar, fractName, spelling}
 
 pub written-out :
     (spelling (scalar abstractInt) ≡ ascii "AbstractInt") ×

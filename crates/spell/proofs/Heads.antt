@@ -8,21 +8,22 @@ use lib.ListN.{length, length-append}
 use lib.Dec.{eqb}
 use borrow.Author.Tests.{eq-eqb, ne-eqb}
 use Rattle.table.specs.declared.Entry.{Entry}
-use Rattle.spell.specs.Spell.{ascii, decimal}
-use Rattle.spell.specs.Parts.{textOf, headOf, opening, lastOf, closing, fractText, fractOf}
-use Rattle.spell.proofs.Texts.{text-long, dec-long}
+use Rattle.text.specs.Text.{ascii, decimal}
+use Rattle.spell.specs.Parts.{textOf, headText, opening, lastOf, closing, fractText, fractPart}
+use Rattle.text.proofs.Decimals.{dec-long}
+use Rattle.spell.proofs.Texts.{text-long}
 
 module _ (e : Entry) where
-  pub head-vec : e .kind ≡ 7 → headOf e ≡ textOf (e .kind) ++ decimal (e .p)
-  unfolding headOf
+  pub head-vec : e .kind ≡ 7 → headText e ≡ textOf (e .kind) ++ decimal (e .p)
+  unfolding headText
   head-vec h = rw (eq-eqb _ 7 h)
 
-  pub head-mat : e .kind ≡ 8 → headOf e ≡ textOf (e .kind) ++ decimal (e .p) ++ (120 ∷ []) ++ decimal (e .q)
-  unfolding headOf ascii
+  pub head-mat : e .kind ≡ 8 → headText e ≡ textOf (e .kind) ++ decimal (e .p) ++ (120 ∷ []) ++ decimal (e .q)
+  unfolding headText ascii
   head-mat h = rw h
 
-  pub head-plain : (e .kind ≡ 7 → ⊥) → (e .kind ≡ 8 → ⊥) → headOf e ≡ textOf (e .kind)
-  unfolding headOf
+  pub head-plain : (e .kind ≡ 7 → ⊥) → (e .kind ≡ 8 → ⊥) → headText e ≡ textOf (e .kind)
+  unfolding headText
   head-plain h k = rw (ne-eqb _ 7 h, ne-eqb _ 8 k)
 
   pub opening-space : (eqb (e .kind) 12 || eqb (e .kind) 13) ≡ true → opening e ≡ (60 ∷ []) ++ textOf (16 + e .p) ++ (44 ∷ [])
@@ -45,12 +46,12 @@ module _ (e : Entry) where
   unfolding lastOf
   last-none h k = rw (ne-eqb _ 9 h, k)
 
-  pub fract-vec : e .kind ≡ 7 → fractOf e ≡ headOf e ++ (95 ∷ []) ++ fractText (e .elem)
-  unfolding fractOf ascii
+  pub fract-vec : e .kind ≡ 7 → fractPart e ≡ headText e ++ (95 ∷ []) ++ fractText (e .elem)
+  unfolding fractPart ascii
   fract-vec h = rw (eq-eqb _ 7 h)
 
-  pub fract-scalar : (e .kind ≡ 7 → ⊥) → fractOf e ≡ fractText (e .kind)
-  unfolding fractOf
+  pub fract-scalar : (e .kind ≡ 7 → ⊥) → fractPart e ≡ fractText (e .kind)
+  unfolding fractPart
   fract-scalar h = rw (ne-eqb _ 7 h)
 
 pub fract-abstract : (s : ℕ) → s ≡ 2 → fractText s ≡ textOf 25
@@ -68,8 +69,8 @@ either true x y m h k = h
 either false x y m h k = k
 
 module _ (e : Entry) where
-  pub head-long : length (headOf e) ≤ 20 + e .p + e .q
-  unfolding headOf ascii
+  pub head-long : length (headText e) ≤ 20 + e .p + e .q
+  unfolding headText ascii
   head-long =
       either (eqb (e .kind) 7) _ _ _ (simp length-append (omega (arith, text-long (e .kind), dec-long (e .p))))
       (either (eqb (e .kind) 8) _ _ _ (simp length-append (omega (arith, text-long (e .kind), dec-long (e .p), dec-long (e .q)))) (omega (arith, text-long (e .kind))))
@@ -92,7 +93,7 @@ fract-text-long : (s : ℕ) → length (fractText s) ≤ 15
 unfolding fractText
 fract-text-long s = either (eqb s 2) _ _ _ (text-long 25) (text-long s)
 
-pub fract-long : (e : Entry) → length (fractOf e) ≤ 40 + e .p + e .q
-unfolding fractOf ascii
+pub fract-long : (e : Entry) → length (fractPart e) ≤ 40 + e .p + e .q
+unfolding fractPart ascii
 fract-long e =
     either (eqb (e .kind) 7) _ _ _ (simp length-append (omega (arith, head-long e, fract-text-long (e .elem)))) (omega (arith, fract-text-long (e .kind)))

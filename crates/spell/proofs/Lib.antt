@@ -4,8 +4,8 @@ pub mod Words
 pub mod Reading
 pub mod Apart
 pub mod Texts
-pub mod Puts
 pub mod Heads
 pub mod Entries
 pub mod Outcomes
+pub mod Short
 pub mod OneReply

@@ -1,5 +1,5 @@
--- No second reply, and no other bytes afterwards, meet the promise of `spell` and `spell_in`, or of `put_byte`, `put_number` and `spell_type`; and
--- document 01's numbers tell replies apart. Assumes nothing.
+-- No second reply, and no other bytes afterwards, meet the promise of `spell` and `spell_in` (of `spell_type`: `one-put` of `text`); and document 01's
+-- numbers tell replies apart. Assumes nothing.
 use Prim.Native.Nat.{ℕ}
 use mathlib.Core.Path.{_≡_, sym, _∙_, ap}
 use mathlib.Core.List.{List, [], _∷_}
@@ -8,27 +8,23 @@ use Rattle.answer.specs.declared.TypeNo.{TypeNo}
 use Rattle.answer.proofs.AnswerLaws.{reason-injective}
 use Rattle.spell.specs.declared.Spelled.{Spelled}
 use Rattle.spell.specs.declared.Spelled.the-variants.{Length, Refused}
-use Rattle.spell.specs.Parts.{Put}
-use Rattle.spell.specs.Reply.{Numbers, spelledNumbers, SpellDone}
+use Rattle.spell.specs.Reply.{ReplyNumbers, spelledNumbers, SpellDone}
 
 pub one-reply : {w : List ℕ} {n : ℕ} {t : TypeNo} {out : List ℕ} {r s : Spelled} {u v : List ℕ} →
     SpellDone w n t out r u → SpellDone w n t out s v → (r ≡ s) × (u ≡ v)
 one-reply a b = (a .reply ∙ sym (b .reply), a .bytes ∙ sym (b .bytes))
-
-pub one-put : {d : List ℕ} {at : ℕ} {s : List ℕ} {r q : ℕ} {u v : List ℕ} → Put d at s r u → Put d at s q v → (r ≡ q) × (u ≡ v)
-one-put a b = (a .place ∙ sym (b .place), a .bytes ∙ sym (b .bytes))
 
 one-two : {P : Type 0} (a b c : ℕ) → a ∷ [] ≡ b ∷ c ∷ [] → P
 one-two a b c h = let z : _≡_ {A = ℕ} 0 1 = cc in absurd (omega arith)
 
 -- replies of the same numbers are the same
 pub numbers-injective : (a b : Spelled) → spelledNumbers a ≡ spelledNumbers b → a ≡ b
-numbers-injective (Length k) (Length m) h = let z : k ∷ [] ≡ m ∷ [] = ap (λ (x : Numbers). x .values) h in cc
-numbers-injective (Length k) (Refused r) h = one-two k _ _ (ap (λ (x : Numbers). x .values) h)
-numbers-injective (Refused r) (Length k) h = one-two k _ _ (sym (ap (λ (x : Numbers). x .values) h))
+numbers-injective (Length k) (Length m) h = let z : k ∷ [] ≡ m ∷ [] = ap (λ (x : ReplyNumbers). x .values) h in cc
+numbers-injective (Length k) (Refused r) h = one-two k _ _ (ap (λ (x : ReplyNumbers). x .values) h)
+numbers-injective (Refused r) (Length k) h = one-two k _ _ (sym (ap (λ (x : ReplyNumbers). x .values) h))
 numbers-injective (Refused r) (Refused s) h =
-    let v : r .place .0 ∷ r .used ∷ [] ≡ s .place .0 ∷ s .used ∷ [] = ap (λ (x : Numbers). x .values) h in
-    let why : r .reason ≡ s .reason = reason-injective _ _ (ap (λ (x : Numbers). x .refusal) h) in
+    let v : r .place .0 ∷ r .used ∷ [] ≡ s .place .0 ∷ s .used ∷ [] = ap (λ (x : ReplyNumbers). x .values) h in
+    let why : r .reason ≡ s .reason = reason-injective _ _ (ap (λ (x : ReplyNumbers). x .refusal) h) in
     let place : r .place .0 ≡ s .place .0 = cc in
     let used : r .used ≡ s .used = cc in
     λ i. Refused (record { reason = why i; place = record { 0 = place i }; used = used i })

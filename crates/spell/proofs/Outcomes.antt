@@ -11,18 +11,18 @@ use Rattle.answer.specs.declared.TypeNo.{TypeNo}
 use Rattle.answer.specs.declared.Reason.the-variants.{Unsound, NoSuchType, TooLong}
 use Rattle.table.proofs.SoundLaws.{of-sound}
 use Rattle.spell.specs.declared.Spelled.the-variants.{Length}
-use Rattle.spell.specs.Reply.{spellingAt, inOrder, refuse, spellReply, spellNumbers, spellBytes, SpellDone}
-use Rattle.spell.proofs.Puts.{over-room}
+use Rattle.spell.specs.Reply.{spellingAt, inOrder, refuseSpelling, spellReply, spellNumbers, spellBytes, SpellDone}
+use Rattle.text.proofs.Puts.{over-room}
 
 module _ (w : List ℕ) (n : ℕ) (t : TypeNo) (d : List ℕ) where
   -- 1
-  pub at-unsound : soundb w n ≡ false → SpellDone w n t d (refuse Unsound n) d
+  pub at-unsound : soundb w n ≡ false → SpellDone w n t d (refuseSpelling Unsound n) d
   unfolding spellReply spellNumbers spellBytes inOrder
   at-unsound h = record { reply = rw h; numbers = rw h; bytes = rw h }
 
   module _ (s : Sound w n) where
     -- 2
-    pub at-beyond : n ≤ t .0 → SpellDone w n t d (refuse NoSuchType n) d
+    pub at-beyond : n ≤ t .0 → SpellDone w n t d (refuseSpelling NoSuchType n) d
     unfolding spellReply spellNumbers spellBytes inOrder
     at-beyond h =
         let x = of-sound w n s in
@@ -30,7 +30,7 @@ module _ (w : List ℕ) (n : ℕ) (t : TypeNo) (d : List ℕ) where
         record { reply = rw (x, y); numbers = rw (x, y); bytes = rw (x, y) }
 
     -- 12
-    pub at-long : t .0 < n → length d < length (spellingAt w t) → SpellDone w n t d (refuse TooLong n) d
+    pub at-long : t .0 < n → length d < length (spellingAt w t) → SpellDone w n t d (refuseSpelling TooLong n) d
     unfolding spellReply spellNumbers spellBytes inOrder
     at-long h l =
         let x = of-sound w n s in

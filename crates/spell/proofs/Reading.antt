@@ -10,7 +10,8 @@ use lib.Dec.{ltb, eqb}
 use borrow.Author.Tests.{lt-ltb}
 use Rattle.conv.specs.Types.{Ty, isFloat, isFract, formed}
 use Rattle.conv.specs.Types.Ty.{scalar, vec, mat, array, runtime, atomic, ptr, ref, frexp, modf}
-use Rattle.spell.specs.Spell.{ascii, scalarNames, spaceNames, accessNames, named, decimal, fractScalar, fractName, spelling}
+use Rattle.text.specs.Text.{ascii, decimal}
+use Rattle.spell.specs.Spell.{scalarNames, spaceNames, accessNames, named, fractScalar, fractName, spelling}
 use Rattle.table.proofs.SoundLaws.{and-right}
 use Rattle.spell.proofs.Rows.{scalar-row, vec-row, mat-row, atomic-row, array-row, runtime-row, ptr-row, ref-row}
 use Rattle.spell.proofs.Words.{inWord, inNumber, front, rest, stops, number, nameNo, same, tellApart, fracts, number-front, number-rest, name-front, name-rest, scalars-apart, spaces-apart, accesses-apart, fracts-apart, fract-named}

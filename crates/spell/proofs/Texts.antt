@@ -10,7 +10,8 @@ use lib.ListN.{length, getD, length-append, List·getD-append, List·getD-eq-def
 use lib.Seq.{getD-append-add}
 use lib.Dec.{leb, ltb, eqb}
 use borrow.Author.Tests.{le-ltb, lt-ltb, ltb-true, ltb-false, leb-true, eqb-false, not-true}
-use Rattle.spell.specs.Spell.{ascii, named, digit, decimalBy, decimal}
+use Rattle.text.specs.Text.{ascii, digit, decimalBy, decimal}
+use Rattle.spell.specs.Spell.{named}
 use Rattle.spell.specs.Parts.{texts, textOf}
 use Rattle.table.proofs.SoundLaws.{and-left, and-right}
 use Rattle.spell.proofs.Words.{all}
@@ -124,65 +125,3 @@ text-long k = go (ltb k 26) refl
     go : (b : Bool) → ltb k 26 ≡ b → length (textOf k) ≤ 15
     go true e = text-short k (ltb-true _ _ e)
     go false e = omega (arith, ap length (text-none k (ltb-false k 26 e)))
-
--- decimals
-
-fuel : (f g n : ℕ) → n ≤ f → n ≤ g → decimalBy f n ≡ decimalBy g n
-unfolding decimalBy
-fuel zero zero n p q = refl
-fuel zero (suc g) n p q = rw (lt-ltb n 10 (omega arith))
-fuel (suc f) zero n p q = rw (lt-ltb n 10 (omega arith))
-fuel (suc f) (suc g) n p q = go (ltb n 10) refl (fuel f g (n / 10))
-  where
-    go : (b : Bool) → ltb n 10 ≡ b → (n / 10 ≤ f → n / 10 ≤ g → decimalBy f (n / 10) ≡ decimalBy g (n / 10)) →
-        cond b (digit n) (decimalBy f (n / 10) ++ digit (n % 10)) ≡ cond b (digit n) (decimalBy g (n / 10) ++ digit (n % 10))
-    go true e ih = refl
-    go false e ih = let h : 10 ≤ n = ltb-false n 10 e in rw (ih (omega arith) (omega arith))
-
-more : (n : ℕ) → decimal n ≡ decimalBy (suc n) n
-unfolding decimal
-more n = fuel n (suc n) n (omega arith) (omega arith)
-
-pub dec-one : (n : ℕ) → n < 10 → decimal n ≡ digit n
-unfolding decimalBy
-dec-one n h = more n ∙ rw (lt-ltb n 10 h)
-
-step : (n : ℕ) → 10 ≤ n → decimalBy (suc n) n ≡ decimalBy n (n / 10) ++ digit (n % 10)
-unfolding decimalBy
-step n h = rw (le-ltb n 10 h)
-
-pub dec-more : (n : ℕ) → 10 ≤ n → decimal n ≡ decimal (n / 10) ++ digit (n % 10)
-unfolding decimal
-dec-more n h = more n ∙ step n h ∙ rw (fuel n (n / 10) (n / 10) (omega arith) (omega arith))
-
-long : (f n : ℕ) → length (decimalBy f n) ≤ f + 1
-unfolding decimalBy
-long zero n = omega arith
-long (suc f) n = go (ltb n 10) (long f (n / 10))
-  where
-    go : (b : Bool) → length (decimalBy f (n / 10)) ≤ f + 1 → length (cond b (digit n) (decimalBy f (n / 10) ++ digit (n % 10))) ≤ suc f + 1
-    go true ih = omega arith
-    go false ih = omega (arith, length-append (decimalBy f (n / 10)) (digit (n % 10)))
-
-pub dec-long : (n : ℕ) → length (decimal n) ≤ n + 1
-unfolding decimal
-dec-long n = long n n
-
--- no leading zero: the first digit of a number that is not 0 is not `0`
-first : (l x : List ℕ) (z : ℕ) → (getD l 0 z ≡ z → ⊥) → getD (l ++ x) 0 z ≡ z → ⊥
-first [] x z h q = h refl
-first (b ∷ l) x z h q = h q
-
-leading : (f n : ℕ) → n ≤ f → 1 ≤ n → getD (decimalBy f n) 0 48 ≡ 48 → ⊥
-unfolding decimalBy
-leading zero n h k = omega arith
-leading (suc f) n h k = go (ltb n 10) refl (leading f (n / 10))
-  where
-    go : (b : Bool) → ltb n 10 ≡ b → (n / 10 ≤ f → 1 ≤ n / 10 → getD (decimalBy f (n / 10)) 0 48 ≡ 48 → ⊥) →
-        getD (cond b (digit n) (decimalBy f (n / 10) ++ digit (n % 10))) 0 48 ≡ 48 → ⊥
-    go true e ih = λ q. omega arith
-    go false e ih = let m : 10 ≤ n = ltb-false n 10 e in first (decimalBy f (n / 10)) (digit (n % 10)) 48 (ih (omega arith) (omega arith))
-
-pub no-leading-zero : (n : ℕ) → 1 ≤ n → getD (decimal n) 0 48 ≡ 48 → ⊥
-unfolding decimal
-no-leading-zero n h = leading n n (omega arith) h

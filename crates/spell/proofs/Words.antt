@@ -9,7 +9,8 @@ use native.Mathlib.Omega.{arith}
 use lib.Dec.{ltb, leb, eqb}
 use borrow.Author.Tests.{not-true, le-leb, eqb-true, eqb-false, ltb-true, ltb-false}
 use Rattle.table.proofs.SoundLaws.{and-left, and-right}
-use Rattle.spell.specs.Spell.{ascii, scalarNames, spaceNames, accessNames, named, digit, decimalBy, decimal, fractScalar}
+use Rattle.text.specs.Text.{ascii, digit, decimalBy, decimal}
+use Rattle.spell.specs.Spell.{scalarNames, spaceNames, accessNames, named, fractScalar}
 
 -- what a word of a spelling has: any byte but `,` `<` `>`; and what a number has
 abbrev pub inWord : ℕ → Bool

@@ -11,7 +11,8 @@ use Rattle.conv.specs.Types.{abstractFloat}
 use Rattle.table.specs.Table.{kindVec, kindMat, kindArray, kindPtr, kindRef, entryAt}
 use Rattle.table.specs.Denote.{typeAt}
 use Rattle.table.specs.declared.Entry.{Entry}
-use Rattle.spell.specs.Spell.{ascii, scalarNames, spaceNames, accessNames, named, decimal, spelling}
+use Rattle.text.specs.Text.{ascii, decimal}
+use Rattle.spell.specs.Spell.{scalarNames, spaceNames, accessNames, named, spelling}
 
 -- the texts that spellings are made of: by kind, 0 to 15, the scalars and the heads; then the spaces and the accesses; then what a
 -- result type's name calls AbstractFloat
@@ -45,8 +46,8 @@ abbrev pub textAbstract : ℕ
 textAbstract = 25
 
 -- the head: a name, then a vector's width or a matrix's columns and rows
-unfoldable pub headOf : Entry → List ℕ
-headOf e =
+unfoldable pub headText : Entry → List ℕ
+headText e =
     cond (eqb (e .kind) kindVec) (textOf (e .kind) ++ decimal (e .p))
     (cond (eqb (e .kind) kindMat) (textOf (e .kind) ++ decimal (e .p) ++ ascii "x" ++ decimal (e .q))
     (textOf (e .kind)))
@@ -73,8 +74,8 @@ argsOf w i = opening (entryAt w i) ++ spelling (typeAt w (entryAt w i .elem)) ++
 unfoldable pub fractText : ℕ → List ℕ
 fractText s = cond (eqb s abstractFloat) (textOf textAbstract) (textOf s)
 
-unfoldable pub fractOf : Entry → List ℕ
-fractOf e = cond (eqb (e .kind) kindVec) (headOf e ++ ascii "_" ++ fractText (e .elem)) (fractText (e .kind))
+unfoldable pub fractPart : Entry → List ℕ
+fractPart e = cond (eqb (e .kind) kindVec) (headText e ++ ascii "_" ++ fractText (e .elem)) (fractText (e .kind))
 
 -- more bytes than an entry puts before its arguments, and than its arguments have around its elem
 abbrev pub half : ℕ
@@ -82,12 +83,3 @@ half = 2 ^ 34
 
 abbrev pub span : ℕ
 span = 2 ^ 35
-
--- no place that the speller comes to is beyond
-abbrev pub far : ℕ
-far = 2 ^ 60
-
--- s put into d from place at on, as far as d goes: the place after it, and the bytes
-pub record Put (d : List ℕ) (at : ℕ) (s : List ℕ) (r : ℕ) (after : List ℕ) : Type 0 where
-  pub place : r ≡ at + length s
-  pub bytes : after ≡ sets d at s

@@ -16,11 +16,11 @@ use Rattle.spell.specs.declared.Spelled.the-variants.{Length, Refused}
 use Rattle.spell.specs.Spell.{spelling}
 
 -- a reply in document 01's numbers: the refusal's number, 0 for none; then the length, or the place and the used count
-pub record Numbers : Type 0 where
+pub record ReplyNumbers : Type 0 where
   pub refusal : ℕ
   pub values : List ℕ
 
-abbrev pub spelledNumbers : Spelled → Numbers
+abbrev pub spelledNumbers : Spelled → ReplyNumbers
 spelledNumbers (Length k) = record { refusal = 0; values = k ∷ [] }
 spelledNumbers (Refused r) = record { refusal = reasonNo (r .reason); values = r .place .0 ∷ r .used ∷ [] }
 
@@ -38,18 +38,18 @@ inOrder w n t out unsound beyond long done =
     unsound
 
 -- "Single calls have place 0"; the used count of a refusal is n
-abbrev pub refuse : Reason → ℕ → Spelled
-refuse reason n = Refused (record { reason = reason; place = record { 0 = 0 }; used = n })
+abbrev pub refuseSpelling : Reason → ℕ → Spelled
+refuseSpelling reason n = Refused (record { reason = reason; place = record { 0 = 0 }; used = n })
 
 -- "The reply is its length"
 unfoldable pub spellReply : List ℕ → ℕ → TypeNo → List ℕ → Spelled
-spellReply w n t out = inOrder w n t out (refuse Unsound n) (refuse NoSuchType n) (refuse TooLong n) (Length (length (spellingAt w t)))
+spellReply w n t out = inOrder w n t out (refuseSpelling Unsound n) (refuseSpelling NoSuchType n) (refuseSpelling TooLong n) (Length (length (spellingAt w t)))
 
 -- the same in document 01's numbers
-abbrev pub refusalNumbers : ℕ → ℕ → Numbers
+abbrev pub refusalNumbers : ℕ → ℕ → ReplyNumbers
 refusalNumbers k n = record { refusal = k; values = 0 ∷ n ∷ [] }
 
-unfoldable pub spellNumbers : List ℕ → ℕ → TypeNo → List ℕ → Numbers
+unfoldable pub spellNumbers : List ℕ → ℕ → TypeNo → List ℕ → ReplyNumbers
 spellNumbers w n t out =
     inOrder w n t out (refusalNumbers 1 n) (refusalNumbers 2 n) (refusalNumbers 12 n) (record { refusal = 0; values = length (spellingAt w t) ∷ [] })
 

@@ -1,18 +1,13 @@
 -- Document 01, "Spelling": "A type is spelled as a head, then its arguments, each spelled by the rule for types"; "no spaces". Assumes nothing.
-use Prim.Native.Nat.{ℕ, zero, suc, _+_, _/_, _%_}
-use Prim.Native.Char.{code}
+use Prim.Native.Nat.{ℕ}
 use Prim.Native.String.{String}
 use mathlib.Core.Bool.{cond}
 use mathlib.Core.List.{List, [], _∷_, _++_}
-use lib.Dec.{ltb, eqb}
+use lib.Dec.{eqb}
 use lib.ListN.{getD}
+use Rattle.text.specs.Text.{ascii, decimal}
 use Rattle.conv.specs.Types.{Ty, abstractFloat}
 use Rattle.conv.specs.Types.Ty.{scalar, vec, mat, array, runtime, atomic, ptr, ref, frexp, modf}
-
--- a text as its bytes
-unfoldable pub ascii : String → List ℕ
-ascii String.[] = []
-ascii (String._∷_ c s) = code c ∷ ascii s
 
 -- "Scalars, spaces and accesses are spelled as named above", each by its number
 abbrev pub scalarNames : List String
@@ -27,18 +22,6 @@ accessNames = "read" ∷ "write" ∷ "read_write" ∷ []
 -- the name at a number of such a list
 unfoldable pub named : List String → ℕ → List ℕ
 named names k = ascii (getD names k "")
-
--- "in decimal without leading zeros": the one digit that a number below ten has, or the digits of a tenth of it and then its last. A number n
--- has at most n + 1 digits
-abbrev pub digit : ℕ → List ℕ
-digit d = (48 + d) ∷ []
-
-unfoldable pub decimalBy : ℕ → ℕ → List ℕ
-decimalBy zero n = digit n
-decimalBy (suc f) n = let longer = decimalBy f (n / 10) ++ digit (n % 10) in cond (ltb n 10) (digit n) longer
-
-unfoldable pub decimal : ℕ → List ℕ
-decimal n = decimalBy n n
 
 -- "result types by their names alone", "as `__modf_result_vec3_f16`": the name tells the type of `fract`, and calls AbstractFloat `abstract`
 unfoldable pub fractScalar : ℕ → List ℕ

@@ -5,9 +5,10 @@ ghost use Prim.Native.Nat.{ℕ, _+_, _*_, _≤_, _<_};
 ghost use lib.ListN.{length, getD};
 ghost use Rattle.table.specs.Table.{scalars, Sound};
 ghost use Rattle.table.specs.Denote.{typeAt};
-ghost use Rattle.spell.specs.Spell.{decimal, spelling};
-ghost use Rattle.spell.specs.Reply.{refuse, SpellDone};
-ghost use Rattle.spell.specs.Parts.{textCount, textWidth, blank, textOf, headOf, opening, lastOf, closing, argsOf, fractText, fractOf, half, span, far, Put};
+ghost use Rattle.text.specs.Text.{decimal, far, Put};
+ghost use Rattle.spell.specs.Spell.{spelling};
+ghost use Rattle.spell.specs.Reply.{refuseSpelling, SpellDone};
+ghost use Rattle.spell.specs.Parts.{textCount, textWidth, blank, textOf, headText, opening, lastOf, closing, argsOf, fractText, fractPart, half, span};
 use table::Entry;
 use table::Place;
 use table::Reason;
@@ -53,9 +54,6 @@ const TEXT_ACCESSES: usize = 22;
 
 const TEXT_ABSTRACT: usize = 25;
 
-// The byte of the digit 0.
-const DIGIT_ZERO: usize = 48;
-
 // What asking for a spelling gives: its length, or a refusal.
 pub enum Spelled {
     Length(usize),
@@ -68,18 +66,6 @@ fn text_byte(k: usize, j: usize) -> u8
     ensures { λ r. ⌜ r ≡ getD (textOf k) j blank ⌝ }
 {
     TEXTS[k * TEXT_WIDTH + j]
-}
-
-// A byte at a place, or nothing past the end of the output; the place after it.
-pub fn put_byte(out: &mut [u8], at: usize, b: u8) -> usize
-    requires { ⌜ at < far * 4 ⌝ }
-    ensures { λ r. ⌜ Put (now (out .entry)) at (b ∷ []) r (now (out .exit)) ⌝ }
-{
-    if out.len() <= at {
-        return at + 1;
-    }
-    out[at] = b;
-    at + 1
 }
 
 // Text k from a place on.
@@ -96,23 +82,10 @@ fn put_text(out: &mut [u8], at: usize, k: usize) -> usize
         if b == b' ' {
             return at + j;
         }
-        put_byte(out, at + j, b);
+        text::put_byte(out, at + j, b);
         j += 1;
     }
     at + j
-}
-
-// n in decimal.
-pub fn put_number(out: &mut [u8], at: usize, n: usize) -> usize
-    requires { ⌜ at < far * 2 ⌝ }
-    ensures { λ r. ⌜ Put (now (out .entry)) at (decimal n) r (now (out .exit)) ⌝ }
-{
-    let last = (DIGIT_ZERO + n % 10) as u8;
-    if n < 10 {
-        return put_byte(out, at, last);
-    }
-    let next = put_number(out, at, n / 10);
-    put_byte(out, next, last)
 }
 
 // A word of an entry in decimal.
@@ -120,13 +93,13 @@ fn put_dec(out: &mut [u8], at: usize, n: u32) -> usize
     requires { ⌜ at + n < far * 2 ⌝ }
     ensures { λ r. ⌜ Put (now (out .entry)) at (decimal n) r (now (out .exit)) ⌝ }
 {
-    put_number(out, at, table::wide(n))
+    text::put_number(out, at, table::wide(n))
 }
 
 // A head: its name, then a vector's width or a matrix's columns and rows.
 fn put_head(out: &mut [u8], at: usize, e: Entry) -> usize
     requires { ⌜ at < far + half ⌝ }
-    ensures { λ r. ⌜ Put (now (out .entry)) at (headOf e) r (now (out .exit)) ⌝ }
+    ensures { λ r. ⌜ Put (now (out .entry)) at (headText e) r (now (out .exit)) ⌝ }
 {
     let a = put_text(out, at, table::wide(e.kind));
     if e.kind == table::KIND_VEC {
@@ -134,7 +107,7 @@ fn put_head(out: &mut [u8], at: usize, e: Entry) -> usize
     }
     if e.kind == table::KIND_MAT {
         let b = put_dec(out, a, e.p);
-        let rows = put_byte(out, b, b'x');
+        let rows = text::put_byte(out, b, b'x');
         return put_dec(out, rows, e.q);
     }
     a
@@ -145,10 +118,10 @@ fn put_opening(out: &mut [u8], at: usize, e: Entry) -> usize
     requires { ⌜ at < far + half ⌝ }
     ensures { λ r. ⌜ Put (now (out .entry)) at (opening e) r (now (out .exit)) ⌝ }
 {
-    let a = put_byte(out, at, b'<');
+    let a = text::put_byte(out, at, b'<');
     if (e.kind == table::KIND_PTR) | (e.kind == table::KIND_REF) {
         let b = put_text(out, a, TEXT_SPACES + table::wide(e.p));
-        return put_byte(out, b, b',');
+        return text::put_byte(out, b, b',');
     }
     a
 }
@@ -160,11 +133,11 @@ fn put_last(out: &mut [u8], at: usize, e: Entry) -> usize
     ensures { λ r. ⌜ r < far * 2 ⌝ }
 {
     if e.kind == table::KIND_ARRAY {
-        let count = put_byte(out, at, b',');
+        let count = text::put_byte(out, at, b',');
         return put_dec(out, count, e.p);
     }
     if (e.kind == table::KIND_PTR) | (e.kind == table::KIND_REF) {
-        let access = put_byte(out, at, b',');
+        let access = text::put_byte(out, at, b',');
         return put_text(out, access, TEXT_ACCESSES + table::wide(e.q));
     }
     at
@@ -176,7 +149,7 @@ fn put_closing(out: &mut [u8], at: usize, e: Entry) -> usize
     ensures { λ r. ⌜ Put (now (out .entry)) at (closing e) r (now (out .exit)) ⌝ }
 {
     let end = put_last(out, at, e);
-    put_byte(out, end, b'>')
+    text::put_byte(out, end, b'>')
 }
 
 // A scalar in the name of a result type.
@@ -193,11 +166,11 @@ fn put_fract_scalar(out: &mut [u8], at: usize, s: usize) -> usize
 // The end of a result type's name: the type of `fract`, which is entry e.
 fn put_fract(out: &mut [u8], at: usize, e: Entry) -> usize
     requires { ⌜ at < far + half ⌝ }
-    ensures { λ r. ⌜ Put (now (out .entry)) at (fractOf e) r (now (out .exit)) ⌝ }
+    ensures { λ r. ⌜ Put (now (out .entry)) at (fractPart e) r (now (out .exit)) ⌝ }
 {
     if e.kind == table::KIND_VEC {
         let a = put_head(out, at, e);
-        let b = put_byte(out, a, b'_');
+        let b = text::put_byte(out, a, b'_');
         return put_fract_scalar(out, b, table::wide(e.elem));
     }
     put_fract_scalar(out, at, table::wide(e.kind))
@@ -238,7 +211,7 @@ fn spell_args(words: &[u32], n: usize, i: usize, out: &mut [u8], at: usize) -> u
 
 // A refusal of a single call.
 fn refused(reason: Reason, n: usize) -> Spelled
-    ensures { λ r. ⌜ r ≡ refuse reason n ⌝ }
+    ensures { λ r. ⌜ r ≡ refuseSpelling reason n ⌝ }
 {
     Spelled::Refused(Refusal {
         reason,

@@ -221,12 +221,7 @@ fn ask(words: &[u32], n: usize, i: usize, room: usize) {
 
 fn main() {
     let mut words = [0u32; 1024];
-    words[4] = 1;
-    words[8] = 2;
-    words[12] = 3;
-    words[16] = 4;
-    words[20] = 5;
-    words[24] = 6;
+    entering::put_scalars(&mut words);
     let n = fill(&mut words, 7);
     show_all(&words, n);
     // ptr<storage,u32,read>, of 21 bytes

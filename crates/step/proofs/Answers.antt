@@ -29,6 +29,7 @@ use Rattle.call_ty.specs.Calls.{templateRight, operandsIn, operandsOf, givenBy,
 use Rattle.call_ty.specs.Calls.Given.{nothing}
 use Rattle.call_ty.specs.Codes.{Under}
 use Rattle.table.proofs.Demand1.{entering-refused}
+use Rattle.table.proofs.Giving.{gave}
 use Rattle.call_ty.proofs.Lists.{types-formed}
 use Rattle.call_ty.proofs.Ends.{Ends, rule-call-ends}
 use Rattle.call_ty.proofs.Ends.Ends.{refused, silent, valued}
@@ -64,10 +65,10 @@ pub call-at-kept : (place : ℕ) (w : List ℕ) (n : ℕ) → Sound w n → (nam
 call-at-kept place w n s name tplt args ut ua =
     let o = callOutcome place w n name (map (typeAt w) tplt) (map (typeAt w) args) in
     record {
-      refused = λ r e. call-refused place w n s name tplt args ut ua r (o .words) (record { reply = sym e; words = refl });
+      refused = λ r e. call-refused place w n s name tplt args ut ua r (o .words) (gave (sym e) refl);
       counted = λ r e. call-counted place w n s name tplt args ut ua r e;
-      accepted = λ t m e. let x = call-accepted place w n s name tplt args ut ua t m (o .words) (record { reply = sym e; words = refl }) in (x .0, x .1 .stands);
-      without = λ m e. let x = call-silent place w n s name tplt args ut ua m (o .words) (record { reply = sym e; words = refl }) in (x .1, x .0);
+      accepted = λ t m e. let x = call-accepted place w n s name tplt args ut ua t m (o .words) (gave (sym e) refl) in (x .0, x .1 .stands);
+      without = λ m e. let x = call-silent place w n s name tplt args ut ua m (o .words) (gave (sym e) refl) in (x .1, x .0);
     }
 
 -- A CALL WITHOUT OPERANDS: of the rules only the barriers want none, and those give no value

@@ -5,6 +5,7 @@ use mathlib.Core.Bool.{Bool, true, false, cond}
 use mathlib.Core.List.{List, [], _∷_, _++_, map}
 use lib.ListN.{length, getD, take, drop}
 use lib.Dec.{ltb, leb}
+use Rattle.held.specs.Held.{valueOf, numberOf}
 use Rattle.conv.specs.Types.{Ty}
 use Rattle.table.specs.Table.{allowedb}
 use Rattle.table.specs.Denote.{typeAt, tyOf}
@@ -26,13 +27,6 @@ use Rattle.call_ty.specs.Calls.{callOutcome}
 -- "its stack holds 64 values"
 abbrev pub most : ℕ
 most = 64
-
--- what a value of the stack is, made of a type's number, and the number that it holds
-abbrev pub valueOf : ℕ → ℕ
-valueOf t = t
-
-abbrev pub numberOf : ℕ → ℕ
-numberOf v = v
 
 -- the machine's state: the stack from its bottom, the used count, and every word of the table
 pub record State : Type 0 where

@@ -15,7 +15,7 @@ ghost use lib.ListN.{length};
 ghost use Rattle.table.specs.Denote.{typeAt};
 ghost use Rattle.frame.specs.Frame.{nameOf, Within};
 ghost use Rattle.call_ty.specs.Codes.{Under};
-ghost use Rattle.step.specs.Effect.{valueOf, numberOf, bytesOf, entryOf, pushEffect, unaryEffect, binaryEffect, calling, callEffect, templateEffect, takeEffect, effectOf};
+ghost use Rattle.step.specs.Effect.{bytesOf, entryOf, pushEffect, unaryEffect, binaryEffect, calling, callEffect, templateEffect, takeEffect, effectOf};
 ghost use Rattle.step.specs.Code.{stateOf, turnedAway, Ready, Pushes, Settles, Does};
 
 // How many values the stack holds.
@@ -41,21 +41,6 @@ fn wide32(x: u8) -> u32
     x as u32
 }
 
-// A value of the stack, of a type's number. This and `number` are the only two that know what a value is.
-pub fn value(t: TypeNo) -> u32
-    requires { ⌜ t .0 < 2 ^ 32 ⌝ }
-    ensures { λ r. ⌜ r ≡ valueOf (t .0) ⌝ }
-{
-    t.0 as u32
-}
-
-// The number that a value holds.
-pub fn number(v: u32) -> TypeNo
-    ensures { λ r. ⌜ r .0 ≡ numberOf v ⌝ }
-{
-    TypeNo(v as usize)
-}
-
 // A refusal of the item at a place.
 fn stopped(reason: Reason, place: Place, used: usize) -> Did
     ensures { λ r. ⌜ r ≡ turnedAway reason place used ⌝ }
@@ -74,7 +59,7 @@ fn settle(stack: &mut [u32], base: usize, a: Answer) -> Did
 {
     match a {
         Answer::Value(t, m) => {
-            stack[base] = value(t);
+            stack[base] = held::value(t);
             Did::Went {
                 count: base + 1,
                 used: m,
@@ -99,7 +84,7 @@ fn push(ty: TypeNo, at: Place, stack: &mut [u32], high: usize, table: &[u32], us
     if VALUES <= high {
         return stopped(Reason::Stack, at, used);
     }
-    stack[high] = value(ty);
+    stack[high] = held::value(ty);
     let count = high + 1;
     Did::Went { count, used }
 }
@@ -119,7 +104,7 @@ fn unary(
         return stopped(Reason::Stack, place, used);
     }
     let base = count - 1;
-    let a = number(stack[base]);
+    let a = held::number(stack[base]);
     let r = ops_ty::unary_at(table, used, place, wide(op), a);
     settle(stack, base, r)
 }
@@ -139,8 +124,8 @@ fn binary(
         return stopped(Reason::Stack, place, used);
     }
     let base = count - 2;
-    let a = number(stack[base]);
-    let b = number(stack[base + 1]);
+    let a = held::number(stack[base]);
+    let b = held::number(stack[base + 1]);
     let r = ops_ty::binary_at(table, used, place, wide(op), a, b);
     settle(stack, base, r)
 }

@@ -18,7 +18,7 @@ use Rattle.ops_ty.specs.Ops.{typeUnaryOp, typeBinaryOp}
 use Rattle.ops_ty.proofs.Demand1.{unary-kept, binary-kept}
 use Rattle.call_ty.specs.Calls.{typeBuiltinFn}
 use Rattle.call_ty.proofs.Demand1.{single-accepted, single-silent}
-use Rattle.tplt.specs.Templates.{templateOutcome, TemplateDone}
+use Rattle.tplt.specs.Templates.{templateOutcome}
 use Rattle.tplt.proofs.Demand1.{accepted-grows, refused-keeps, always-valued}
 use Rattle.swartabelk.specs.Reply.{replyOf, Replied, checkAnswer}
 use Rattle.swartabelk.specs.Code.{Fits}
@@ -59,7 +59,7 @@ module _ (w : List ℕ) (n : ℕ) (l : n < 2 ^ 32) (r : Answer) (v : List ℕ) w
       (λ m q. single-silent w n name tplt args m v (rw q at g) .0)
       (rw (g .reply) (type-builtin-at w n name tplt args))
 
-pub template-fits : (w : List ℕ) (n : ℕ) → n < 2 ^ 32 → (head : List ℕ) (args : List ℤ) (r : Answer) (v : List ℕ) → TemplateDone w n head args r v → Fits r
+pub template-fits : (w : List ℕ) (n : ℕ) → n < 2 ^ 32 → (head : List ℕ) (args : List ℤ) (r : Answer) (v : List ℕ) → Gave (templateOutcome w n head args) r v → Fits r
 unfolding Fits
 template-fits w n l head args (Value t m) v d = let s = accepted-grows w n head args t m v d .stands in value-fits t m (s .below) (s .sound .high)
 template-fits w n l head args (NoValue m) v d = absurd (always-valued w n head args m v d)
@@ -69,9 +69,6 @@ template-fits w n l head args (Refused r) v d = let u = refused-keeps w n head a
 pub replied : {o p : Outcome} {a : Answer} {r : Reply} {v : List ℕ} → o ≡ p → Gave o a v → r ≡ replyOf a → Replied p r v
 replied q g e =
     record { reply = e ∙ ap replyOf (g .reply ∙ ap (λ (x : Outcome). x .answer) q); words = g .words ∙ ap (λ (x : Outcome). x .words) q }
-
-pub template-gave : {w : List ℕ} {n : ℕ} {head : List ℕ} {args : List ℤ} {a : Answer} {v : List ℕ} → TemplateDone w n head args a v → Gave (templateOutcome w n head args) a v
-template-gave d = record { reply = ap (λ (o : Outcome). o .answer) (d .outcome); words = ap (λ (o : Outcome). o .words) (d .outcome) }
 
 -- the answer of a check: no value, or refusal 1
 module _ (w : List ℕ) (n m : ℕ) (same : m ≡ n) (a : Answer) where

@@ -1,175 +1,27 @@
--- How long a spelling can be: an entry of words of 32 bits adds at most 80 bytes to the spelling of its elem. Assumes nothing.
-use Prim.Native.Nat.{ℕ, zero, suc, _+_, _*_, _/_, _%_, _≤_, _<_, _^_}
-use Prim.Native.String.{String}
+-- The reply of a spelling fits into 32 bits: no spelling is longer than 80 bytes for each entry. Assumes nothing.
+use Prim.Native.Nat.{ℕ, _<_, _^_}
 use mathlib.Core.Path.{_≡_, refl}
-use mathlib.Core.Bool.{Bool, true, false, _&&_, cond}
-use mathlib.Core.List.{List, [], _∷_, _++_}
+use mathlib.Core.Bool.{Bool, true, false, cond}
+use mathlib.Core.List.{List}
 use native.Mathlib.Omega.{arith}
-use lib.ListN.{length, getD, length-append}
-use lib.Dec.{leb, ltb, eqb}
-use borrow.Author.Tests.{ltb-true, ltb-false, leb-true}
-use Rattle.conv.specs.Types.{Ty, abstractFloat}
-use Rattle.conv.specs.Types.Ty.{scalar, vec, mat, array, runtime, atomic, ptr, ref, frexp, modf}
-use Rattle.table.specs.Table.{entryAt, scalars, chainBy, chain, soundb}
-use Rattle.table.specs.Denote.{made, typeAt}
-use Rattle.table.specs.declared.Entry.{Entry}
+use lib.ListN.{length, getD}
+use lib.Dec.{leb, ltb}
+use borrow.Author.Tests.{ltb-true}
+use Rattle.table.specs.Table.{soundb}
 use Rattle.answer.specs.declared.TypeNo.{TypeNo}
-use Rattle.table.proofs.SoundLaws.{sound-of, and-left, and-right}
-use Rattle.spell.specs.Spell.{ascii, scalarNames, spaceNames, accessNames, named, digit, decimalBy, decimal, fractScalar, fractName, spelling}
+use Rattle.table.proofs.SoundLaws.{sound-of}
 use Rattle.spell.specs.Reply.{spellingAt, inOrder, spellReply}
 use Rattle.spell.specs.declared.Spelled.{Spelled}
+use Rattle.spell.proofs.Short.{type-slim}
 use Rattle.swartabelk.specs.Code.{SpelledFits}
-
--- a number below ten times as much has one digit more at most
-more : (m d : ℕ) → ((f n : ℕ) → n < m → length (decimalBy f n) ≤ d) → (f n : ℕ) → n < m * 10 → length (decimalBy f n) ≤ d + 1
-unfolding decimalBy
-more m d few zero n h = omega arith
-more m d few (suc f) n h = go (ltb n 10) (few f (n / 10) (omega arith))
-  where
-    go : (b : Bool) → length (decimalBy f (n / 10)) ≤ d → length (cond b (digit n) (decimalBy f (n / 10) ++ digit (n % 10))) ≤ d + 1
-    go true ih = omega arith
-    go false ih = omega (arith, length-append (decimalBy f (n / 10)) (digit (n % 10)))
-
-one : (f n : ℕ) → n < 10 → length (decimalBy f n) ≤ 1
-unfolding decimalBy
-one zero n h = omega arith
-one (suc f) n h = go (ltb n 10) refl
-  where
-    go : (b : Bool) → ltb n 10 ≡ b → length (cond b (digit n) (decimalBy f (n / 10) ++ digit (n % 10))) ≤ 1
-    go true e = omega arith
-    go false e = omega (arith, ltb-false n 10 e)
-
-three : (f n : ℕ) → n < 1000 → length (decimalBy f n) ≤ 3
-three = more 100 2 (more 10 1 one)
-
-six : (f n : ℕ) → n < 1000000 → length (decimalBy f n) ≤ 6
-six = more 100000 5 (more 10000 4 (more 1000 3 three))
-
-ten : (f n : ℕ) → n < 10000000000 → length (decimalBy f n) ≤ 10
-ten = more 1000000000 9 (more 100000000 8 (more 10000000 7 (more 1000000 6 six)))
-
-dec-short : (n : ℕ) → n < 2 ^ 32 → length (decimal n) ≤ 10
-unfolding decimal
-dec-short n h = ten n n (omega arith)
-
--- a name of a list whose names are short
-short : List String → Bool
-short [] = true
-short (s ∷ names) = leb (length (ascii s)) 15 && short names
-
-name-short : (names : List String) → short names ≡ true → (k : ℕ) → length (named names k) ≤ 15
-unfolding short named ascii
-name-short [] t k = omega arith
-name-short (s ∷ names) t zero = leb-true (length (ascii s)) 15 (and-left _ (short names) t)
-name-short (s ∷ names) t (suc k) = name-short names (and-right (leb (length (ascii s)) 15) _ t) k
-
-scalar-short : (s : ℕ) → length (named scalarNames s) ≤ 15
-unfolding short ascii
-scalar-short s = name-short scalarNames refl s
-
-space-short : (s : ℕ) → length (named spaceNames s) ≤ 15
-unfolding short ascii
-space-short s = name-short spaceNames refl s
-
-access-short : (s : ℕ) → length (named accessNames s) ≤ 15
-unfolding short ascii
-access-short s = name-short accessNames refl s
-
-fract-short : (s : ℕ) → length (fractScalar s) ≤ 15
-unfolding fractScalar ascii
-fract-short s = go (eqb s abstractFloat)
-  where
-    go : (b : Bool) → length (cond b (ascii "abstract") (named scalarNames s)) ≤ 15
-    go true = omega arith
-    go false = scalar-short s
-
--- a type whose spelling has at most b bytes, and its name in a result type's at most 40
-record Slim (b : ℕ) (t : Ty) : Type 0 where
-  spelled : length (spelling t) ≤ b
-  called : length (fractName t) ≤ 40
-
-slim-by : (b : ℕ) (c : Bool) (x y : Ty) → Slim b x → Slim b y → Slim b (cond c x y)
-slim-by b true x y p q = p
-slim-by b false x y p q = q
-
-leaf-slim : (b : ℕ) → 80 ≤ b → (s : ℕ) → Slim b (scalar s)
-unfolding spelling fractName
-leaf-slim b h s = record { spelled = omega (arith, scalar-short s); called = omega (arith, fract-short s) }
-
-module _ (e : Entry) (hp : e .p < 2 ^ 32) (hq : e .q < 2 ^ 32) (b : ℕ) (t : Ty) (s : Slim b t) where
-  vec-slim : Slim (b + 80) (vec (e .p) (e .elem))
-  unfolding spelling fractName ascii
-  vec-slim =
-      record {
-        spelled = simp length-append (omega (arith, scalar-short (e .elem), dec-short (e .p) hp));
-        called = simp length-append (omega (arith, fract-short (e .elem), dec-short (e .p) hp));
-      }
-
-  mat-slim : Slim (b + 80) (mat (e .p) (e .q) (e .elem))
-  unfolding spelling fractName ascii
-  mat-slim = record { spelled = simp length-append (omega (arith, scalar-short (e .elem), dec-short (e .p) hp, dec-short (e .q) hq)); called = omega arith }
-
-  array-slim : Slim (b + 80) (array (e .p) t)
-  unfolding spelling fractName ascii
-  array-slim = record { spelled = simp length-append (omega (arith, dec-short (e .p) hp, s .spelled)); called = omega arith }
-
-  runtime-slim : Slim (b + 80) (runtime t)
-  unfolding spelling fractName ascii
-  runtime-slim = record { spelled = simp length-append (omega (arith, s .spelled)); called = omega arith }
-
-  atomic-slim : Slim (b + 80) (atomic (e .elem))
-  unfolding spelling fractName ascii
-  atomic-slim = record { spelled = simp length-append (omega (arith, scalar-short (e .elem))); called = omega arith }
-
-  ptr-slim : Slim (b + 80) (ptr (e .p) (e .q) t)
-  unfolding spelling fractName ascii
-  ptr-slim = record { spelled = simp length-append (omega (arith, space-short (e .p), access-short (e .q), s .spelled)); called = omega arith }
-
-  ref-slim : Slim (b + 80) (ref (e .p) (e .q) t)
-  unfolding spelling fractName ascii
-  ref-slim = record { spelled = simp length-append (omega (arith, space-short (e .p), access-short (e .q), s .spelled)); called = omega arith }
-
-  frexp-slim : Slim (b + 80) (frexp t)
-  unfolding spelling fractName ascii
-  frexp-slim = record { spelled = simp length-append (omega (arith, s .called)); called = omega arith }
-
-  modf-slim : Slim (b + 80) (modf t)
-  unfolding spelling fractName ascii
-  modf-slim = record { spelled = simp length-append (omega (arith, s .called)); called = omega arith }
-
-  made-slim : Slim (b + 80) (made e t)
-  unfolding made
-  made-slim =
-      slim-by _ (eqb (e .kind) 7) _ _ vec-slim
-      (slim-by _ (eqb (e .kind) 8) _ _ mat-slim
-      (slim-by _ (eqb (e .kind) 9) _ _ array-slim
-      (slim-by _ (eqb (e .kind) 10) _ _ runtime-slim
-      (slim-by _ (eqb (e .kind) 11) _ _ atomic-slim
-      (slim-by _ (eqb (e .kind) 12) _ _ ptr-slim
-      (slim-by _ (eqb (e .kind) 13) _ _ ref-slim
-      (slim-by _ (eqb (e .kind) 14) _ _ frexp-slim modf-slim)))))))
 
 by-test : (b : Bool) (x y : Spelled) → (b ≡ true → SpelledFits x) → (b ≡ false → SpelledFits y) → SpelledFits (cond b x y)
 by-test true x y f g = f refl
 by-test false x y f g = g refl
 
 module _ (w : List ℕ) (words : (i : ℕ) → getD w i 0 < 2 ^ 32) where
-  chain-slim : (f j : ℕ) → Slim (f * 80 + 80) (chainBy scalar made w f j)
-  unfolding chainBy
-  chain-slim zero j = leaf-slim 80 (omega arith) j
-  chain-slim (suc f) j =
-      slim-by _ (ltb j scalars) _ _ (leaf-slim _ (omega arith) j)
-      (slim-by _ (ltb (entryAt w j .elem) j) _ _ (grown (made-slim (entryAt w j) (words (j * 4 + 1)) (words (j * 4 + 2)) (f * 80 + 80) _ (chain-slim f (entryAt w j .elem)))) (leaf-slim _ (omega arith) j))
-    where
-      grown : {t : Ty} → Slim (f * 80 + 80 + 80) t → Slim (suc f * 80 + 80) t
-      grown s = record { spelled = omega (arith, s .spelled); called = s .called }
-
-  type-slim : (i : ℕ) → length (spelling (typeAt w i)) ≤ i * 80 + 80
-  unfolding typeAt chain
-  type-slim i = chain-slim i i .spelled
-
   spelling-fits : (n : ℕ) (t : TypeNo) → soundb w n ≡ true → ltb (t .0) n ≡ true → length (spellingAt w t) < 2 ^ 32
-  spelling-fits n t s h = omega (arith, type-slim (t .0), sound-of w n s .high, ltb-true (t .0) n h)
+  spelling-fits n t s h = omega (arith, type-slim w words (t .0), sound-of w n s .high, ltb-true (t .0) n h)
 
   -- the reply of a spelling fits
   pub spelled-fits : (n : ℕ) (t : TypeNo) (out : List ℕ) (r : Spelled) → n < 2 ^ 32 → r ≡ spellReply w n t out → SpelledFits r

@@ -20,7 +20,7 @@ use Rattle.table.specs.Denote.{typeAt, tyOf, made, kindOf, pOf, qOf}
 use Rattle.table.specs.Enter.{free}
 use Rattle.table.specs.Stands.{Absent, Part, Stands}
 use Rattle.table.specs.Stands.Part.{whole, inside}
-use Rattle.table.specs.Placing.{standsIn, Placed, here, entryOf, placed, Outcome, turnedDown, entering}
+use Rattle.table.specs.Placing.{standsIn, Standing, here, entryOf, placed, Outcome, turnedDown, entering}
 use Rattle.table.specs.declared.Entry.{Entry}
 use Rattle.answer.specs.declared.TypeNo.{TypeNo}
 use Rattle.answer.specs.declared.Refusal.{Refusal}
@@ -113,7 +113,7 @@ module _ (w : List ℕ) (R : Ty) where
 -- PLACING A TYPE
 
 -- R came to stand: nothing was added, or R itself is the newest entry
-pub record Grown (w : List ℕ) (n : ℕ) (R : Ty) (a : Placed) : Type 0 where
+pub record Grown (w : List ℕ) (n : ℕ) (R : Ty) (a : Standing) : Type 0 where
   pub stands : Stands w n R (a .number) (a .used) (a .words)
   pub newest : ((a .used ≡ n) × (a .words ≡ w)) ⊎ ((n ≤ a .number) × (a .number + 1 ≡ a .used))
 

@@ -8,7 +8,8 @@ use lib.ListN.{length}
 use lib.Dec.{leb, ltb, eqb}
 use borrow.Author.Tests.{le-leb, lt-leb, leb-true, leb-false, ltb-true, ltb-false, eqb-true, lt-ltb, le-ltb}
 use Rattle.table.specs.Table.{stride, scalars, ceiling, entryAt, putEntry, Key, keyOf, scalarOk, madeOk, entryOk, findIn, soundb, allowedb, Sound}
-use Rattle.table.specs.Enter.{free, missing, numberOr, entered, enterWords, EnterDone, container, outerOver, missingTwo, enteredTwo, enterTwoWords, EnterTwoDone, entryAnswer, enterTypeReply, enterTypeWords, EnterTypeDone}
+use Rattle.table.specs.Enter.{free, missing, numberOr, entered, enterWords, EnterDone, container, outerOver, missingTwo, enteredTwo, enterTwoWords, EnterTwoDone, entryAnswer, enterTypeReply, enterTypeWords}
+use Rattle.table.specs.Placing.{enterType, Gave}
 use Rattle.answer.specs.Answer.{refuse}
 use Rattle.answer.specs.declared.Reason.the-variants.{Unsound, Template}
 use Rattle.table.specs.declared.Entry.{Entry}
@@ -19,6 +20,7 @@ use Rattle.table.specs.declared.Entered.{Entered}
 use Rattle.table.specs.declared.Entered.the-variants.{There, Full}
 use Rattle.table.proofs.TableLaws.{elemOf}
 use Rattle.table.proofs.SoundLaws.{and-left, and-right, find-miss}
+use Rattle.table.proofs.Giving.{gave}
 
 -- room for k entries more is room under the ceiling and in the slice
 pub free-room : (w : List ℕ) (n k : ℕ) → 1 ≤ k → k ≤ free w n → (n + k ≤ ceiling) × ((n + k) * stride ≤ length w)
@@ -121,15 +123,15 @@ module _ (w : List ℕ) (n : ℕ) (inner outer : Entry) where
 
 -- the three answers to a host
 module _ (w : List ℕ) (n : ℕ) (e : Entry) where
-  pub host-unsound : soundb w n ≡ false → EnterTypeDone w n e (refuse Unsound 0 n) w
+  pub host-unsound : soundb w n ≡ false → Gave (enterType w n e) (refuse Unsound 0 n) w
   unfolding enterTypeReply enterTypeWords
-  host-unsound h = record { reply = rw h; words = rw h }
+  host-unsound h = gave (rw h) (rw h)
 
   module _ (h : soundb w n ≡ true) where
-    pub host-forbidden : allowedb w n e ≡ false → EnterTypeDone w n e (refuse Template 0 n) w
+    pub host-forbidden : allowedb w n e ≡ false → Gave (enterType w n e) (refuse Template 0 n) w
     unfolding enterTypeReply enterTypeWords
-    host-forbidden k = record { reply = rw (h, k); words = rw (h, k) }
+    host-forbidden k = gave (rw (h, k)) (rw (h, k))
 
-    pub host-entered : allowedb w n e ≡ true → (r : Entered) (v : List ℕ) → EnterDone w n e r v → EnterTypeDone w n e (entryAnswer 0 r n) v
+    pub host-entered : allowedb w n e ≡ true → (r : Entered) (v : List ℕ) → EnterDone w n e r v → Gave (enterType w n e) (entryAnswer 0 r n) v
     unfolding enterTypeReply enterTypeWords
-    host-entered k r v d = record { reply = rw (h, k, ← d .reply); words = rw (h, k) (d .words) }
+    host-entered k r v d = gave (rw (h, k, ← d .reply)) (rw (h, k) (d .words))

@@ -1,5 +1,6 @@
 pub mod TableLaws
 pub mod SoundLaws
+pub mod Giving
 pub mod EnterCases
 pub mod KindLaws
 pub mod SlotLaws

@@ -3,9 +3,9 @@ use Prim.Native.Nat.{ℕ}
 use mathlib.Core.Path.{_≡_, refl, sym, _∙_, ap}
 use mathlib.Core.Bool.{Bool}
 use mathlib.Core.List.{List}
-use Rattle.table.specs.Table.{entryAt, findIn, soundb, allowedb}
+use Rattle.table.specs.Table.{scalars, entryAt, findIn, soundb, allowedb}
 use Rattle.table.specs.Placing.{Outcome, Gave}
-use Rattle.table.specs.Enter.{EnterDone, EnterTwoDone, entryAnswer, EnterTypeDone}
+use Rattle.table.specs.Enter.{withScalars, EnterDone, EnterTwoDone, entryAnswer}
 use Rattle.table.specs.declared.Entry.{Entry}
 use Rattle.table.specs.declared.Found.{Found}
 use Rattle.table.specs.declared.Entered.{Entered}
@@ -30,6 +30,9 @@ sound-one w n x y = one x y
 pub allowed-one : (w : List ℕ) (n : ℕ) (e : Entry) {a b : Bool} → a ≡ allowedb w n e → b ≡ allowedb w n e → a ≡ b
 allowed-one w n e x y = one x y
 
+pub put-scalars-one : (w : List ℕ) {u v : List ℕ} → u ≡ withScalars scalars w → v ≡ withScalars scalars w → u ≡ v
+put-scalars-one w p q = one p q
+
 pub enter-one : {w : List ℕ} {n : ℕ} {e : Entry} {a b : Entered} {u v : List ℕ} → EnterDone w n e a u → EnterDone w n e b v → (a ≡ b) × (u ≡ v)
 enter-one x y = (one (x .reply) (y .reply), one (x .words) (y .words))
 
@@ -40,9 +43,6 @@ enter-two-one x y = (one (x .reply) (y .reply), one (x .words) (y .words))
 pub answer-of-one : (place n : ℕ) (r : Entered) {a b : Answer} → a ≡ entryAnswer place r n → b ≡ entryAnswer place r n → a ≡ b
 answer-of-one place n r x y = one x y
 
-pub enter-type-one : {w : List ℕ} {n : ℕ} {e : Entry} {a b : Answer} {u v : List ℕ} → EnterTypeDone w n e a u → EnterTypeDone w n e b v → (a ≡ b) × (u ≡ v)
-enter-type-one x y = (one (x .reply) (y .reply), one (x .words) (y .words))
-
--- what meets a call's promise is one
+-- what meets a call's promise is one; so of `enter_type`
 pub gave-one : (o : Outcome) (r s : Answer) (v u : List ℕ) → Gave o r v → Gave o s u → (r ≡ s) × (v ≡ u)
 gave-one o r s v u a b = (a .reply ∙ sym (b .reply), a .words ∙ sym (b .words))

@@ -19,7 +19,7 @@ use Rattle.table.specs.Table.{scalars, putEntry, orElse, findIn, allowed
 use Rattle.table.specs.Denote.{typeAt, tyOf, made, kindOf, pOf, qOf}
 use Rattle.table.specs.Enter.{free, missing, numberOr, addAt, entered, enterWords, EnterDone, entryAnswer, container, missingTwo, enteredTwo, enterTwoWords, EnterTwoDone}
 use Rattle.table.specs.Stands.{Absent, Stands}
-use Rattle.table.specs.Placing.{standsIn, Placed, here, entryOf, orNext, over, placed, Outcome, turnedDown, entering}
+use Rattle.table.specs.Placing.{standsIn, Standing, here, entryOf, orNext, over, placed, Outcome, turnedDown, entering}
 use Rattle.table.specs.declared.Entry.{Entry}
 use Rattle.answer.specs.declared.TypeNo.{TypeNo}
 use Rattle.answer.specs.declared.Reason.the-variants.{NoRoom}
@@ -88,11 +88,11 @@ pub placed-scalar : (w : List ℕ) (n s : ℕ) → placed w n (scalar s) ≡ her
 unfolding placed
 placed-scalar w n s = refl
 
-pub over-found : (w : List ℕ) (n : ℕ) (R : Ty) (inner : Placed) (t : TypeNo) → standsIn w n R ≡ At t → over w n R inner ≡ here (t .0) n w
+pub over-found : (w : List ℕ) (n : ℕ) (R : Ty) (inner : Standing) (t : TypeNo) → standsIn w n R ≡ At t → over w n R inner ≡ here (t .0) n w
 unfolding over
 over-found w n R inner t q = rw q
 
-pub over-next : (w : List ℕ) (n : ℕ) (R : Ty) (inner : Placed) → standsIn w n R ≡ Nothing
+pub over-next : (w : List ℕ) (n : ℕ) (R : Ty) (inner : Standing) → standsIn w n R ≡ Nothing
     → over w n R inner ≡ here (inner .used) (inner .used + 1) (putEntry (inner .words) (inner .used) (entryOf R (inner .number)))
 unfolding over
 over-next w n R inner q = rw q

@@ -219,7 +219,7 @@ unfoldable pub zeros : List ℕ → Bool
 zeros [] = true
 zeros (x ∷ xs) = eqb x 0 && zeros xs
 
-zero-at : (l : List ℕ) → zeros l ≡ true → (i : ℕ) → getD l i 0 ≡ 0
+pub zero-at : (l : List ℕ) → zeros l ≡ true → (i : ℕ) → getD l i 0 ≡ 0
 unfolding zeros
 zero-at [] h i = refl
 zero-at (x ∷ xs) h zero = eqb-true x 0 (and-left (eqb x 0) _ h)

@@ -67,8 +67,8 @@ pub record Words (e : Entry) (T t : Ty) : Type 0 where
   pub high : scalars ≤ e .kind
 
 module _ (e : Entry) (t : Ty) (component : e .elem < scalars → t ≡ scalar (e .elem)) where
-  zeros : plain e ≡ true → (0 ≡ e .p) × (0 ≡ e .q)
-  zeros h = (sym (eqb-true _ _ (and-left _ _ h)), sym (eqb-true _ _ (and-right (eqb (e .p) 0) _ h)))
+  plain-words : plain e ≡ true → (0 ≡ e .p) × (0 ≡ e .q)
+  plain-words h = (sym (eqb-true _ _ (and-left _ _ h)), sym (eqb-true _ _ (and-right (eqb (e .p) 0) _ h)))
 
   pub row-words : (ek eb : ℕ) → rowOk e ek eb ≡ true → Words e (made e t) t
   unfolding rowOk kindOf pOf qOf elementOf isScalar
@@ -97,16 +97,16 @@ module _ (e : Entry) (t : Ty) (component : e .elem < scalars → t ≡ scalar (e
       (λ k. let r = rw k at h in
       rw (made-array e t k)
       (record { kind = sym k; p = refl; q = sym (eqb-true _ _ (and-right (leb 1 (e .p)) _ (and-left _ _ r))); elem = refl; above = refl; high = omega arith }))
-      (λ k. let r = rw k at h in let z = zeros (and-left _ _ r) in
+      (λ k. let r = rw k at h in let z = plain-words (and-left _ _ r) in
       rw (made-runtime e t k) (record { kind = sym k; p = z .0; q = z .1; elem = refl; above = refl; high = omega arith }))
-      (λ k. let r = rw k at h in let z = zeros (and-left _ _ r) in
+      (λ k. let r = rw k at h in let z = plain-words (and-left _ _ r) in
       rw (made-atomic e t k)
       (record { kind = sym k; p = z .0; q = z .1; elem = sym (component (int-scalar (e .elem) (and-right (plain e) _ r))); above = refl; high = omega arith }))
       (λ k. rw (made-ptr e t k) (record { kind = sym k; p = refl; q = refl; elem = refl; above = refl; high = omega arith }))
       (λ k. rw (made-ref e t k) (record { kind = sym k; p = refl; q = refl; elem = refl; above = refl; high = omega arith }))
-      (λ k. let r = rw k at h in let z = zeros (and-left _ _ (and-left _ _ r)) in
+      (λ k. let r = rw k at h in let z = plain-words (and-left _ _ (and-left _ _ r)) in
       rw (made-frexp e t k) (record { kind = sym k; p = z .0; q = z .1; elem = refl; above = refl; high = omega arith }))
-      (λ k. let r = rw k at h in let z = zeros (and-left _ _ (and-left _ _ r)) in
+      (λ k. let r = rw k at h in let z = plain-words (and-left _ _ (and-left _ _ r)) in
       rw (made-modf e t k) (record { kind = sym k; p = z .0; q = z .1; elem = refl; above = refl; high = omega arith }))
       (λ n1 n2 n3 n4 n5 n6 n7 n8 n9. clash h (rw (n1, n2, n3, n4, n5, n6, n7, n8, n9)))
 

@@ -1,5 +1,5 @@
 -- Entering: "A result not present is entered, an absent element before its container". Assumes nothing.
-use Prim.Native.Nat.{ℕ, _+_, _-_, _/_}
+use Prim.Native.Nat.{ℕ, zero, suc, _+_, _-_, _/_}
 use mathlib.Core.Bool.{Bool, true, false, cond}
 use mathlib.Core.Path.{_≡_}
 use mathlib.Core.List.{List}
@@ -15,6 +15,11 @@ use Rattle.table.specs.declared.Entered.the-variants.{There, Full}
 use Rattle.answer.specs.declared.Reason.the-variants.{Unsound, Template, NoRoom}
 use Rattle.answer.specs.declared.Answer.{Answer}
 use Rattle.answer.specs.declared.Answer.the-variants.{Value}
+
+-- a table begins with the seven scalars: the first k of them as its first entries, and the words behind as they were
+unfoldable pub withScalars : ℕ → List ℕ → List ℕ
+withScalars zero w = w
+withScalars (suc k) w = putEntry (withScalars k w) k (record { kind = k; p = 0; q = 0; elem = 0 })
 
 -- "the slice or 256 leaves too little room": the free entries are the least of 256 and the slice's whole entries, less those in use
 unfoldable pub free : List ℕ → ℕ → ℕ
@@ -88,7 +93,3 @@ enterTypeReply w n e =
 
 unfoldable pub enterTypeWords : List ℕ → ℕ → Entry → List ℕ
 enterTypeWords w n e = cond (soundb w n) (cond (allowedb w n e) (enterWords w n e) w) w
-
-pub record EnterTypeDone (w : List ℕ) (n : ℕ) (e : Entry) (r : Answer) (after : List ℕ) : Type 0 where
-  pub reply : r ≡ enterTypeReply w n e
-  pub words : after ≡ enterTypeWords w n e

@@ -8,10 +8,10 @@ use lib.Dec.{leb}
 use Rattle.conv.specs.Types.{Ty}
 use Rattle.conv.specs.Types.Ty.{scalar, vec, mat, array, runtime, atomic, ptr, ref, frexp, modf}
 use Rattle.conv.specs.Rank.{sameTy}
-use Rattle.answer.specs.Answer.{accept, refuse}
+use Rattle.answer.specs.Answer.{numbersOf, accept, refuse}
 use Rattle.table.specs.Table.{putEntry, orElse}
 use Rattle.table.specs.Denote.{typeAt, kindOf, pOf, qOf}
-use Rattle.table.specs.Enter.{free}
+use Rattle.table.specs.Enter.{free, enterTypeReply, enterTypeWords}
 use Rattle.table.specs.declared.Entry.{Entry}
 use Rattle.table.specs.declared.Found.{Found}
 use Rattle.table.specs.declared.Found.the-variants.{At, Nothing}
@@ -25,12 +25,12 @@ standsIn w zero R = Nothing
 standsIn w (suc n) R = orElse (standsIn w n R) (cond (sameTy (typeAt w n) R) (At (record { 0 = n })) Nothing)
 
 -- where a type comes to stand: its number, the used count and the words, however many entries that takes
-pub record Placed : Type 0 where
+pub record Standing : Type 0 where
   pub number : ℕ
   pub used : ℕ
   pub words : List ℕ
 
-abbrev pub here : ℕ → ℕ → List ℕ → Placed
+abbrev pub here : ℕ → ℕ → List ℕ → Standing
 here k n w = record { number = k; used = n; words = w }
 
 -- the entry of R over the number of its element
@@ -38,14 +38,14 @@ abbrev pub entryOf : Ty → ℕ → Entry
 entryOf R k = record { kind = kindOf R; p = pOf R; q = qOf R; elem = k }
 
 -- R, whose element has its place already: at its number, or as the next entry
-abbrev pub orNext : Found → ℕ → List ℕ → Ty → Placed → Placed
+abbrev pub orNext : Found → ℕ → List ℕ → Ty → Standing → Standing
 orNext (At t) n w R inner = here (t .0) n w
 orNext Nothing n w R inner = here (inner .used) (inner .used + 1) (putEntry (inner .words) (inner .used) (entryOf R (inner .number)))
 
-unfoldable pub over : List ℕ → ℕ → Ty → Placed → Placed
+unfoldable pub over : List ℕ → ℕ → Ty → Standing → Standing
 over w n R inner = orNext (standsIn w n R) n w R inner
 
-unfoldable pub placed : List ℕ → ℕ → Ty → Placed
+unfoldable pub placed : List ℕ → ℕ → Ty → Standing
 placed w n (scalar s) = here s n w
 placed w n (vec k s) = over w n (vec k s) (here s n w)
 placed w n (mat c r s) = over w n (mat c r s) (here s n w)
@@ -73,7 +73,12 @@ entering place w n R =
     (record { answer = accept (placed w n R .number) (placed w n R .used); words = placed w n R .words })
     (turnedDown NoRoom place w n)
 
--- what a call promises: its answer, and every word afterwards
+-- a host's entering of a type, as `Enter.antt` has it
+abbrev pub enterType : List ℕ → ℕ → Entry → Outcome
+enterType w n e = record { answer = enterTypeReply w n e; words = enterTypeWords w n e }
+
+-- what a call promises: its answer, the answer's numbers, and every word afterwards
 pub record Gave (o : Outcome) (r : Answer) (after : List ℕ) : Type 0 where
   pub reply : r ≡ o .answer
+  pub numbers : numbersOf r ≡ numbersOf (o .answer)
   pub words : after ≡ o .words

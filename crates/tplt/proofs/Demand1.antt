@@ -11,7 +11,7 @@ use Rattle.conv.specs.Types.{Ty, formed}
 use Rattle.table.specs.Table.{soundb, Sound}
 use Rattle.table.specs.Denote.{typeAt}
 use Rattle.table.specs.Stands.{Absent, Stands}
-use Rattle.table.specs.Placing.{Outcome, turnedDown, entering}
+use Rattle.table.specs.Placing.{Outcome, turnedDown, entering, Gave}
 use Rattle.answer.specs.declared.TypeNo.{TypeNo}
 use Rattle.answer.specs.declared.Refusal.{Refusal}
 use Rattle.answer.specs.declared.Answer.{Answer}
@@ -19,12 +19,13 @@ use Rattle.answer.specs.declared.Answer.the-variants.{Value, NoValue, Refused}
 use Rattle.answer.specs.declared.Reason.{Reason}
 use Rattle.answer.specs.declared.Reason.the-variants.{Unsound, NoSuchType}
 use Rattle.table.proofs.KindLaws.{split}
+use Rattle.table.proofs.Giving.{whole}
 use Rattle.table.proofs.SoundLaws.{sound-of}
 use Rattle.table.proofs.EnterLaws.{added-absent}
 use Rattle.table.proofs.Demand1.{entering-stands, entering-refused, entering-valued}
 use Rattle.tplt.specs.Heads.{headOf}
 use Rattle.tplt.specs.Params.{paramsOf, typesKnown, argumentsOf}
-use Rattle.tplt.specs.Templates.{parsedOf, typeOf, outcomeOf, templateOutcome, TemplateDone}
+use Rattle.tplt.specs.Templates.{parsedOf, typeOf, outcomeOf, templateOutcome}
 use Rattle.tplt.specs.Steps.{Fit}
 use Rattle.tplt.specs.declared.Parsed.{Parsed}
 use Rattle.tplt.specs.declared.Parsed.the-variants.{OfVec, OfMat, OfAtomic, OfArray, Wrong}
@@ -108,9 +109,9 @@ module _ (w : List ℕ) (n : ℕ) (head : List ℕ) (args : List ℤ) where
       (λ a. f (sym (unsound-outcome w n head args a) ∙ h))
 
   -- accepted: the type is formed and stands at the number that is answered; earlier entries stay, and what is added was missing
-  pub accepted-grows : (t : TypeNo) (m : ℕ) (v : List ℕ) → TemplateDone w n head args (Value t m) v → Accepted (t .0) m v
+  pub accepted-grows : (t : TypeNo) (m : ℕ) (v : List ℕ) → Gave (templateOutcome w n head args) (Value t m) v → Accepted (t .0) m v
   accepted-grows t m v d =
-      by-way (answered (Value t m) v) (sym (d .outcome))
+      by-way (answered (Value t m) v) (whole _ _ v d)
       (λ h. value-refusal (ap (λ (o : Outcome). o .answer) (sym h)))
       (λ h. value-refusal (ap (λ (o : Outcome). o .answer) (sym h)))
       (λ s h.
@@ -118,17 +119,17 @@ module _ (w : List ℕ) (n : ℕ) (head : List ℕ) (args : List ℤ) where
       record { sound = s; good = fit s .good; stands = g; missing = added-absent g })
 
   -- refused: no word changes, at place 0, with the count as it was
-  pub refused-keeps : (r : Refusal) (v : List ℕ) → TemplateDone w n head args (Refused r) v → Untouched w n r v
+  pub refused-keeps : (r : Refusal) (v : List ℕ) → Gave (templateOutcome w n head args) (Refused r) v → Untouched w n r v
   refused-keeps r v d =
-      by-way (answered (Refused r) v) (sym (d .outcome))
+      by-way (answered (Refused r) v) (whole _ _ v d)
       (λ h. turned-untouched w n Unsound r v h)
       (λ h. turned-untouched w n NoSuchType r v h)
       (λ s h. parsed-untouched w n s (parsedOf w (headOf head) (argumentsOf n args)) (fit s) r v h)
 
   -- a template is never without a value
-  pub always-valued : (m : ℕ) (v : List ℕ) → TemplateDone w n head args (NoValue m) v → ⊥
+  pub always-valued : (m : ℕ) (v : List ℕ) → Gave (templateOutcome w n head args) (NoValue m) v → ⊥
   always-valued m v d =
-      by-way (answered (NoValue m) v) (sym (d .outcome))
+      by-way (answered (NoValue m) v) (whole _ _ v d)
       (λ h. none-refusal (ap (λ (o : Outcome). o .answer) (sym h)))
       (λ h. none-refusal (ap (λ (o : Outcome). o .answer) (sym h)))
       (λ s h. parsed-valued w n s (parsedOf w (headOf head) (argumentsOf n args)) (fit s) m v h)

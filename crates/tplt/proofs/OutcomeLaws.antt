@@ -6,12 +6,13 @@ use mathlib.Core.List.{List}
 use native.Mathlib.Omega.{arith}
 use lib.IntN.{ℤ}
 use Rattle.table.specs.Table.{soundb, Sound}
-use Rattle.table.specs.Placing.{Outcome, turnedDown, entering}
+use Rattle.table.specs.Placing.{Outcome, turnedDown, entering, Gave}
+use Rattle.table.proofs.Giving.{gave-whole}
 use Rattle.answer.specs.declared.Reason.the-variants.{Unsound, NoSuchType}
 use Rattle.answer.specs.declared.Answer.{Answer}
 use Rattle.tplt.specs.Heads.{headOf}
 use Rattle.tplt.specs.Params.{paramsOf, typesKnown, argumentsOf}
-use Rattle.tplt.specs.Templates.{parsedOf, outcomeOf, templateOutcome, TemplateDone}
+use Rattle.tplt.specs.Templates.{parsedOf, outcomeOf, templateOutcome}
 use Rattle.tplt.specs.Steps.{Below, Fit, Outcomes}
 use Rattle.tplt.specs.declared.head.Head.{Head}
 use Rattle.tplt.specs.declared.param.Arguments.{Arguments}
@@ -35,8 +36,8 @@ module _ (w : List ℕ) (n : ℕ) (head : List ℕ) (args : List ℤ) where
     parsed-outcome h = rw (sound, h)
 
   -- a refusal with the words unchanged
-  pub refusal-done : (o : Outcome) → templateOutcome w n head args ≡ o → (r : Answer) → r ≡ o .answer → w ≡ o .words → TemplateDone w n head args r w
-  refusal-done o h r a b = record { outcome = (λ i. record { answer = a i; words = b i }) ∙ sym h }
+  pub refusal-done : (o : Outcome) → templateOutcome w n head args ≡ o → (r : Answer) → r ≡ o .answer → w ≡ o .words → Gave (templateOutcome w n head args) r w
+  refusal-done o h r a b = gave-whole ((λ i. record { answer = a i; words = b i }) ∙ sym h)
 
   module _ (s : Sound w n) where
     -- the list's type number is below n
@@ -48,6 +49,6 @@ module _ (w : List ℕ) (n : ℕ) (head : List ℕ) (args : List ℤ) where
       pub call-fit : Fit w n p
       call-fit = subst (λ (x : Parsed). Fit w n x) (sym pq) (parsed-fit w n s h (ap wellSized hq ∙ head-sized head) a (list-below a aq))
 
-      pub call-done : soundb w n ≡ true → typesKnown (paramsOf n args) ≡ true → (r : Answer) (v : List ℕ) → Outcomes w n p r v → TemplateDone w n head args r v
+      pub call-done : soundb w n ≡ true → typesKnown (paramsOf n args) ≡ true → (r : Answer) (v : List ℕ) → Outcomes w n p r v → Gave (templateOutcome w n head args) r v
       call-done sound known r v o =
-          record { outcome = o .outcome ∙ ap (outcomeOf w n) (pq ∙ (λ i. parsedOf w (hq i) (aq i))) ∙ sym (parsed-outcome sound known) }
+          gave-whole (o .outcome ∙ ap (outcomeOf w n) (pq ∙ (λ i. parsedOf w (hq i) (aq i))) ∙ sym (parsed-outcome sound known))

@@ -1,6 +1,5 @@
 -- Document 01, "Template types": a head with a list answers that type, entered if absent. Assumes nothing.
 use Prim.Native.Nat.{ℕ}
-use mathlib.Core.Path.{_≡_}
 use mathlib.Core.Bool.{Bool, _&&_, _||_, not, cond}
 use mathlib.Core.List.{List}
 use lib.Dec.{eqb}
@@ -12,7 +11,6 @@ use Rattle.table.specs.Denote.{typeAt}
 use Rattle.table.specs.Placing.{Outcome, turnedDown, entering}
 use Rattle.answer.specs.declared.TypeNo.{TypeNo}
 use Rattle.answer.specs.declared.Reason.the-variants.{Unsound, NoSuchType, Unknown, Template, Count}
-use Rattle.answer.specs.declared.Answer.{Answer}
 use Rattle.tplt.specs.declared.head.Head.{Head}
 use Rattle.tplt.specs.declared.head.Head.the-variants.{Vector, Matrix, Atomic, Array, NoHead}
 use Rattle.tplt.specs.declared.param.Arguments.{Arguments}
@@ -106,7 +104,3 @@ templateOutcome w n head args =
     (outcomeOf w n (parsedOf w (headOf head) (argumentsOf n args)))
     (turnedDown NoSuchType 0 w n))
     (turnedDown Unsound 0 w n)
-
--- what the call promises: the answer, and every word afterwards
-pub record TemplateDone (w : List ℕ) (n : ℕ) (head : List ℕ) (args : List ℤ) (r : Answer) (after : List ℕ) : Type 0 where
-  pub outcome : record { answer = r; words = after } ≡ templateOutcome w n head args

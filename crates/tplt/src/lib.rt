@@ -3,7 +3,8 @@ ghost use Prim.Native.Nat.{_<_, _≤_};
 ghost use mathlib.Core.Path.{_≡_};
 ghost use Rattle.table.specs.Table.{ceiling, Sound};
 ghost use Rattle.table.specs.Denote.{typeAt};
-ghost use Rattle.tplt.specs.Templates.{isConcrete, isMatrixComponent, isAtomicComponent, isElement, vecParsed, matParsed, atomicParsed, arrayOfType, arrayParsed, parsedOf, TemplateDone};
+ghost use Rattle.tplt.specs.Templates.{isConcrete, isMatrixComponent, isAtomicComponent, isElement, vecParsed, matParsed, atomicParsed, arrayOfType, arrayParsed, parsedOf, templateOutcome};
+ghost use Rattle.table.specs.Placing.{Gave};
 ghost use Rattle.tplt.specs.Steps.{aloneIn, vecEntry, matEntry, atomicEntry, arrayEntry, numberIn, entryIn, Below, Fit, Outcomes};
 
 mod head;
@@ -279,7 +280,7 @@ fn enter_parsed(words: &mut [u32], n: usize, p: Parsed) -> Answer
 
 // The type of a head with a list of arguments, pairs of a tag and a value.
 pub fn type_template(words: &mut [u32], n: usize, head: &[u8], args: &[i64]) -> Answer
-    ensures { λ r. ⌜ TemplateDone (now (words .entry)) n (now (head .entry)) (now (args .entry)) r (now (words .exit)) ⌝ }
+    ensures { λ r. ⌜ Gave (templateOutcome (now (words .entry)) n (now (head .entry)) (now (args .entry))) r (now (words .exit)) ⌝ }
 {
     if !sound(words, n) {
         return refused(Reason::Unsound, Place(0), n);

@@ -3,10 +3,10 @@ use Prim.Native.Nat.{ℕ, zero, suc, _+_, _-_, _≤_, _<_}
 use mathlib.Core.Path.{_≡_, refl, sym, _∙_, ap}
 use mathlib.Core.List.{List}
 use native.Mathlib.Omega.{arith}
-use Rattle.answer.specs.Answer.{numbersOf}
+use Rattle.answer.specs.Answer.{Numbers, numbersOf}
 use Rattle.answer.specs.declared.Answer.{Answer}
 use Rattle.table.specs.Table.{scalars}
-use Rattle.table.specs.Enter.{EnterTypeDone}
+use Rattle.table.specs.Placing.{enterType, Gave}
 use Rattle.table.specs.declared.Entry.{Entry}
 use Rattle.vectors.specs.Filled.{entryOf, Filled, withType, filled, containers, FillDone}
 
@@ -20,7 +20,7 @@ pub none-yet : (w : List ℕ) → Below w scalars scalars w
 unfolding filled
 none-yet w = record { low = omega arith; counts = refl; holds = refl }
 
-pub one-more : (w : List ℕ) (i used : ℕ) (words : List ℕ) → Below w i used words → (e : Entry) → e ≡ entryOf i → (a : Answer) (v : List ℕ) → EnterTypeDone words used e a v
+pub one-more : (w : List ℕ) (i used : ℕ) (words : List ℕ) → Below w i used words → (e : Entry) → e ≡ entryOf i → (a : Answer) (v : List ℕ) → Gave (enterType words used e) a v
     → (n : ℕ) → n ≡ numbersOf a .used → Below w (i + 1) n v
 unfolding filled
 one-more w i used words b e q a v d n m =
@@ -28,7 +28,7 @@ one-more w i used words b e q a v d n m =
     let j : scalars + (i - scalars) ≡ i = let l = b .low in omega arith in
     record {
       low = let l = b .low in omega arith;
-      counts = rw (k, j, ← b .counts, ← b .holds, ← q) (m ∙ ap (λ (x : Answer). numbersOf x .used) (d .reply));
+      counts = rw (k, j, ← b .counts, ← b .holds, ← q) (m ∙ ap (λ (x : Numbers). x .used) (d .numbers));
       holds = rw (k, j, ← b .counts, ← b .holds, ← q) (d .words);
     }
 

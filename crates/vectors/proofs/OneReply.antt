@@ -4,12 +4,9 @@ use mathlib.Core.Path.{_≡_, sym, _∙_}
 use mathlib.Core.Bool.{Bool}
 use mathlib.Core.List.{List}
 use Rattle.answer.specs.declared.Answer.{Answer}
-use Rattle.vectors.specs.Filled.{scalarWords, FillDone}
+use Rattle.vectors.specs.Filled.{FillDone}
 use Rattle.vectors.specs.Chars.{answerChar}
 use Rattle.vectors.specs.Lines.{countedOf, lineEnd}
-
-pub scalars-one : {a b : List ℕ} → a ≡ scalarWords → b ≡ scalarWords → a ≡ b
-scalars-one x y = x ∙ sym y
 
 pub fill-one : {w : List ℕ} {a b : ℕ} {u v : List ℕ} → FillDone w a u → FillDone w b v → (a ≡ b) × (u ≡ v)
 fill-one x y = (x .used ∙ sym (y .used), x .words ∙ sym (y .words))

@@ -1,22 +1,14 @@
 -- The table of the 55 types: the scalars, the vectors and the matrices, by their numbers. Assumes nothing.
-use Prim.Native.Nat.{ℕ, zero, suc, _+_, _-_, _*_, _/_, _%_}
+use Prim.Native.Nat.{ℕ, zero, suc, _+_, _-_, _/_, _%_}
 use mathlib.Core.Path.{_≡_}
 use mathlib.Core.Bool.{cond}
 use mathlib.Core.List.{List}
-use lib.ListN.{replicate, set}
 use lib.Dec.{ltb, eqb}
 use Rattle.conv.specs.Types.{abstractFloat, f32, f16}
 use Rattle.answer.specs.Answer.{numbersOf}
-use Rattle.table.specs.Table.{stride, scalars, kindVec, kindMat}
+use Rattle.table.specs.Table.{scalars, kindVec, kindMat}
 use Rattle.table.specs.Enter.{enterTypeReply, enterTypeWords}
 use Rattle.table.specs.declared.Entry.{Entry}
-
--- the words of the seven scalars, each entry its own kind and else 0, with room for 64 entries
-abbrev pub withScalar : ℕ → List ℕ → List ℕ
-withScalar k w = set w (k * stride) k
-
-unfoldable pub scalarWords : List ℕ
-scalarWords = withScalar 6 (withScalar 5 (withScalar 4 (withScalar 3 (withScalar 2 (withScalar 1 (replicate 256 0))))))
 
 -- the three floats, in order
 abbrev pub floatNo : ℕ → ℕ

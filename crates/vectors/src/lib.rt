@@ -7,8 +7,7 @@ use table::Refusal;
 ghost use mathlib.Core.Path.{_≡_};
 ghost use Prim.Native.Nat.{_≤_};
 ghost use lib.ListN.{length};
-ghost use Rattle.answer.specs.Answer.{numbersOf};
-ghost use Rattle.vectors.specs.Filled.{scalarWords, floatNo, entryOf, FillDone};
+ghost use Rattle.vectors.specs.Filled.{floatNo, entryOf, FillDone};
 ghost use Rattle.vectors.specs.Chars.{modfs, floatPlace, resultChar, entryChar, newChar, valueChar, refusalChar, answerChar};
 ghost use Rattle.vectors.specs.Lines.{countedOf, lineEnd};
 
@@ -77,39 +76,13 @@ fn entry_of(i: u32) -> Entry
     }
 }
 
-// The words of a table of the seven scalars, with room for 64 entries.
-pub fn scalars() -> [u32; 256]
-    ensures { λ r. ⌜ 256 ≡ length r ⌝ }
-    ensures { λ r. ⌜ r ≡ scalarWords ⌝ }
-{
-    let mut words = [0; 256];
-    words[table::STRIDE] = 1;
-    words[2 * table::STRIDE] = 2;
-    words[3 * table::STRIDE] = 3;
-    words[4 * table::STRIDE] = 4;
-    words[5 * table::STRIDE] = 5;
-    words[6 * table::STRIDE] = 6;
-    words
-}
-
-// The used count that an answer tells.
-fn used_of(answer: Answer) -> usize
-    ensures { λ r. ⌜ r ≡ numbersOf answer .used ⌝ }
-{
-    match answer {
-        Answer::Value(_, used) => used,
-        Answer::NoValue(used) => used,
-        Answer::Refused(refusal) => refusal.used,
-    }
-}
-
 // Enters the vectors and matrices in their order, and gives the used count.
 pub fn fill(words: &mut [u32]) -> usize
     ensures { λ r. ⌜ FillDone (now (words .entry)) r (now (words .exit)) ⌝ }
 {
     let mut used = table::SCALARS;
     for i in SCALARS..END {
-        used = used_of(entering::enter_type(words, used, entry_of(i)));
+        used = answer::used_of(entering::enter_type(words, used, entry_of(i)));
     }
     used
 }

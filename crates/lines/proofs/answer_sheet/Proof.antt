@@ -32,7 +32,7 @@ unfolding report
 returns c =
     let s = c .before .before .before .before .before .before .before .before .before .before .before .args .bytes .now in
     let g : Gave (outcome s) (c .before .before .before .before .before .before .type-sheet .result) (c .before .before .before .before .before .before .type-sheet .last .0) = rw (c .before .before .before .before .before .before .before .before .scalars .ensures) at (c .before .before .before .before .before .before .type-sheet .ensures) in
-    rw (g .reply, g .words) at (c .before .before .write .ensures)
+    (rw (g .reply, g .words) at (c .before .before .write .ensures .0), c .before .before .write .ensures .1)
 
 pub answer-sheet-spec : {M : Type 1} → statement M
 answer-sheet-spec =

@@ -1,6 +1,6 @@
 -- `lines::first_line` meets its contract, case by case. Assumes nothing.
 use native.Mathlib.Omega.{arith}
-use Rattle.spell.specs.Spell.{ascii}
+use Rattle.text.specs.Text.{ascii}
 use Rattle.lines.specs.Lines.{firstLine}
 use borrow.Author.Needs.{needs}
 use Rattle.lines.proofs.first_line.Statement.{statement}

@@ -1,5 +1,5 @@
 -- `lines::put_after` meets its contract: the number is put after the text. Assumes nothing.
-use Rattle.spell.proofs.Puts.{put-put}
+use Rattle.text.proofs.Puts.{put-put}
 use borrow.Author.Needs.{needs}
 use Rattle.lines.proofs.put_after.Statement.{statement}
 use Rattle.lines.proofs.put_after.Tie as tie

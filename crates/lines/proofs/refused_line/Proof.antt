@@ -1,7 +1,7 @@
 -- `lines::refused_line` meets its contract: each call puts the next part of the line. Assumes nothing.
 use native.Mathlib.Omega.{arith}
-use Rattle.spell.specs.Spell.{ascii}
-use Rattle.spell.proofs.Puts.{put-put}
+use Rattle.text.specs.Text.{ascii}
+use Rattle.text.proofs.Puts.{put-put}
 use Rattle.lines.specs.Lines.{refusedLine}
 use Rattle.lines.proofs.Lengths.{after-near}
 use borrow.Author.Needs.{needs}
@@ -25,7 +25,7 @@ slice-aggregate-put-after-2 c = search needs
 
 put-after-requires-2 : tie.Need-put-after-requires-2
 unfolding ascii
-put-after-requires-2 c κs = omega (arith, after-near (ascii "refused ") (c .before .before .before .before .before .reason-no .result) (c .before .before .before .before .put-after .ensures))
+put-after-requires-2 c κs = omega (arith, after-near (ascii "refused ") (c .before .before .before .before .before .reason-no .result) (omega arith) (c .before .before .before .before .put-after .ensures))
 
 same-length : tie.Need-same-length
 same-length c = search needs
@@ -35,7 +35,7 @@ unfolding ascii refusedLine
 returns c =
     let a = c .before .before .before .before .before .before .before .before .before .before .before .before .before .args in (
       put-put (rw (c .before .before .before .before .before .before .before .before .reason-no .ensures) at (c .before .before .before .before .before .before .before .put-after .ensures)) (c .before .before .put-after2 .ensures),
-      omega (arith, after-near (ascii "refused ") (c .before .before .before .before .before .before .before .before .reason-no .result) (c .before .before .before .before .before .before .before .put-after .ensures), after-near (ascii " at ") (a .r .place .0) (c .before .before .put-after2 .ensures)),
+      omega (arith, after-near (ascii "refused ") (c .before .before .before .before .before .before .before .before .reason-no .result) (omega arith) (c .before .before .before .before .before .before .before .put-after .ensures), after-near (ascii " at ") (a .r .place .0) (omega arith) (c .before .before .put-after2 .ensures)),
     )
 
 pub refused-line-spec : {M : Type 1} → statement M

@@ -1,7 +1,8 @@
 -- `lines::type_line` meets its contract: each call puts the next part of the line. Assumes nothing.
 use native.Mathlib.Omega.{arith}
-use Rattle.spell.specs.Spell.{ascii}
-use Rattle.spell.proofs.Puts.{put-put}
+use Rattle.text.specs.Text.{ascii}
+use Rattle.text.proofs.Puts.{put-put}
+use Rattle.spell.proofs.Short.{type-slim}
 use Rattle.lines.specs.Lines.{typeLine}
 use Rattle.lines.proofs.Lengths.{after-near}
 use borrow.Author.Needs.{needs}
@@ -18,13 +19,13 @@ put-byte-requires : tie.Need-put-byte-requires
 unfolding ascii
 put-byte-requires c κs =
     let a = c .before .before .before .before .before .before .before .before in
-    omega (arith, after-near (ascii "type ") (a .args .t .0) (c .before .before .before .put-after .ensures), a .pre .0 .high, a .pre .1)
+    omega (arith, after-near (ascii "type ") (a .args .t .0) (omega (arith, a .pre .0 .high, a .pre .1)) (c .before .before .before .put-after .ensures))
 
 spell-type-requires : tie.Need-spell-type-requires
 unfolding ascii
 spell-type-requires c κs =
     let a = c .before .before .before .before .before .before .before .before .before .before .before .before in
-    (a .pre .0, (a .pre .1, omega (arith, after-near (ascii "type ") (a .args .t .0) (c .before .before .before .before .before .before .before .put-after .ensures), c .before .before .before .put-byte .ensures .place, a .pre .0 .high, a .pre .1)))
+    (a .pre .0, (a .pre .1, omega (arith, after-near (ascii "type ") (a .args .t .0) (omega (arith, a .pre .0 .high, a .pre .1)) (c .before .before .before .before .before .before .before .put-after .ensures), c .before .before .before .put-byte .ensures .place, a .pre .0 .high, a .pre .1)))
 
 same-length : tie.Need-same-length
 same-length c = search needs
@@ -34,7 +35,7 @@ unfolding ascii typeLine
 returns c =
     let a = c .before .before .before .before .before .before .before .before .before .before .before .before .before .before .before in (
       put-put (put-put (c .before .before .before .before .before .before .before .before .before .before .put-after .ensures) (c .before .before .before .before .before .before .put-byte .ensures)) (c .before .before .spell-type .ensures .0),
-      omega (arith, after-near (ascii "type ") (a .args .t .0) (c .before .before .before .before .before .before .before .before .before .before .put-after .ensures), c .before .before .before .before .before .before .put-byte .ensures .place, c .before .before .spell-type .ensures .1, a .pre .0 .high, a .pre .1),
+      omega (arith, after-near (ascii "type ") (a .args .t .0) (omega (arith, a .pre .0 .high, a .pre .1)) (c .before .before .before .before .before .before .before .before .before .before .put-after .ensures), c .before .before .before .before .before .before .put-byte .ensures .place, c .before .before .spell-type .ensures .0 .place, type-slim (a .args .words .now) (λ i. omega (arith, c .before .before .before .before .before .before .before .before .before .before .before .before .before .before .shared-slice-known .given i)) (a .args .t .0), a .pre .0 .high, a .pre .1),
     )
 
 pub type-line-spec : {M : Type 1} → statement M

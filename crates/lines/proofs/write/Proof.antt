@@ -1,8 +1,8 @@
 -- `lines::write` meets its contract: the first line, its end, the second, its end. Assumes nothing.
 use native.Mathlib.Omega.{arith}
 use borrow.Author.Needs.{needs}
-use Rattle.spell.specs.Spell.{ascii}
-use Rattle.spell.proofs.Puts.{put-put}
+use Rattle.text.specs.Text.{ascii}
+use Rattle.text.proofs.Puts.{put-put}
 use Rattle.lines.specs.Lines.{secondLine, linesOf}
 use Rattle.lines.proofs.Lengths.{after-near}
 use Rattle.lines.proofs.write.Statement.{statement}
@@ -25,19 +25,21 @@ put-after-requires c κs = search needs
 
 put-byte-requires-2 : tie.Need-put-byte-requires-2
 unfolding ascii
-put-byte-requires-2 c κs = omega (arith, after-near (ascii "entries ") (c .before .before .before .before .used-of .result) (c .before .before .before .put-after .ensures), c .before .before .before .before .before .before .before .before .before .put-byte .ensures .place, c .before .before .before .before .before .before .before .before .before .before .before .before .before .first-line .ensures .1)
+put-byte-requires-2 c κs = omega (arith, after-near (ascii "entries ") (c .before .before .before .before .used-of .result) (omega arith) (c .before .before .before .put-after .ensures), c .before .before .before .before .before .before .before .before .before .put-byte .ensures .place, c .before .before .before .before .before .before .before .before .before .before .before .before .before .first-line .ensures .1)
 
 same-length : tie.Need-same-length
 same-length c = search needs
 
 returns : tie.Need-returns
 unfolding ascii secondLine linesOf
-returns c =
-    put-put
-    (put-put
-    (put-put (c .before .before .before .before .before .before .before .before .before .before .before .before .before .before .before .before .first-line .ensures .0) (c .before .before .before .before .before .before .before .before .before .before .before .before .put-byte .ensures))
-    (rw (c .before .before .before .before .before .before .before .used-of .ensures) at (c .before .before .before .before .before .before .put-after .ensures)))
-    (c .before .before .put-byte2 .ensures)
+returns c = (
+  put-put
+      (put-put
+      (put-put (c .before .before .before .before .before .before .before .before .before .before .before .before .before .before .before .before .first-line .ensures .0) (c .before .before .before .before .before .before .before .before .before .before .before .before .put-byte .ensures))
+      (rw (c .before .before .before .before .before .before .before .used-of .ensures) at (c .before .before .before .before .before .before .put-after .ensures)))
+      (c .before .before .put-byte2 .ensures),
+  omega (arith, after-near (ascii "entries ") (c .before .before .before .before .before .before .before .used-of .result) (omega arith) (c .before .before .before .before .before .before .put-after .ensures), c .before .before .before .before .before .before .before .before .before .before .before .before .put-byte .ensures .place, c .before .before .before .before .before .before .before .before .before .before .before .before .before .before .before .before .first-line .ensures .1, c .before .before .put-byte2 .ensures .place),
+)
 
 pub write-spec : {M : Type 1} → statement M
 write-spec =

@@ -8,7 +8,7 @@ use mathlib.Core.Logic.{inl, inr}
 use lib.Dec.{ltb}
 use Rattle.conv.specs.Rank.{both, none, rankOf, converts, accepts}
 use Rattle.conv.proofs.Made.{rank-self}
-use Rattle.overload.specs.Rows.{typeAt}
+use Rattle.overload.specs.Rows.{patternTy}
 use Rattle.overload.specs.Code.{operand, sizeOfNo, patternOfNo, askedOf}
 use Rattle.overload.proofs.Slots.{other-shape, same-shape, slot-apart, slot-T, slot-fixed, both-false, both-true, both-same, none-accepts, plain-accepts}
 use Rattle.overload.proofs.join_slot.Statement.{statement}
@@ -41,7 +41,7 @@ shaped c = same-shape _ _ _ _ (c .before .component .ensures) (c .if1 .left)
 
 -- at a parameter of T it converts as its component does
 of-T : (c : tie.Then2) (t : ℕ) → t < 7 → let s = c .before .before .before in
-    accepts (c .before .before .component .result) t ≡ converts (operand (s .args .x)) (typeAt (sizeOfNo (s .args .n)) t (patternOfNo (s .args .p)))
+    accepts (c .before .before .component .result) t ≡ converts (operand (s .args .x)) (patternTy (sizeOfNo (s .args .n)) t (patternOfNo (s .args .p)))
 of-T c t h =
     let s = c .before .before .before in
     let a = s .args in
@@ -52,7 +52,7 @@ of-T c t h =
 
 -- at another it converts by the ranks
 fixed : (c : tie.Else2) (t : ℕ) → t < 7 → let s = c .before .before .before in
-    ltb (rankOf (c .before .before .component .result) (s .args .p % 8)) none ≡ converts (operand (s .args .x)) (typeAt (sizeOfNo (s .args .n)) t (patternOfNo (s .args .p)))
+    ltb (rankOf (c .before .before .component .result) (s .args .p % 8)) none ≡ converts (operand (s .args .x)) (patternTy (sizeOfNo (s .args .n)) t (patternOfNo (s .args .p)))
 fixed c t h =
     let s = c .before .before .before in
     let a = s .args in

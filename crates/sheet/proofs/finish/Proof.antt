@@ -9,7 +9,7 @@ use Rattle.sheet.proofs.finish.Statement.{statement}
 use Rattle.sheet.proofs.finish.Tie as tie
 use Rattle.sheet.proofs.finish.Reads as reads
 use Rattle.sheet.proofs.finish.Lts as lts
-use Rattle.step.proofs.number.Reads as number-reads
+use Rattle.held.proofs.number.Reads as number-reads
 use Rattle.table.proofs.accepted.Reads as accepted-reads
 use Rattle.table.proofs.refused.Reads as refused-reads
 

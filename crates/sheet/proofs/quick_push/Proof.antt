@@ -11,7 +11,7 @@ use Rattle.sheet.proofs.quick_push.Statement.{statement}
 use Rattle.sheet.proofs.quick_push.Tie as tie
 use Rattle.sheet.proofs.quick_push.Reads as reads
 use Rattle.sheet.proofs.quick_push.Lts as lts
-use Rattle.step.proofs.value.Reads as value-reads
+use Rattle.held.proofs.value.Reads as value-reads
 
 cast-stack : tie.Need-cast-stack
 cast-stack c = search needs

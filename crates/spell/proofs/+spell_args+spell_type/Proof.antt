@@ -15,7 +15,7 @@ use Rattle.table.proofs.wide.Reads as wide-reads
 use Rattle.spell.proofs.Entries.{under, alone, with-args, with-result}
 use Rattle.spell.proofs.Heads.{head-long, opening-long, closing-long, fract-long}
 use Rattle.spell.specs.Parts.{half}
-use Rattle.spell.proofs.Puts.{put-put}
+use Rattle.text.proofs.Puts.{put-put}
 use Rattle.spell.proofs.+spell_args+spell_type.{statement}
 use Rattle.spell.proofs.+spell_args+spell_type.Tie.{close}
 use Rattle.spell.proofs.spell_args.Reads as spell-args

@@ -1,8 +1,8 @@
 -- `spell::put_closing` meets its contract: what stands last, and then `>`. Assumes nothing.
 use native.Mathlib.Omega.{arith}
-use Rattle.spell.specs.Spell.{ascii}
+use Rattle.text.specs.Text.{ascii}
 use Rattle.spell.specs.Parts.{closing}
-use Rattle.spell.proofs.Puts.{put-put}
+use Rattle.text.proofs.Puts.{put-put}
 use borrow.Author.Needs.{needs}
 use Rattle.spell.proofs.put_closing.Statement.{statement}
 use Rattle.spell.proofs.put_closing.Tie as tie

@@ -2,7 +2,7 @@
 use native.Mathlib.Omega.{arith}
 use borrow.Author.Needs.{needs}
 use Rattle.spell.proofs.Heads.{head-long, fract-vec, fract-scalar}
-use Rattle.spell.proofs.Puts.{put-put}
+use Rattle.text.proofs.Puts.{put-put}
 use Rattle.spell.proofs.put_fract.Statement.{statement}
 use Rattle.spell.proofs.put_fract.Tie as tie
 

@@ -2,8 +2,9 @@
 use native.Mathlib.Omega.{arith}
 use borrow.Author.Needs.{needs}
 use Rattle.spell.proofs.Heads.{head-vec, head-mat, head-plain}
-use Rattle.spell.proofs.Puts.{put-put}
-use Rattle.spell.proofs.Texts.{text-long, dec-long}
+use Rattle.text.proofs.Puts.{put-put}
+use Rattle.text.proofs.Decimals.{dec-long}
+use Rattle.spell.proofs.Texts.{text-long}
 use Rattle.spell.proofs.put_head.Statement.{statement}
 use Rattle.spell.proofs.put_head.Tie as tie
 

@@ -2,8 +2,9 @@
 use Prim.Native.Nat.{_+_}
 use native.Mathlib.Omega.{arith}
 use Rattle.spell.proofs.Heads.{last-array, last-space, last-none}
-use Rattle.spell.proofs.Puts.{put-nothing, put-put}
-use Rattle.spell.proofs.Texts.{text-long, dec-long}
+use Rattle.text.proofs.Puts.{put-nothing, put-put}
+use Rattle.text.proofs.Decimals.{dec-long}
+use Rattle.spell.proofs.Texts.{text-long}
 use borrow.Author.Needs.{needs}
 use Rattle.spell.proofs.put_last.Statement.{statement}
 use Rattle.spell.proofs.put_last.Tie as tie

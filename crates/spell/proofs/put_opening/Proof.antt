@@ -3,7 +3,7 @@ use Prim.Native.Nat.{_+_}
 use native.Mathlib.Omega.{arith}
 use borrow.Author.Needs.{needs}
 use Rattle.spell.proofs.Heads.{opening-space, opening-plain}
-use Rattle.spell.proofs.Puts.{put-put}
+use Rattle.text.proofs.Puts.{put-put}
 use Rattle.spell.proofs.Texts.{text-long}
 use Rattle.spell.proofs.put_opening.Statement.{statement}
 use Rattle.spell.proofs.put_opening.Tie as tie

@@ -7,7 +7,7 @@ use lib.ListN.{length, take, set}
 use lib.Seq.{sets, length-sets, take-all}
 use Rattle.spell.specs.Parts.{textOf}
 use Rattle.spell.proofs.Texts.{text-none, text-short, text-end, text-more}
-use Rattle.spell.proofs.Puts.{put-nothing, put-more}
+use Rattle.text.proofs.Puts.{put-nothing, put-more}
 use Rattle.spell.proofs.put_text.Statement.{statement}
 use Rattle.spell.proofs.put_text.Tie as tie
 

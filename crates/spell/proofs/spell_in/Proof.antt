@@ -8,8 +8,8 @@ use lib.ListN.{length}
 use borrow.Author.Needs.{needs}
 use Rattle.table.specs.Denote.{typeAt}
 use Rattle.spell.proofs.Outcomes.{at-beyond, at-long, at-fits}
-use Rattle.spell.proofs.Puts.{over-none}
-use Rattle.spell.specs.Parts.{Put}
+use Rattle.text.proofs.Puts.{over-none}
+use Rattle.text.specs.Text.{Put}
 use Rattle.spell.specs.Spell.{spelling}
 use Rattle.spell.proofs.spell_in.Statement.{statement}
 use Rattle.spell.proofs.spell_in.Tie as tie

@@ -1,7 +1,7 @@
 -- `spell::text_byte` meets its contract: the table is the padded texts, one after another, by computation. Assumes nothing.
 use native.Mathlib.Omega.{arith}
 use borrow.Author.Needs.{needs}
-use Rattle.spell.specs.Spell.{ascii}
+use Rattle.text.specs.Text.{ascii}
 use Rattle.spell.proofs.Texts.{pad, row, rows, text-byte}
 use Rattle.spell.proofs.text_byte.Statement.{statement}
 use Rattle.spell.proofs.text_byte.Tie as tie

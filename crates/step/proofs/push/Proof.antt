@@ -8,7 +8,7 @@ use Rattle.step.proofs.push.Tie as tie
 use Rattle.step.proofs.push.Reads as reads
 use Rattle.step.proofs.push.Lts as lts
 use Rattle.step.proofs.stopped.Reads as stopped-reads
-use Rattle.step.proofs.value.Reads as value-reads
+use Rattle.held.proofs.value.Reads as value-reads
 
 stopped-requires : tie.Need-stopped-requires
 stopped-requires c κs = search needs

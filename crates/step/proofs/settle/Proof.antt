@@ -11,7 +11,7 @@ use Rattle.step.proofs.settle.Statement.{statement}
 use Rattle.step.proofs.settle.Tie as tie
 use Rattle.step.proofs.settle.Reads as reads
 use Rattle.step.proofs.settle.Lts as lts
-use Rattle.step.proofs.value.Reads as value-reads
+use Rattle.held.proofs.value.Reads as value-reads
 
 enum-known-a : tie.Need-enum-known-a
 enum-known-a c = search needs

@@ -1,6 +1,6 @@
 -- `swartabelk::swartabelk_template` meets its contract: the answer of `type_template` fits and is told in numbers. Assumes nothing.
 use Rattle.tplt.specs.Templates.{templateOutcome}
-use Rattle.swartabelk.proofs.Fitting.{template-fits, template-gave, replied}
+use Rattle.swartabelk.proofs.Fitting.{template-fits, replied}
 use native.Mathlib.Omega.{arith}
 use borrow.Author.Needs.{needs}
 use Rattle.swartabelk.proofs.swartabelk_template.Statement.{statement}
@@ -20,7 +20,7 @@ same-length c = search needs
 
 returns : tie.Need-returns
 returns c = let a = c .before .before .before .before .before .before .before .before .args in
-    replied (λ i. templateOutcome (a .words .now) (c .before .before .before .before .before .wide .ensures i) (a .head .now) (a .args .now)) (template-gave (c .before .before .before .type-template .ensures)) (c .reply-of .ensures)
+    replied (λ i. templateOutcome (a .words .now) (c .before .before .before .before .before .wide .ensures i) (a .head .now) (a .args .now)) (c .before .before .before .type-template .ensures) (c .reply-of .ensures)
 
 pub swartabelk-template-spec : {M : Type 1} → statement M
 swartabelk-template-spec =

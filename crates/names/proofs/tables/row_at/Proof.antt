@@ -2,15 +2,16 @@
 use mathlib.Core.Path.{refl}
 use native.Mathlib.Omega.{arith}
 use Rattle.conv.specs.Rank.{both}
-use Rattle.names.specs.Names.{bytes, names, nameAt}
+use Rattle.text.specs.Text.{ascii}
+use Rattle.names.specs.Names.{names, nameAt}
 use Rattle.names.specs.Search.{letterAt, ruleAt, letterOf, letterIn}
-use Rattle.names.proofs.Slots.{above}
+use Rattle.conv.proofs.Finite.{above}
 use Rattle.names.proofs.Table.{row-line}
 use Rattle.names.proofs.tables.row_at.Statement.{statement}
 use Rattle.names.proofs.tables.row_at.Tie as tie
 
 pub row-at-spec : {M : Type 1} → statement M
-unfolding both bytes names nameAt letterAt ruleAt letterOf letterIn
+unfolding both ascii names nameAt letterAt ruleAt letterOf letterIn
 row-at-spec =
     tie.close
     (tie.spec

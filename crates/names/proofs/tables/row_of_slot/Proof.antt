@@ -1,14 +1,16 @@
 -- `names::tables::row_of_slot` meets its contract: the row of each slot is computed. Assumes nothing.
 use mathlib.Core.Path.{sym}
 use Rattle.conv.specs.Rank.{both}
-use Rattle.names.specs.Names.{bytes, names, nameAt, count}
+use Rattle.text.specs.Text.{ascii}
+use Rattle.names.specs.Names.{names, nameAt, count}
 use Rattle.names.specs.Search.{mixedFrom, slotOf}
-use Rattle.names.proofs.Slots.{others, no-slot, slot-row}
+use Rattle.conv.proofs.Finite.{others}
+use Rattle.names.proofs.Slots.{no-slot, slot-row}
 use Rattle.names.proofs.tables.row_of_slot.Statement.{statement}
 use Rattle.names.proofs.tables.row_of_slot.Tie as tie
 
 pub row-of-slot-spec : {M : Type 1} → statement M
-unfolding both bytes names nameAt mixedFrom slotOf
+unfolding both ascii names nameAt mixedFrom slotOf
 row-of-slot-spec =
     tie.close
     (tie.spec

@@ -4,7 +4,8 @@ use Rattle.conv.specs.Rank.{both}
 use Rattle.overload.specs.Overload.{or}
 use Rattle.overload.specs.Rows.{formAt, operators, builtins}
 use Rattle.overload.specs.Code as code
-use Rattle.overload.proofs.Lines.{families-line, above}
+use Rattle.conv.proofs.Finite.{above}
+use Rattle.overload.proofs.Lines.{families-line}
 use Rattle.overload.proofs.tables.families_of.Statement.{statement}
 use Rattle.overload.proofs.tables.families_of.Tie as tie
 use Rattle.overload.proofs.tables.families_of.Reads as reads

@@ -4,7 +4,8 @@ use Rattle.conv.specs.Rank.{both}
 use Rattle.overload.specs.Overload.{or}
 use Rattle.overload.specs.Rows.{formAt, operators, builtins}
 use Rattle.overload.specs.Code as code
-use Rattle.overload.proofs.Lines.{word-of, word-line, no-family, above}
+use Rattle.conv.proofs.Finite.{above}
+use Rattle.overload.proofs.Lines.{word-of, word-line, no-family}
 use Rattle.overload.proofs.tables.family_word.Statement.{statement}
 use Rattle.overload.proofs.tables.family_word.Tie as tie
 use Rattle.overload.proofs.tables.family_word.Reads as reads

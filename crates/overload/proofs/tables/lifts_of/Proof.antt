@@ -3,7 +3,8 @@ use mathlib.Core.List.{[]}
 use Rattle.conv.specs.Rank.{both, rankOf}
 use Rattle.overload.specs.Overload.{or}
 use Rattle.overload.specs.Code as code
-use Rattle.overload.proofs.Lines.{lifts-of, lifts-line, no-set, above}
+use Rattle.conv.proofs.Finite.{above}
+use Rattle.overload.proofs.Lines.{lifts-of, lifts-line, no-set}
 use Rattle.overload.proofs.tables.lifts_of.Statement.{statement}
 use Rattle.overload.proofs.tables.lifts_of.Tie as tie
 use Rattle.overload.proofs.tables.lifts_of.Reads as reads

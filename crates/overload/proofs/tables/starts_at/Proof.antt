@@ -1,10 +1,10 @@
 -- `overload::tables::starts_at` meets its contract: a line for each size, whose shapes antt computes. Assumes nothing.
 use native.Mathlib.Omega.{arith}
 use Rattle.conv.specs.Rank.{both}
-use Rattle.conv.proofs.Finite.{implies}
+use Rattle.conv.proofs.Finite.{implies, above}
 use Rattle.overload.specs.Rows.{formAt}
 use Rattle.overload.specs.Code as code
-use Rattle.overload.proofs.Lines.{starts-line, above}
+use Rattle.overload.proofs.Lines.{starts-line}
 use Rattle.overload.proofs.tables.starts_at.Statement.{statement}
 use Rattle.overload.proofs.tables.starts_at.Tie as tie
 use Rattle.overload.proofs.tables.starts_at.Reads as reads

@@ -6,8 +6,8 @@ use native.Mathlib.Numerals.{add-one}
 use native.Mathlib.Nat.{add-zero, zero-add, add-suc, suc-add}
 use native.Mathlib.Omega.{arith}
 use lib.ListN.{length, getD, set, take, drop, length-append, length-take}
-use lib.Seq.{sets, sets-eq, take-suc}
-use Rattle.spell.specs.Parts.{Put}
+use lib.Seq.{sets, sets-eq, take-suc, length-sets}
+use Rattle.text.specs.Text.{Put}
 
 sets-append : (d : List ℕ) (at : ℕ) (s t : List ℕ) → sets d at (s ++ t) ≡ sets (sets d at s) (at + length s) t
 sets-append d at [] t = rw add-zero
@@ -23,6 +23,10 @@ put-put {d} {v} {u} {at} {r} {m} {s} {t} a b =
       place = omega (arith, a .place, b .place, length-append s t);
       bytes = b .bytes ∙ ap (λ (l : List ℕ). sets l r t) (a .bytes) ∙ ap (λ (k : ℕ). sets (sets d at s) k t) (a .place) ∙ sym (sets-append d at s t);
     }
+
+-- an output stays as long as it was
+pub put-long : {d v : List ℕ} {at r : ℕ} {s : List ℕ} → Put d at s r v → length v ≡ length d
+put-long {d} {v} {at} {r} {s} p = ap length (p .bytes) ∙ length-sets d at s
 
 -- a text's first j bytes, and one more
 pub put-more : (d v : List ℕ) (at j : ℕ) (s : List ℕ) (z : ℕ) → j < length s → v ≡ sets d at (take j s) → set v (at + j) (getD s j z) ≡ sets d at (take (j + 1) s)

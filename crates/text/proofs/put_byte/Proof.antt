@@ -1,9 +1,9 @@
--- `spell::put_byte` meets its contract: a byte past the end changes nothing. Assumes nothing.
+-- `text::put_byte` meets its contract: a byte past the end changes nothing. Assumes nothing.
 use mathlib.Core.Path.{refl, sym}
 use lib.Seq.{set-out}
 use borrow.Author.Needs.{needs}
-use Rattle.spell.proofs.put_byte.Statement.{statement}
-use Rattle.spell.proofs.put_byte.Tie as tie
+use Rattle.text.proofs.put_byte.Statement.{statement}
+use Rattle.text.proofs.put_byte.Tie as tie
 
 add-result : tie.Need-add-result
 add-result c = search needs

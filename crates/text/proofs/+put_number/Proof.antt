@@ -1,18 +1,18 @@
--- `spell::put_number` meets its contract: the last digit stands after the digits of a tenth of the number, which is smaller. Assumes nothing.
+-- `text::put_number` meets its contract: the last digit stands after the digits of a tenth of the number, which is smaller. Assumes nothing.
 use Prim.Native.Nat.{_/_, _%_, ℕ, _<_}
 use mathlib.Core.Path.{_≡_}
 use native.Mathlib.Omega.{arith}
 use borrow.Author.Needs.{needs}
 use borrow.Fn.Kinds.{In}
 use borrow.Fn.PlainCycle.{Measures, is, falls, and}
-use Rattle.spell.proofs.Texts.{dec-one, dec-more, dec-long}
-use Rattle.spell.proofs.Puts.{put-put}
-use Rattle.spell.proofs.+put_number.{statement}
-use Rattle.spell.proofs.+put_number.Tie.{close}
-use Rattle.spell.proofs.put_number.Reads as put-number
-use Rattle.spell.proofs.put_number.Kinds as put-number-kinds
-use Rattle.spell.proofs.+put_number.Lts-put_number as put-number-lts
-use Rattle.spell.proofs.put_byte.Reads as put-byte-reads
+use Rattle.text.proofs.Decimals.{dec-one, dec-more, dec-long}
+use Rattle.text.proofs.Puts.{put-put}
+use Rattle.text.proofs.+put_number.{statement}
+use Rattle.text.proofs.+put_number.Tie.{close}
+use Rattle.text.proofs.put_number.Reads as put-number
+use Rattle.text.proofs.put_number.Kinds as put-number-kinds
+use Rattle.text.proofs.+put_number.Lts-put_number as put-number-lts
+use Rattle.text.proofs.put_byte.Reads as put-byte-reads
 
 abbrev μ-put-number : Measures 1 put-number-kinds.ps ℕ
 μ-put-number κs a = a .1 .1 .0

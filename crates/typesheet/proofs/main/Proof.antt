@@ -1,0 +1,67 @@
+-- `typesheet::main` is in bounds: the output has room for what `answer_sheet` says that it has. Assumes nothing.
+use mathlib.Core.Path.{_≡_, sym}
+use native.Mathlib.Omega.{arith}
+use lib.ListN.{length}
+use lib.Seq.{length-take-le}
+use Rattle.text.proofs.Puts.{put-long}
+use borrow.Author.Needs.{needs}
+use Rattle.typesheet.proofs.main.Statement.{statement}
+use Rattle.typesheet.proofs.main.Tie as tie
+use Rattle.typesheet.proofs.main.Reads as reads
+use Rattle.typesheet.proofs.main.Lts as lts
+use Rattle.io.proofs.large_buffer.Reads as large-buffer-reads
+use Rattle.io.proofs.read_full.Reads as read-full-reads
+use Rattle.io.proofs.write_all.Reads as write-all-reads
+use Rattle.lines.proofs.answer_sheet.Reads as answer-sheet-reads
+
+large-buffer-requires : tie.Need-large-buffer-requires
+large-buffer-requires c κs = search needs
+
+slice-aggregate-read-full : tie.Need-slice-aggregate-read-full
+slice-aggregate-read-full c = search needs
+
+read-full-requires : tie.Need-read-full-requires
+read-full-requires c κs = search needs
+
+array-share-prefix-buffer : tie.Need-array-share-prefix-buffer
+array-share-prefix-buffer c = search needs
+
+slice-aggregate-answer-sheet : tie.Need-slice-aggregate-answer-sheet
+slice-aggregate-answer-sheet c = search needs
+
+slice-aggregate-answer-sheet-2 : tie.Need-slice-aggregate-answer-sheet-2
+slice-aggregate-answer-sheet-2 c = search needs
+
+answer-sheet-requires : tie.Need-answer-sheet-requires
+answer-sheet-requires c κs = search needs
+
+array-share-prefix-out : tie.Need-array-share-prefix-out
+array-share-prefix-out c = search needs
+
+slice-aggregate-write-all : tie.Need-slice-aggregate-write-all
+slice-aggregate-write-all c =
+    let a = c .before .before .answer-sheet in
+    let n : length (a .last .1 .0) ≡ 32768 = put-long (a .ensures .0) in
+    sym (length-take-le (a .result) (a .last .1 .0) (omega (arith, n, a .ensures .1)))
+
+write-all-requires : tie.Need-write-all-requires
+write-all-requires c κs = search needs
+
+returns : tie.Need-returns
+returns c = search needs
+
+pub main-spec : {M : Type 1} → statement M
+main-spec =
+    tie.close
+    (tie.spec
+    large-buffer-requires
+    slice-aggregate-read-full
+    read-full-requires
+    array-share-prefix-buffer
+    slice-aggregate-answer-sheet
+    slice-aggregate-answer-sheet-2
+    answer-sheet-requires
+    array-share-prefix-out
+    slice-aggregate-write-all
+    write-all-requires
+    returns)
