@@ -87,8 +87,8 @@ pub fn used_of(a: Answer) -> usize
     ensures { λ r. ⌜ r ≡ numbersOf a .used ⌝ }
 {
     match a {
-        Answer::Value(_, used) => used,
-        Answer::NoValue(used) => used,
+        Answer::Value(_, n) => n,
+        Answer::NoValue(n) => n,
         Answer::Refused(r) => r.used,
     }
 }
