@@ -23,7 +23,7 @@ use Rattle.step.specs.Effect.{State, height, Effect, goes, silent, ends, stops,
 use Rattle.sheet.specs.Machine.{endAnswer, leftAnswer, after, Turned, more, done, turnOf, onward, runItems, begun, typeSheet}
 use Rattle.step.specs.Code.{Good}
 use Rattle.sheet.specs.Kept.{countOf}
-use Rattle.sheet.proofs.Keeping.{EffectKept, item-kept}
+use Rattle.step.proofs.Keeping.{EffectKept, item-kept}
 use Rattle.sheet.proofs.Running.{turn-kept, sheet-unheaded, sheet-runs}
 use Rattle.sheet.proofs.Demand1.{sheet-keeps}
 use Rattle.lines.specs.Lines.{start, outcome, Spellable}

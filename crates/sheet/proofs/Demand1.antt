@@ -24,8 +24,9 @@ use Rattle.frame.specs.declared.Placed.{Placed}
 use Rattle.step.specs.Effect.{most, State, height, Effect, goes, silent, ends, stops, effectOf}
 use Rattle.sheet.specs.Machine.{endAnswer, leftAnswer, after, Turned, more, done, turnOf, onward, runItems, begun, typeSheet}
 use Rattle.step.specs.Code.{Good}
-use Rattle.sheet.specs.Kept.{Grew, countOf, further, reached}
-use Rattle.sheet.proofs.Keeping.{EffectKept, grew-none, item-kept}
+use Rattle.step.specs.Kept.{Grew}
+use Rattle.sheet.specs.Kept.{countOf, further, reached}
+use Rattle.step.proofs.Keeping.{EffectKept, grew-none, item-kept}
 use Rattle.sheet.proofs.Running.{turn-kept, sheet-unsound, sheet-unheaded, sheet-runs}
 
 -- growing twice is growing

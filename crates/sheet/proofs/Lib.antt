@@ -1,11 +1,8 @@
 pub mod Turning
-pub mod Keeping
 pub mod Running
-pub mod Short
 pub mod Demand1
 pub mod Moving
 pub mod Demand2
 pub mod Visiting
 pub mod Ends
 pub mod OneReply
-pub mod MemoLaws

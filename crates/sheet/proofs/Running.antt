@@ -12,21 +12,21 @@ use Rattle.table.proofs.Giving.{gave-whole}
 use Rattle.answer.specs.declared.Reason.the-variants.{Unsound, Framing}
 use Rattle.answer.specs.declared.Place.{Place}
 use Rattle.answer.specs.declared.Answer.{Answer}
-use Rattle.frame.specs.Frame.{pick, place, itemAt, isItem, itemsFrom, nameOf, namePart, Within, version, headerSize, headerOk}
+use Rattle.frame.specs.Frame.{itemAt, isItem, itemsFrom, nameOf, namePart, Within, version, headerSize, headerOk}
 use Rattle.frame.specs.declared.Item.{Item}
 use Rattle.frame.specs.declared.Item.the-variants.{Push, Unary, Binary, Call, CallTemplate, Take, End, Bad}
 use Rattle.frame.specs.declared.Placed.{Placed}
-use Rattle.frame.proofs.FrameLaws.{framed, name-within}
+use Rattle.frame.proofs.FrameLaws.{framed, name-within, own-place}
 use Rattle.frame.proofs.ItemsLaws.{items-from}
 use Rattle.sheet.specs.declared.Turn.the-variants as turn
 use Rattle.step.specs.Effect.{most, State, Effect, goes, silent, ends, stops, effectOf}
 use Rattle.sheet.specs.Machine.{after, Turned, more, done, turnOf, onward, runItems, begun, typeSheet}
 use Rattle.step.specs.Code.{stateOf, Good, Ready}
-use Rattle.sheet.specs.Code.{turnBy, TurnCounted, Turns}
-use Rattle.sheet.specs.Kept.{Grew}
-use Rattle.sheet.specs.Quick.{itemOf, ShortAt, Quick, Rushes}
+use Rattle.memo.specs.Quick.{WentAt, QuickAt}
+use Rattle.sheet.specs.Code.{turnBy, TurnCounted, Turns, Rushes}
+use Rattle.step.specs.Kept.{Grew}
 use Rattle.sheet.specs.declared.Rushed.{Rushed}
-use Rattle.sheet.proofs.Keeping.{EffectKept, item-kept}
+use Rattle.step.proofs.Keeping.{item-kept}
 
 -- a turn goes on only after an item, not at the end or at bad framing
 
@@ -139,61 +139,40 @@ module _ (s w₀ : List ℕ) (n₀ : ℕ) (w vals : List ℕ) (count n at : ℕ)
 
 -- QUICK ITEMS: one more leaves the rest as it was
 
-no-clash : {P : Type 0} → _≡_ {A = ℕ} 0 1 → P
-no-clash e = absurd (omega arith)
-
-module _ (x count : ℕ) (vals : List ℕ) (used : ℕ) (w : List ℕ) (r : ℕ) (vals' : List ℕ) (q : Quick x count vals used w r vals') where
+module _ (s : List ℕ) (at count : ℕ) (vals : List ℕ) (used : ℕ) (w : List ℕ) (r : ℕ) (vals' : List ℕ) (q : QuickAt s at count vals used w r vals') where
   pub quick-stays : r ≡ 0 → vals' ≡ vals
   quick-stays e = go (q .went)
     where
-      go : ((r ≡ 0) × (vals' ≡ vals)) ⊎ ((1 ≤ r) × (r ≤ most) × ((at : ℕ) (s : List ℕ) → effectOf at (stateOf count vals used w) s (itemOf x) ≡ goes (stateOf r vals' used w))) → vals' ≡ vals
+      go : ((r ≡ 0) × (vals' ≡ vals)) ⊎ WentAt s at count vals used w r vals' → vals' ≡ vals
       go (inl z) = z .1
-      go (inr z) = let b = z .0 in absurd (omega (arith, e, b))
+      go (inr z) = let b = z .some in absurd (omega (arith, e, b))
 
-  pub quick-went : r ≢ 0 → (r ≤ most) × ((at : ℕ) (s : List ℕ) → effectOf at (stateOf count vals used w) s (itemOf x) ≡ goes (stateOf r vals' used w))
+  pub quick-went : r ≢ 0 → WentAt s at count vals used w r vals'
   quick-went k = go (q .went)
     where
-      go : ((r ≡ 0) × (vals' ≡ vals)) ⊎ ((1 ≤ r) × (r ≤ most) × ((at : ℕ) (s : List ℕ) → effectOf at (stateOf count vals used w) s (itemOf x) ≡ goes (stateOf r vals' used w)))
-          → (r ≤ most) × ((at : ℕ) (s : List ℕ) → effectOf at (stateOf count vals used w) s (itemOf x) ≡ goes (stateOf r vals' used w))
+      go : ((r ≡ 0) × (vals' ≡ vals)) ⊎ WentAt s at count vals used w r vals' → WentAt s at count vals used w r vals'
       go (inl z) = absurd (k (z .0))
-      go (inr z) = (z .1, z .2)
+      go (inr z) = z
 
 module _ (s : List ℕ) (from at : ℕ) (high count : ℕ) (vals₀ vals : List ℕ) (used : ℕ) (w : List ℕ) (h : Rushes s from high vals₀ used w (record { at = record { 0 = at }; count = count }) vals)
-    (x : ℕ) (short : ShortAt s at x) (c : ℕ) (vals' : List ℕ) where
+    (c : ℕ) (vals' : List ℕ) (g : WentAt s at count vals used w c vals') where
   abbrev now : State
   now = stateOf count vals used w
 
-  abbrev Went : Type 0
-  Went = (c ≤ most) × ((k : ℕ) (t : List ℕ) → effectOf k now t (itemOf x) ≡ goes (stateOf c vals' used w))
-
-  -- a number that went is the one of an item
-  stands : Went → (at + 3 ≤ length s) × (itemAt s at ≡ record { item = itemOf x; at = place at; next = place (at + 3) })
-  unfolding effectOf itemOf
-  stands g = go (short .found)
-    where
-      go : (x ≡ 0) ⊎ ((at + 3 ≤ length s) × (itemAt s at ≡ record { item = itemOf x; at = place at; next = place (at + 3) }))
-          → (at + 3 ≤ length s) × (itemAt s at ≡ record { item = itemOf x; at = place at; next = place (at + 3) })
-      go (inl e) = let q = rw e at (g .1 at s) in no-clash (cc)
-      go (inr e) = e
-
-  turns : Went → turnOf s (itemAt s at) now ≡ more (stateOf c vals' used w)
+  turns : turnOf s (itemAt s at) now ≡ more (stateOf c vals' used w)
   unfolding turnOf after
-  turns g = rw (stands g .1) (rw (g .1 at s) refl)
+  turns = ap (λ (p : Place). after s (p .0) (itemAt s at .next .0) (effectOf (p .0) now s (itemAt s at .item))) (own-place s at) ∙ ap (after s at (itemAt s at .next .0)) (g .effect)
 
-  pub rush-on : length vals' ≡ length vals → Went → Rushes s from high vals₀ used w (record { at = record { 0 = at + 3 }; count = c }) vals'
-  rush-on a g =
-      let k = turn-kept s (itemAt s at) now (stateOf c vals' used w) (turns g) (h .ready .good) in
-      let m = run-more s at now (stateOf c vals' used w) (turns g) in
-      let e : itemAt s at .next .0 ≡ at + 3 = ap (λ (y : Placed). y .next .0) (stands g .1) in
+  pub rush-on : length vals' ≡ length vals → Rushes s from high vals₀ used w (record { at = record { 0 = at + 3 }; count = c }) vals'
+  rush-on a =
+      let k = turn-kept s (itemAt s at) now (stateOf c vals' used w) turns (h .ready .good) in
+      let m = run-more s at now (stateOf c vals' used w) turns in
       let b = h .onward in
       record {
-        ready = record { size = a ∙ h .ready .size; fits = g .0; good = k .0 };
-        rest = sym (ap (λ (n : ℕ). runItems s (itemsFrom s n) (stateOf c vals' used w)) e) ∙ sym m ∙ h .rest;
+        ready = record { size = a ∙ h .ready .size; fits = g .high; good = k .0 };
+        rest = sym (ap (λ (n : ℕ). runItems s (itemsFrom s n) (stateOf c vals' used w)) (g .next)) ∙ sym m ∙ h .rest;
         onward = omega (arith, b);
       }
-
-  pub rush-less : Went → at + 3 ≤ length s
-  rush-less g = stands g .0
 
 -- A SHEET, test by test
 

@@ -19,9 +19,10 @@ use Rattle.step.specs.declared.Did.the-variants as did
 use Rattle.sheet.specs.declared.Turn.{Turn}
 use Rattle.sheet.specs.declared.Turn.the-variants as turn
 use Rattle.step.specs.Effect.{most, State, effectOf}
-use Rattle.sheet.specs.Machine.{endAnswer, leftAnswer, after, done, turnOf}
-use Rattle.step.specs.Code.{effectBy, Counted, Does}
-use Rattle.sheet.specs.Code.{turnBy, TurnCounted, TurnsBy, Turns}
+use Rattle.memo.specs.Memo.{AfterStep}
+use Rattle.sheet.specs.Machine.{endAnswer, leftAnswer, after, more, done, turnOf}
+use Rattle.step.specs.Code.{stateOf, effectBy, Counted, Does}
+use Rattle.sheet.specs.Code.{turnBy, TurnCounted, TurnsBy, Turns, AfterTurn}
 use Rattle.step.proofs.StackLaws.{sized}
 
 -- a call without value, test by test
@@ -79,3 +80,19 @@ module _ (s : List ℕ) (at : ℕ) (st : State) (d : Did) (r : Turn) (vals w : L
   pub turn-at : (x : Placed) → x ≡ itemAt s at → Does (effectOf (x .at .0) st s (x .item)) d vals w → TurnsBy (length s) (x .at .0) (x .next .0) d vals r
       → Turns (turnOf s (itemAt s at) st) (itemAt s at .next .0) r vals w
   turn-at x e k t = subst (λ (y : Placed). Turns (turnOf s y st) (y .next .0) r vals w) e (turned x k t)
+
+-- the memo after the turn is the one after the step
+module _ (size place next : ℕ) (vals memo w : List ℕ) where
+  impossible : {P : Type 0} → _≡_ {A = ℕ} 0 1 → P
+  impossible e = absurd (omega arith)
+
+  pub after-turn : (s : List ℕ) → length s ≡ size → (d : Did) (r : Turn) → TurnsBy size place next d vals r → AfterStep d memo w → AfterTurn r memo w
+  unfolding AfterStep AfterTurn after effectBy turnBy
+  after-turn s l d (turn.Done a) t m = tt
+  after-turn s l (did.Went c u) (turn.More c' u' p) t m =
+      let q : more (stateOf c' vals u' w) ≡ more (stateOf c vals u w) = t .turned s w l in
+      let z : _≡_ {A = State} (stateOf c' vals u' w) (stateOf c vals u w) = cc in
+      rw (ap (λ (x : State). x .used) z) m
+  after-turn s l (did.Silent c u) (turn.More c' u' p) t m = let q = t .turned s w l in impossible (cc)
+  after-turn s l (did.Ended c u) (turn.More c' u' p) t m = let q = t .turned s w l in impossible (cc)
+  after-turn s l (did.Refused x) (turn.More c' u' p) t m = let q = t .turned s w l in impossible (cc)

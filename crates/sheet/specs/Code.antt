@@ -1,20 +1,17 @@
 -- What the code of a turn goes by. Assumes nothing.
-use Prim.Native.Nat.{ℕ, _≤_, _<_}
+use Prim.Native.Nat.{ℕ, _≤_}
 use mathlib.Core.Path.{_≡_}
 use mathlib.Core.List.{List}
-use lib.ListN.{length, getD}
+use lib.ListN.{length}
 use Rattle.step.specs.declared.Did.{Did}
 use Rattle.step.specs.Effect.{most}
-use Rattle.step.specs.Code.{stateOf, effectBy}
+use Rattle.step.specs.Code.{stateOf, effectBy, Ready}
+use Rattle.memo.specs.Memo.{Recalls}
+use Rattle.frame.specs.Frame.{itemsFrom}
 use Rattle.sheet.specs.declared.Turn.{Turn}
 use Rattle.sheet.specs.declared.Turn.the-variants as turn
-use Rattle.sheet.specs.Machine.{after, Turned, more, done}
-
--- the values of the stack are bytes, as the numbers of a table of 256 entries are
-pub record Small (count : ℕ) (vals : List ℕ) : Type 0 where
-  pub fits : count ≤ length vals
-  pub size : length vals ≡ most
-  pub bytes : (i : ℕ) → i < count → getD vals i 0 < 256
+use Rattle.sheet.specs.declared.Rushed.{Rushed}
+use Rattle.sheet.specs.Machine.{after, Turned, more, done, runItems}
 
 -- a turn, by the code's answer
 unfoldable pub turnBy : Turn → List ℕ → List ℕ → Turned
@@ -34,3 +31,14 @@ pub record TurnsBy (size place next : ℕ) (d : Did) (vals : List ℕ) (r : Turn
 pub record Turns (t : Turned) (next : ℕ) (r : Turn) (vals words : List ℕ) : Type 0 where
   pub turned : turnBy r vals words ≡ t
   pub counted : TurnCounted next r
+
+-- the memo after a turn that goes on
+unfoldable pub AfterTurn : Turn → List ℕ → List ℕ → Type 0
+AfterTurn (turn.More count used next) memo w = Recalls memo w used
+AfterTurn (turn.Done a) memo w = Unit {0}
+
+-- what is left of the items gives what they gave from the first place
+pub record Rushes (s : List ℕ) (from count : ℕ) (vals : List ℕ) (used : ℕ) (w : List ℕ) (r : Rushed) (after : List ℕ) : Type 0 where
+  pub ready : Ready (r .count) after used w
+  pub rest : runItems s (itemsFrom s (r .at .0)) (stateOf (r .count) after used w) ≡ runItems s (itemsFrom s from) (stateOf count vals used w)
+  pub onward : from ≤ r .at .0

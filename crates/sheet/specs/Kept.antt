@@ -1,22 +1,11 @@
--- What a sheet keeps of the table, the state that its accepted items reach, and the items that a run looks at. Assumes nothing.
-use Prim.Native.Nat.{ℕ, _*_, _≤_}
-use mathlib.Core.Path.{_≡_}
+-- The count that a sheet's answer gives, the state that its accepted items reach, and the items that a run looks at. Assumes nothing.
+use Prim.Native.Nat.{ℕ}
 use mathlib.Core.List.{List, [], _∷_}
-use lib.ListN.{length, getD}
-use Rattle.table.specs.Table.{stride, Keeps}
 use Rattle.answer.specs.declared.Answer.{Answer}
 use Rattle.answer.specs.declared.Answer.the-variants.{Value, NoValue, Refused}
 use Rattle.frame.specs.declared.Placed.{Placed}
 use Rattle.step.specs.Effect.{State}
 use Rattle.sheet.specs.Machine.{Turned, more, done, turnOf}
-
--- a table of n entries in the words w became one of m entries in the words v: the earlier entries stand at their numbers with their words, and no
--- word behind the m entries changed
-pub record Grew (w : List ℕ) (n : ℕ) (v : List ℕ) (m : ℕ) : Type 0 where
-  pub more : n ≤ m
-  pub keeps : Keeps w v n
-  pub long : length v ≡ length w
-  pub beyond : (k : ℕ) → m * stride ≤ k → getD v k 0 ≡ getD w k 0
 
 -- the count that an answer gives
 abbrev pub countOf : Answer → ℕ

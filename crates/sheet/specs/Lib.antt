@@ -1,6 +1,4 @@
 pub mod Machine
 pub mod Code
 pub mod Kept
-pub mod Memo
-pub mod Quick
 pub mod Single

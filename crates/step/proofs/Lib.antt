@@ -3,3 +3,4 @@ pub mod Answers
 pub mod Effects
 pub mod Items
 pub mod OneReply
+pub mod Keeping

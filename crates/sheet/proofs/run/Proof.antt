@@ -1,7 +1,7 @@
 -- `sheet::run` meets its contract: a stack of 64 values and a memo of empty slots. Assumes nothing.
 use mathlib.Core.Path.{refl}
 use Rattle.table.proofs.SlotLaws.{zeros}
-use Rattle.sheet.proofs.MemoLaws.{recalls-none}
+use Rattle.memo.proofs.MemoLaws.{recalls-none}
 use borrow.Author.Needs.{needs}
 use Rattle.sheet.proofs.run.Statement.{statement}
 use Rattle.sheet.proofs.run.Tie as tie

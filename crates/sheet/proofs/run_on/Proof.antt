@@ -4,13 +4,14 @@ use Prim.Native.Nat.{_-_}
 use mathlib.Core.Path.{sym, _∙_}
 use native.Mathlib.Omega.{arith}
 use borrow.Author.Needs.{needs}
-use Rattle.sheet.specs.Memo.{Recalls, AfterTurn}
+use Rattle.memo.specs.Memo.{Recalls}
+use Rattle.sheet.specs.Code.{AfterTurn}
 use Rattle.sheet.proofs.Running.{Left, left-start, left-rushed, left-again, left-less, left-done}
 use Rattle.sheet.proofs.run_on.Statement.{statement}
 use Rattle.sheet.proofs.run_on.Tie as tie
 use Rattle.sheet.proofs.run_on.Reads as reads
 use Rattle.sheet.proofs.run_on.Lts as lts
-use Rattle.sheet.proofs.noted_turn.Reads as noted-turn-reads
+use Rattle.sheet.proofs.one_turn.Reads as one-turn-reads
 use Rattle.sheet.proofs.rush.Reads as rush-reads
 
 abbrev Inv-loop : tie.InvT-loop
@@ -25,8 +26,8 @@ loop-holds c = let a = c .before .before .before .before .args in (left-start (a
 rush-requires : tie.Need-rush-requires Inv-loop μ-loop
 rush-requires c κs = (c .before .before .before .loop .inv .0 .ready, c .before .before .before .loop .inv .1)
 
-noted-turn-requires : tie.Need-noted-turn-requires Inv-loop μ-loop
-noted-turn-requires c κs = (c .before .before .before .before .before .rush .ensures .ready, c .before .before .before .before .before .before .before .before .before .loop .inv .1)
+one-turn-requires : tie.Need-one-turn-requires Inv-loop μ-loop
+one-turn-requires c κs = (c .before .before .before .before .before .rush .ensures .ready, c .before .before .before .before .before .before .before .before .before .loop .inv .1)
 
 enum-known-c : tie.Need-enum-known-c Inv-loop μ-loop
 enum-known-c c = search needs
@@ -37,7 +38,7 @@ loop-less c = let a = c .before .before .before .before .before .before .before 
     let r = c .before .before .before .before .before .before .before .before .before .before .before .before .before .before .before .rush in
     let e = c .before .c .given in
     let L = left-rushed (a .sheet .now) (a .table .now) (a .used) (l .table) (l .stack) (l .count) (l .n) (l .at) (l .inv .0) _ (r .result) (r .ensures) in
-    let f = left-less (a .sheet .now) (a .table .now) (a .used) (l .table) _ (r .result .count) (l .n) (r .result .at .0) L _ _ (e .0 .0) (e .0 .1 .0) (e .0 .1 .1 .0) (rw (e .1) at (c .before .before .before .before .before .before .before .before .before .noted-turn .ensures .0)) in
+    let f = left-less (a .sheet .now) (a .table .now) (a .used) (l .table) _ (r .result .count) (l .n) (r .result .at .0) L _ _ (e .0 .0) (e .0 .1 .0) (e .0 .1 .1 .0) (rw (e .1) at (c .before .before .before .before .before .before .before .before .before .one-turn .ensures .0)) in
     omega (arith, f .0, f .1, r .ensures .onward)
 
 loop-again : tie.Need-loop-again Inv-loop μ-loop
@@ -47,19 +48,19 @@ loop-again c = let a = c .before .before .before .before .before .before .before
     let r = c .before .before .before .before .before .before .before .before .before .before .before .before .before .before .before .rush in
     let e = c .before .c .given in
     let L = left-rushed (a .sheet .now) (a .table .now) (a .used) (l .table) (l .stack) (l .count) (l .n) (l .at) (l .inv .0) _ (r .result) (r .ensures) in
-    (left-again (a .sheet .now) (a .table .now) (a .used) (l .table) _ (r .result .count) (l .n) (r .result .at .0) L _ _ (e .0 .0) (e .0 .1 .0) (e .0 .1 .1 .0) (rw (e .1) at (c .before .before .before .before .before .before .before .before .before .noted-turn .ensures .0)) (c .before .before .before .before .before .before .before .before .before .noted-turn .kept .1 .1 .0) (c .before .before .before .before .before .before .before .before .before .noted-turn .kept .1 .1 .1 .1 .0), rw (e .1) at (c .before .before .before .before .before .before .before .before .before .noted-turn .ensures .1))
+    (left-again (a .sheet .now) (a .table .now) (a .used) (l .table) _ (r .result .count) (l .n) (r .result .at .0) L _ _ (e .0 .0) (e .0 .1 .0) (e .0 .1 .1 .0) (rw (e .1) at (c .before .before .before .before .before .before .before .before .before .one-turn .ensures .0)) (c .before .before .before .before .before .before .before .before .before .one-turn .kept .1 .1 .0) (c .before .before .before .before .before .before .before .before .before .one-turn .kept .1 .1 .1 .1 .0), rw (e .1) at (c .before .before .before .before .before .before .before .before .before .one-turn .ensures .1))
 
 enum-known-a : tie.Need-enum-known-a Inv-loop μ-loop
 enum-known-a c = search needs
 
 same-length : tie.Need-same-length Inv-loop μ-loop
-same-length c = c .before .before .before .before .before .before .before .before .before .noted-turn .kept .1 .1 .1 .1 .0 ∙ c .before .before .before .before .before .before .before .before .before .before .before .before .before .before .before .before .before .before .before .loop .inv .0 .long
+same-length c = c .before .before .before .before .before .before .before .before .before .one-turn .kept .1 .1 .1 .1 .0 ∙ c .before .before .before .before .before .before .before .before .before .before .before .before .before .before .before .before .before .before .before .loop .inv .0 .long
 
 same-length-2 : tie.Need-same-length-2 Inv-loop μ-loop
-same-length-2 c = c .before .before .before .before .before .before .before .before .before .noted-turn .kept .1 .1 .0 ∙ c .before .before .before .before .before .before .before .before .before .before .before .before .before .before .before .rush .ensures .ready .size ∙ sym (c .before .before .before .before .before .before .before .before .before .before .before .before .before .before .before .before .before .before .before .before .before .before .before .before .pre .1)
+same-length-2 c = c .before .before .before .before .before .before .before .before .before .one-turn .kept .1 .1 .0 ∙ c .before .before .before .before .before .before .before .before .before .before .before .before .before .before .before .rush .ensures .ready .size ∙ sym (c .before .before .before .before .before .before .before .before .before .before .before .before .before .before .before .before .before .before .before .before .before .before .before .before .pre .1)
 
 same-length-3 : tie.Need-same-length-3 Inv-loop μ-loop
-same-length-3 c = c .before .before .before .before .before .before .before .before .before .noted-turn .kept .1 .1 .1 .1 .1 .1 .0 ∙ c .before .before .before .before .before .before .before .before .before .before .before .before .before .before .before .before .before .before .before .loop .inv .1 .size ∙ sym (c .before .before .before .before .before .before .before .before .before .before .before .before .before .before .before .before .before .before .before .before .before .before .before .before .pre .2 .size)
+same-length-3 c = c .before .before .before .before .before .before .before .before .before .one-turn .kept .1 .1 .1 .1 .1 .1 .0 ∙ c .before .before .before .before .before .before .before .before .before .before .before .before .before .before .before .before .before .before .before .loop .inv .1 .size ∙ sym (c .before .before .before .before .before .before .before .before .before .before .before .before .before .before .before .before .before .before .before .before .before .before .before .before .pre .2 .size)
 
 returns : tie.Need-returns Inv-loop μ-loop
 returns c = let a = c .before .before .before .before .before .before .before .before .before .before .before .before .before .before .before .before .before .before .before .before .before .before .before .before .args in
@@ -67,7 +68,7 @@ returns c = let a = c .before .before .before .before .before .before .before .b
     let r = c .before .before .before .before .before .before .before .before .before .before .before .before .before .before .before .rush in
     let e = c .before .a .given in
     let L = left-rushed (a .sheet .now) (a .table .now) (a .used) (l .table) (l .stack) (l .count) (l .n) (l .at) (l .inv .0) _ (r .result) (r .ensures) in
-    left-done (a .sheet .now) (a .table .now) (a .used) (l .table) _ (r .result .count) (l .n) (r .result .at .0) L _ _ (e .0 .0) (rw (e .1) at (c .before .before .before .before .before .before .before .before .before .noted-turn .ensures .0))
+    left-done (a .sheet .now) (a .table .now) (a .used) (l .table) _ (r .result .count) (l .n) (r .result .at .0) L _ _ (e .0 .0) (rw (e .1) at (c .before .before .before .before .before .before .before .before .before .one-turn .ensures .0))
 
 pub run-on-spec : {M : Type 1} → statement M
 run-on-spec =
@@ -77,7 +78,7 @@ run-on-spec =
     μ-loop
     loop-holds
     rush-requires
-    noted-turn-requires
+    one-turn-requires
     enum-known-c
     loop-less
     loop-again

@@ -5,14 +5,13 @@ use mathlib.Core.List.{List}
 use mathlib.Core.Path.{refl, sym, _∙_, subst}
 use borrow.Author.Needs.{needs}
 use native.Mathlib.Omega.{arith}
-use Rattle.sheet.specs.Quick.{Rushes}
-use Rattle.sheet.proofs.Running.{quick-stays, quick-went, rush-on, rush-less}
+use Rattle.sheet.specs.Code.{Rushes}
+use Rattle.sheet.proofs.Running.{quick-stays, quick-went, rush-on}
 use Rattle.sheet.proofs.rush.Statement.{statement}
 use Rattle.sheet.proofs.rush.Tie as tie
 use Rattle.sheet.proofs.rush.Reads as reads
 use Rattle.sheet.proofs.rush.Lts as lts
-use Rattle.sheet.proofs.quick.Reads as quick-reads
-use Rattle.sheet.proofs.short_at.Reads as short-at-reads
+use Rattle.memo.proofs.quick_at.Reads as quick-at-reads
 
 abbrev Inv-loop : tie.InvT-loop
 Inv-loop sheet stack₀ high table used memo at₀ count₀ stack at count = Rushes sheet at₀ count₀ stack₀ used table (record { at = record { 0 = at }; count = count }) stack
@@ -23,40 +22,35 @@ abbrev μ-loop : tie.MeasureT-loop
 loop-holds : tie.Need-loop-holds Inv-loop μ-loop
 loop-holds c = record { ready = c .before .before .before .before .pre .0; rest = refl; onward = omega arith }
 
-short-at-requires : tie.Need-short-at-requires Inv-loop μ-loop
-short-at-requires c κs = search needs
-
-quick-requires : tie.Need-quick-requires Inv-loop μ-loop
-quick-requires c κs = (c .before .before .loop .inv .ready, c .before .before .before .before .before .before .before .pre .1)
+quick-at-requires : tie.Need-quick-at-requires Inv-loop μ-loop
+quick-at-requires c κs = (c .before .loop .inv .ready, c .before .before .before .before .before .before .pre .1)
 
 same-length : tie.Need-same-length Inv-loop μ-loop
-same-length c = c .before .before .before .quick .kept .1 .0 ∙ c .before .before .before .before .before .before .loop .inv .ready .size ∙ sym (c .before .before .before .before .before .before .before .before .before .before .before .pre .0 .size)
+same-length c = c .before .before .before .quick-at .kept .1 .1 .0 ∙ c .before .before .before .before .before .loop .inv .ready .size ∙ sym (c .before .before .before .before .before .before .before .before .before .before .pre .0 .size)
 
 returns : tie.Need-returns Inv-loop μ-loop
-returns c = let a = c .before .before .before .before .before .before .before .before .before .before .before .args in
-    let l = c .before .before .before .before .before .before .loop in
-    let e = quick-stays (c .before .before .before .before .before .short-at .result) (l .count) (l .stack) (a .used) (a .table .now) (c .before .before .before .quick .result) _ (c .before .before .before .quick .ensures) (c .if1 .taken) in
+returns c = let a = c .before .before .before .before .before .before .before .before .before .before .args in
+    let l = c .before .before .before .before .before .loop in
+    let e = quick-stays (a .sheet .now) (l .at) (l .count) (l .stack) (a .used) (a .table .now) (c .before .before .before .quick-at .result) _ (c .before .before .before .quick-at .ensures) (c .if1 .taken) in
     subst (λ (y : List ℕ). Rushes (a .sheet .now) (a .from .0) (a .high) (a .stack .now) (a .used) (a .table .now) (record { at = record { 0 = l .at }; count = l .count }) y) (sym e) (l .inv)
 
 add-at : tie.Need-add-at Inv-loop μ-loop
-add-at c = let a = c .before .before .before .before .before .before .before .before .before .before .before .args in
-    let l = c .before .before .before .before .before .before .loop in
-    let g = quick-went (c .before .before .before .before .before .short-at .result) (l .count) (l .stack) (a .used) (a .table .now) (c .before .before .before .quick .result) _ (c .before .before .before .quick .ensures) (c .if1 .left) in
-    let h = rush-less (a .sheet .now) (a .from .0) (l .at) (a .high) (l .count) (a .stack .now) (l .stack) (a .used) (a .table .now) (l .inv) (c .before .before .before .before .before .short-at .result) (c .before .before .before .before .before .short-at .ensures) (c .before .before .before .quick .result) _ g in
+add-at c = let a = c .before .before .before .before .before .before .before .before .before .before .args in
+    let l = c .before .before .before .before .before .loop in
+    let h = quick-went (a .sheet .now) (l .at) (l .count) (l .stack) (a .used) (a .table .now) (c .before .before .before .quick-at .result) _ (c .before .before .before .quick-at .ensures) (c .if1 .left) .within in
     search needs
 
 loop-less : tie.Need-loop-less Inv-loop μ-loop
-loop-less c = let a = c .before .before .before .before .before .before .before .before .before .before .before .args in
-    let l = c .before .before .before .before .before .before .loop in
-    let g = quick-went (c .before .before .before .before .before .short-at .result) (l .count) (l .stack) (a .used) (a .table .now) (c .before .before .before .quick .result) _ (c .before .before .before .quick .ensures) (c .if1 .left) in
-    let h = rush-less (a .sheet .now) (a .from .0) (l .at) (a .high) (l .count) (a .stack .now) (l .stack) (a .used) (a .table .now) (l .inv) (c .before .before .before .before .before .short-at .result) (c .before .before .before .before .before .short-at .ensures) (c .before .before .before .quick .result) _ g in
+loop-less c = let a = c .before .before .before .before .before .before .before .before .before .before .args in
+    let l = c .before .before .before .before .before .loop in
+    let h = quick-went (a .sheet .now) (l .at) (l .count) (l .stack) (a .used) (a .table .now) (c .before .before .before .quick-at .result) _ (c .before .before .before .quick-at .ensures) (c .if1 .left) .within in
     omega (arith, h)
 
 loop-again : tie.Need-loop-again Inv-loop μ-loop
-loop-again c = let a = c .before .before .before .before .before .before .before .before .before .before .before .args in
-    let l = c .before .before .before .before .before .before .loop in
-    let g = quick-went (c .before .before .before .before .before .short-at .result) (l .count) (l .stack) (a .used) (a .table .now) (c .before .before .before .quick .result) _ (c .before .before .before .quick .ensures) (c .if1 .left) in
-    rush-on (a .sheet .now) (a .from .0) (l .at) (a .high) (l .count) (a .stack .now) (l .stack) (a .used) (a .table .now) (l .inv) (c .before .before .before .before .before .short-at .result) (c .before .before .before .before .before .short-at .ensures) (c .before .before .before .quick .result) _ (c .before .before .before .quick .kept .1 .0) g
+loop-again c = let a = c .before .before .before .before .before .before .before .before .before .before .args in
+    let l = c .before .before .before .before .before .loop in
+    let g = quick-went (a .sheet .now) (l .at) (l .count) (l .stack) (a .used) (a .table .now) (c .before .before .before .quick-at .result) _ (c .before .before .before .quick-at .ensures) (c .if1 .left) in
+    rush-on (a .sheet .now) (a .from .0) (l .at) (a .high) (l .count) (a .stack .now) (l .stack) (a .used) (a .table .now) (l .inv) (c .before .before .before .quick-at .result) _ g (c .before .before .before .quick-at .kept .1 .1 .0)
 
 pub rush-spec : {M : Type 1} → statement M
 rush-spec =
@@ -65,8 +59,7 @@ rush-spec =
     Inv-loop
     μ-loop
     loop-holds
-    short-at-requires
-    quick-requires
+    quick-at-requires
     same-length
     returns
     add-at

@@ -1,19 +1,19 @@
--- `sheet::short_at` meets its contract: three bytes that the tests found are the item of their number. Assumes nothing.
+-- `memo::short_at` meets its contract: three bytes that the tests found are the item of their number. Assumes nothing.
 use lib.ListN.{length, getD}
 use lib.Dec.{ltb, leb}
 use Prim.Native.Nat.{_<_, _≤_, _+_, _-_}
 use mathlib.Core.Logic.{inl, inr}
-use mathlib.Core.Path.{_≡_, refl}
+use mathlib.Core.Path.{refl}
 use native.Mathlib.Omega.{arith}
 use borrow.Author.Tests.{ltb-false, leb-false}
-use Rattle.sheet.proofs.Short.{short-item}
-use Rattle.sheet.proofs.MemoLaws.{neither}
+use Rattle.memo.proofs.Short.{short-item}
+use Rattle.memo.proofs.Asking.{neither}
 use borrow.Author.Needs.{needs}
-use Rattle.sheet.proofs.short_at.Statement.{statement}
-use Rattle.sheet.proofs.short_at.Tie as tie
-use Rattle.sheet.proofs.short_at.Reads as reads
-use Rattle.sheet.proofs.short_at.Lts as lts
-use Rattle.sheet.proofs.wide32.Reads as wide32-reads
+use Rattle.memo.proofs.short_at.Statement.{statement}
+use Rattle.memo.proofs.short_at.Tie as tie
+use Rattle.memo.proofs.short_at.Reads as reads
+use Rattle.memo.proofs.short_at.Lts as lts
+use Rattle.memo.proofs.wide32.Reads as wide32-reads
 
 returns : tie.Need-returns
 returns c = record { found = inl refl }

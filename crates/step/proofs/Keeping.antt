@@ -28,11 +28,11 @@ use Rattle.ops_ty.specs.Ops.{unaryOutcome, binaryOutcome}
 use Rattle.ops_ty.proofs.Demand1.{unary-at-kept, binary-at-kept}
 use Rattle.call_ty.specs.Calls.{callOutcome}
 use Rattle.call_ty.specs.Codes.{Under}
 use Rattle.step.specs.Effect.{most, State, height, operands, below, Effect, goes, silent, ends, stops, stop, pushed, onto, having, holding, pushEffect, unaryEffect, binaryEffect, calling, callEffect, templateEffect, takeEffect, effectOf, entryOf, bytesOf}
 use Rattle.step.specs.Code.{Good}
-use Rattle.sheet.specs.Kept.{Grew}
+use Rattle.step.specs.Kept.{Grew}
 use Rattle.step.proofs.StackLaws.{under-take, under-drop}
 use Rattle.step.proofs.Answers.{call-at-kept, no-operand}
 
 -- what an effect keeps of the state before it
 abbrev pub EffectKept : State → Effect → Type 0

@@ -6,13 +6,12 @@ use mathlib.Core.Logic.{_⊎_}
 use mathlib.Core.List.{List}
 use lib.ListN.{length}
 use lib.Dec.{eqb}
-use Rattle.frame.specs.Frame.{pick, place, typeNo, kindPush, kindUnary, kindBinary, itemAt, itemsFrom}
+use Rattle.frame.specs.Frame.{pick, place, typeNo, kindPush, kindUnary, kindBinary, itemAt}
 use Rattle.frame.specs.declared.Item.{Item}
 use Rattle.frame.specs.declared.Item.the-variants.{Push, Unary, Binary, Bad}
-use Rattle.sheet.specs.declared.Rushed.{Rushed}
 use Rattle.step.specs.Effect.{most, goes, effectOf}
-use Rattle.sheet.specs.Machine.{runItems}
-use Rattle.step.specs.Code.{stateOf, Ready}
+use Rattle.step.specs.Code.{stateOf}
+use Rattle.memo.specs.Asking.{Asks}
 
 -- the item of a number
 unfoldable pub itemOf : ℕ → Item
@@ -25,13 +24,22 @@ itemOf x =
 pub record ShortAt (s : List ℕ) (at x : ℕ) : Type 0 where
   pub found : (x ≡ 0) ⊎ ((at + 3 ≤ length s) × (itemAt s at ≡ record { item = itemOf x; at = place at; next = place (at + 3) }))
 
+-- what it asks, in whatever sheet
+pub record AsksShort (x code k : ℕ) : Type 0 where
+  pub asks : (s : List ℕ) → Asks s (itemOf x) code k
+
 -- nothing was done; or the item went, and r values stand
 pub record Quick (x count : ℕ) (vals : List ℕ) (used : ℕ) (w : List ℕ) (r : ℕ) (after : List ℕ) : Type 0 where
   pub went : ((r ≡ 0) × (after ≡ vals))
       ⊎ ((1 ≤ r) × (r ≤ most) × ((at : ℕ) (s : List ℕ) → effectOf at (stateOf count vals used w) s (itemOf x) ≡ goes (stateOf r after used w)))
 
--- what is left of the items gives what they gave from the first place
-pub record Rushes (s : List ℕ) (from count : ℕ) (vals : List ℕ) (used : ℕ) (w : List ℕ) (r : Rushed) (after : List ℕ) : Type 0 where
-  pub ready : Ready (r .count) after used w
-  pub rest : runItems s (itemsFrom s (r .at .0)) (stateOf (r .count) after used w) ≡ runItems s (itemsFrom s from) (stateOf count vals used w)
-  pub onward : from ≤ r .at .0
+-- the item that stands at a place went: it has three bytes, and changed the stack alone
+pub record WentAt (s : List ℕ) (at count : ℕ) (vals : List ℕ) (used : ℕ) (w : List ℕ) (r : ℕ) (after : List ℕ) : Type 0 where
+  pub some : 1 ≤ r
+  pub high : r ≤ most
+  pub within : at + 3 ≤ length s
+  pub next : itemAt s at .next .0 ≡ at + 3
+  pub effect : effectOf at (stateOf count vals used w) s (itemAt s at .item) ≡ goes (stateOf r after used w)
+
+pub record QuickAt (s : List ℕ) (at count : ℕ) (vals : List ℕ) (used : ℕ) (w : List ℕ) (r : ℕ) (after : List ℕ) : Type 0 where
+  pub went : ((r ≡ 0) × (after ≡ vals)) ⊎ WentAt s at count vals used w r after

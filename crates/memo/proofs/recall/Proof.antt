@@ -1,15 +1,14 @@
--- `sheet::recall` meets its contract: a slot with the key gives its value. Assumes nothing.
+-- `memo::recall` meets its contract: a slot with the key gives its value. Assumes nothing.
 use lib.ListN.{getD}
-use Prim.Native.Nat.{ℕ, _+_, _*_, _<_, _%_, _/_}
 use native.Mathlib.Omega.{arith}
-use mathlib.Core.Path.{refl, sym, _≡_}
+use mathlib.Core.Path.{refl}
 use mathlib.Core.Logic.{inl, inr}
 use borrow.Author.Needs.{needs}
-use Rattle.sheet.proofs.recall.Statement.{statement}
-use Rattle.sheet.proofs.recall.Tie as tie
-use Rattle.sheet.proofs.recall.Reads as reads
-use Rattle.sheet.proofs.recall.Lts as lts
-use Rattle.sheet.proofs.slot_of.Reads as slot-of-reads
+use Rattle.memo.proofs.recall.Statement.{statement}
+use Rattle.memo.proofs.recall.Tie as tie
+use Rattle.memo.proofs.recall.Reads as reads
+use Rattle.memo.proofs.recall.Lts as lts
+use Rattle.memo.proofs.slot_of.Reads as slot-of-reads
 
 slot-of-requires : tie.Need-slot-of-requires
 slot-of-requires c κs = search needs
@@ -19,6 +18,9 @@ mul-v c = search needs
 
 shared-slice-read-v : tie.Need-shared-slice-read-v
 shared-slice-read-v c = search needs
+
+cast-result : tie.Need-cast-result
+cast-result c = search needs
 
 returns : tie.Need-returns
 returns c = let a = c .before .before .before .before .args in
@@ -30,4 +32,4 @@ returns-2 : tie.Need-returns-2
 returns-2 c = record { found = inl refl }
 
 pub recall-spec : {M : Type 1} → statement M
-recall-spec = tie.close (tie.spec slot-of-requires mul-v shared-slice-read-v returns returns-2)
+recall-spec = tie.close (tie.spec slot-of-requires mul-v shared-slice-read-v cast-result returns returns-2)

@@ -1,16 +1,17 @@
--- `sheet::quick_push` meets its contract: the number becomes one value more. Assumes nothing.
+-- `memo::quick_push` meets its contract: the number becomes one value more. Assumes nothing.
 use Prim.Native.Nat.{_<_, _%_}
 use mathlib.Core.Logic.{inl}
 use mathlib.Core.Path.{refl}
 use native.Mathlib.Omega.{arith}
 use borrow.Author.Tests.{leb-false}
 use lib.Dec.{leb}
-use Rattle.sheet.proofs.MemoLaws.{neither, quick-push}
+use Rattle.memo.proofs.Asking.{neither}
+use Rattle.memo.proofs.QuickLaws.{quick-push}
 use borrow.Author.Needs.{needs}
-use Rattle.sheet.proofs.quick_push.Statement.{statement}
-use Rattle.sheet.proofs.quick_push.Tie as tie
-use Rattle.sheet.proofs.quick_push.Reads as reads
-use Rattle.sheet.proofs.quick_push.Lts as lts
+use Rattle.memo.proofs.quick_push.Statement.{statement}
+use Rattle.memo.proofs.quick_push.Tie as tie
+use Rattle.memo.proofs.quick_push.Reads as reads
+use Rattle.memo.proofs.quick_push.Lts as lts
 use Rattle.held.proofs.value.Reads as value-reads
 
 cast-stack : tie.Need-cast-stack

@@ -1,7 +1,7 @@
 -- A push or an operator, byte by byte: three bytes that the item of its number stands for. Assumes nothing.
 use Prim.Native.Nat.{ℕ, zero, suc, _+_, _-_, _*_, _/_, _%_, _<_, _≤_}
-use mathlib.Core.Path.{_≡_, refl, sym, _∙_, ap}
-use mathlib.Core.Bool.{true, false}
+use mathlib.Core.Path.{_≡_, refl, _∙_, ap}
+use mathlib.Core.Bool.{false}
 use mathlib.Core.List.{List}
 use native.Mathlib.Omega.{arith}
 use native.Mathlib.Nat.{add-zero}
@@ -10,8 +10,7 @@ use lib.ListN.{length, getD, take, drop, length-drop}
 use lib.Seq.{length-take-le, getD-drop, getD-take}
 use borrow.Author.Tests.{le-ltb, lt-leb}
 use Rattle.frame.specs.Frame.{place, payloadItem, itemAt}
-use Rattle.frame.specs.declared.Placed.{Placed}
-use Rattle.sheet.specs.Quick.{itemOf}
+use Rattle.memo.specs.Quick.{itemOf}
 
 module _ (s : List ℕ) (at x : ℕ) (u : 3 ≤ at) (l : at + 3 ≤ length s) (two : getD s at 0 ≡ 2) where
   abbrev payload : List ℕ

@@ -1,0 +1,292 @@
+-- Items that ask: what the memo has for one is what typing gives, and what typing gave for one may be noted. Assumes nothing.
+use Prim.Native.Nat.{ℕ, _+_, _-_, _<_, _≤_, _^_}
+use mathlib.Core.Path.{_≡_, refl, sym, _∙_, ap, subst}
+use mathlib.Core.Logic.{_⊎_, inl, inr, _≢_, ⊎-elim}
+use denote.Enum.Declared.{tagOf}
+use types.Run.{OneOf}
+use Rattle.step.proofs.Did.{the-type}
+use mathlib.Core.Bool.{Bool, true, false, _||_}
+use mathlib.Core.List.{List, [], _∷_, map}
+use native.Mathlib.Omega.{arith}
+use lib.ListN.{length, getD, take, drop, set, length-drop, length-append}
+use lib.Seq.{length-take-le, getD-take, getD-drop}
+use borrow.Author.Tests.{le-leb}
+use Rattle.answer.specs.Answer.{accept}
+use Rattle.answer.specs.declared.TypeNo.{TypeNo}
+use Rattle.answer.specs.declared.Answer.{Answer}
+use Rattle.answer.specs.declared.Answer.the-variants.{Value, NoValue, Refused}
+use Rattle.table.specs.Denote.{typeAt}
+use Rattle.table.specs.Placing.{Outcome, Gave}
+use Rattle.table.proofs.PlacingLaws.{standing-outcome}
+use Rattle.table.proofs.Giving.{gave-whole}
+use Rattle.names.specs.Names.{Known, ruleOf}
+use Rattle.names.specs.Names.Known.{known}
+use Rattle.call_ty.specs.Calls.{byRule}
+use Rattle.call_ty.specs.Codes.{Under}
+use Rattle.call_ty.proofs.Lists.{type-in}
+use Rattle.ops_ty.specs.Ops.{unaryOps, binaryOps}
+use Rattle.frame.specs.declared.Part.{Part}
+use Rattle.frame.specs.declared.Item.{Item}
+use Rattle.frame.specs.declared.Item.the-variants.{Unary, Binary, Call}
+use Rattle.step.specs.declared.Did.{Did}
+use Rattle.step.specs.declared.Did.the-variants as did
+use Rattle.step.specs.Effect.{most, State, height, operands, below, goes, silent, stops, pushed, onto, bytesOf, unaryEffect, binaryEffect, callEffect, effectOf}
+use Rattle.step.specs.Code.{stateOf, Ready, effectBy, Counted, Does}
+use Rattle.step.specs.Kept.{Grew}
+use Rattle.step.proofs.StackLaws.{sized, below-them, operands-lent, value-in, under-drop}
+use Rattle.step.proofs.Effects.{settled, settle-value, value-under}
+use Rattle.step.proofs.Keeping.{item-kept}
+use Rattle.memo.specs.Memo.{nothing, Question, codeOf, On, typed, keyOf, slotOf, Holds, Recalls, Recalled, Leaves, NotedStep, AfterStep}
+use Rattle.memo.specs.Memo.Question.{binary, unary, builtin}
+use Rattle.memo.specs.Asking.{Small, Coded, AskedBy, Asks, lastOf, KeyedBy, Keyed}
+use Rattle.memo.proofs.MemoLaws.{slot-with, value-noted, recalls-on, recalls-noted}
+
+impossible : {P : Type 0} → _≡_ {A = ℕ} 0 1 → P
+impossible e = absurd (omega arith)
+
+-- what an item that did not go left is not noted
+pub unnoted : (memo vals : List ℕ) (key : ℕ) (d : Did) → OneOf (1 ∷ 2 ∷ 3 ∷ []) (tagOf the-type d) → NotedStep memo key d vals memo
+unfolding NotedStep
+unnoted memo vals key (did.Went c u) h = let f : ⊥ = ⊎-elim (λ e. omega arith) (⊎-elim (λ e. omega arith) (λ e. omega arith)) h in elim f [ ]
+unnoted memo vals key (did.Silent c u) h = refl
+unnoted memo vals key (did.Ended c u) h = refl
+unnoted memo vals key (did.Refused r) h = refl
+
+-- neither of two tests holds
+pub neither : (a b : Bool) → (a || b) ≡ false → (a ≡ false) × (b ≡ false)
+neither true b h = impossible (cc)
+neither false b h = (refl, h)
+
+-- A CODE is of a question, and a key of a code
+
+on-some : (q : Question) (k : ℕ) → On q k → (1 ≤ k) × (k ≤ 3) × (codeOf q < 256)
+on-some (binary op) k h = let a = h .0 in let b = h .1 in (omega arith, omega arith, omega arith)
+on-some (unary op) k h = let a = h .0 in let b = h .1 in (omega arith, omega arith, omega arith)
+on-some (builtin rule) k h = let a = h .0 in (h .1, h .2, omega arith)
+
+module _ (s : List ℕ) (i : Item) (code k : ℕ) (a : Asks s i code k) where
+  pub asks-coded : Coded code k
+  asks-coded = go (a .asks)
+    where
+      go : (code ≡ 0) ⊎ AskedBy s i code k → Coded code k
+      go (inl e) = record { coded = inl e }
+      go (inr b) = let x = on-some (b .question) k (b .on) in record { coded = inr (rw (b .number) (x .2), x .0, x .1) }
+
+  asked-by : code ≢ 0 → AskedBy s i code k
+  asked-by n = go (a .asks)
+    where
+      go : (code ≡ 0) ⊎ AskedBy s i code k → AskedBy s i code k
+      go (inl e) = absurd (n e)
+      go (inr b) = b
+
+pub coded-some : (code k : ℕ) → Coded code k → code ≢ 0 → (code < 256) × (1 ≤ k) × (k ≤ 3)
+coded-some code k c n = go (c .coded)
+  where
+    go : (code ≡ 0) ⊎ ((code < 256) × (1 ≤ k) × (k ≤ 3)) → (code < 256) × (1 ≤ k) × (k ≤ 3)
+    go (inl e) = absurd (n e)
+    go (inr b) = b
+
+keyed-by : (code k count : ℕ) (vals : List ℕ) (key base : ℕ) → Keyed code k count vals key base → key ≢ 0 → KeyedBy code k count vals key base
+keyed-by code k count vals key base c n = go (c .keyed)
+  where
+    go : (key ≡ 0) ⊎ KeyedBy code k count vals key base → KeyedBy code k count vals key base
+    go (inl e) = absurd (n e)
+    go (inr b) = b
+
+pub ready-small : (count : ℕ) (vals : List ℕ) (used : ℕ) (w : List ℕ) → Ready count vals used w → Small count vals
+ready-small count vals used w ready =
+    record {
+      fits = omega (arith, ready .size, ready .fits);
+      size = ready .size;
+      bytes = λ i h. let u = value-under (record { 0 = 0 }) count vals used w ready i h in let k = ready .good .sound .high in omega arith;
+    }
+
+-- WHICH ITEM ASKS WHAT
+
+-- the operands that the stack has
+many : (st : State) (k : ℕ) → k ≤ height st → length (operands k st) ≡ k
+many st k h = length-drop (height st - k) (st .stack) ∙ (let z : height st - (height st - k) ≡ k = omega arith in z)
+
+pub binary-asks : (s : List ℕ) (op : ℕ) → op < binaryOps → AskedBy s (Binary op) (op + 1) 2
+unfolding effectOf binaryEffect
+binary-asks s op h =
+    record {
+      question = binary op;
+      on = (h, refl);
+      number = refl;
+      effect = λ place st l.
+          let n = many st 2 l in
+          rw (le-leb 2 (height st) l, type-in (st .words) (operands 2 st) 0 (omega arith), type-in (st .words) (operands 2 st) 1 (omega arith));
+    }
+
+pub unary-asks : (s : List ℕ) (op : ℕ) → op < unaryOps → AskedBy s (Unary op) (op + 19) 1
+unfolding effectOf unaryEffect
+unary-asks s op h =
+    record {
+      question = unary op;
+      on = (h, refl);
+      number = refl;
+      effect = λ place st l.
+          let n = many st 1 l in
+          rw (le-leb 1 (height st) l, type-in (st .words) (operands 1 st) 0 (omega arith));
+    }
+
+pub call-asks : (s : List ℕ) (name : Part) (k rule : ℕ) → 1 ≤ k → k ≤ 3 → rule < 128 → ruleOf (bytesOf s name) ≡ known rule → AskedBy s (Call k name) (rule + 24) k
+unfolding effectOf callEffect
+call-asks s name k rule l m h e =
+    record {
+      question = builtin rule;
+      on = (h, l, m);
+      number = refl;
+      effect = λ place st g.
+          rw (le-leb k (height st) g)
+          (ap (λ (r : Known). onto (below k st) (byRule place (st .words) (st .used) r [] (map (typeAt (st .words)) (operands k st)))) e);
+    }
+
+-- the code and the count as they were made
+pub call-asked : (s : List ℕ) (name : Part) (k rule code j : ℕ) → 1 ≤ k → k ≤ 3 → rule < 128 → ruleOf (bytesOf s name) ≡ known rule → code ≡ 24 + rule → j ≡ k → Asks s (Call k name) code j
+call-asked s name k rule code j l m h e c d =
+    let z : code ≡ rule + 24 = omega arith in
+    record { asks = inr (rw (z, d) (call-asks s name k rule l m h e)) }
+
+-- THE LAST VALUES of a slice
+
+module _ (k count : ℕ) (vals : List ℕ) (small : Small count vals) (h : k ≤ count) where
+  pub last-many : length (lastOf k count vals) ≡ k
+  last-many =
+      length-take-le (count - (count - k)) (drop (count - k) vals) (omega (arith, length-drop (count - k) vals, small .fits))
+      ∙ (let z : count - (count - k) ≡ k = omega arith in z)
+
+  pub last-bytes : Under 256 (lastOf k count vals)
+  last-bytes i l =
+      let n : i < k = omega (arith, last-many, l) in
+      rw (getD-take (count - (count - k)) (drop (count - k) vals) i 0 (omega arith), getD-drop (count - k) vals i 0) (small .bytes (count - k + i) (omega arith))
+
+-- AN ITEM THAT ASKS, on the last values of a slice
+
+last-pushed : (vs : List ℕ) (t : ℕ) → getD (pushed vs t) (length vs) 0 ≡ t
+last-pushed [] t = refl
+last-pushed (x ∷ vs) t = last-pushed vs t
+
+onto-went : (vs : List ℕ) (o : Outcome) (st : State) → onto vs o ≡ goes st
+    → (t : TypeNo) × (o .answer ≡ Value t (st .used)) × (o .words ≡ st .words) × (st .stack ≡ pushed vs (t .0))
+unfolding onto
+onto-went vs o st h = go (o .answer) refl
+  where
+    go : (a : Answer) → o .answer ≡ a → (t : TypeNo) × (o .answer ≡ Value t (st .used)) × (o .words ≡ st .words) × (st .stack ≡ pushed vs (t .0))
+    go (Value t m) e =
+        let q : goes (record { stack = pushed vs (t .0); used = m; words = o .words }) ≡ goes st = rw e at h in
+        let z : record { stack = pushed vs (t .0); used = m; words = o .words } ≡ st = cc in
+        (t, e ∙ ap (Value t) (ap (λ (x : State). x .used) z), ap (λ (x : State). x .words) z, sym (ap (λ (x : State). x .stack) z))
+    go (NoValue m) e =
+        let q : silent (record { stack = vs; used = m; words = o .words }) ≡ goes st = rw e at h in
+        impossible (cc)
+    go (Refused r) e =
+        let q : stops r (o .words) ≡ goes st = rw e at h in
+        impossible (cc)
+
+module _ (count : ℕ) (vals : List ℕ) (used : ℕ) (w : List ℕ) (ready : Ready count vals used w) (s : List ℕ) (i : Item) where
+  abbrev st : State
+  st = stateOf count vals used w
+
+  -- the memo after an item that did not touch it
+  pub recalls-step : (place : ℕ) (d : Did) (vals' v memo : List ℕ) → Does (effectOf place st s i) d vals' v → Recalls memo w used → AfterStep d memo v
+  unfolding AfterStep effectBy
+  recalls-step place (did.Went c u) vals' v memo h r = let k = rw (← h .effect) at (item-kept place st (ready .good) s i) in recalls-on w used v u (k .1) memo r
+  recalls-step place (did.Silent c u) vals' v memo h r = tt
+  recalls-step place (did.Ended c u) vals' v memo h r = tt
+  recalls-step place (did.Refused x) vals' v memo h r = tt
+
+  module _ (code k key base : ℕ) (asks : Asks s i code k) (keys : Keyed code k count vals key base) (some : key ≢ 0) where
+    keyed : KeyedBy code k count vals key base
+    keyed = keyed-by code k count vals key base keys some
+
+    asked : AskedBy s i code k
+    asked = asked-by s i code k asks (keyed .some)
+
+    pub key-small : key < 2 ^ 32
+    key-small = keyed .small
+
+    fits : count ≤ length vals
+    fits = omega (arith, ready .size, ready .fits)
+
+    enough : k ≤ height st
+    enough = let a = keyed .enough in omega (arith, sized count vals fits)
+
+    abbrev q : Question
+    q = asked .question
+
+    abbrev vs : List ℕ
+    vs = operands k st
+
+    on : On q (length vs)
+    on = subst (On q) (sym (many st k enough)) (asked .on)
+
+    under : Under used vs
+    under = under-drop used (height st - k) (st .stack) (ready .good .under)
+
+    bytes : Under 256 vs
+    bytes j h = let a = under j h in let b = ready .good .sound .high in omega arith
+
+    is : key ≡ keyOf (codeOf q) vs
+    is = keyed .is ∙ ap (keyOf code) (sym (operands-lent count vals fits k (keyed .enough))) ∙ ap (λ (c : ℕ). keyOf c vs) (asked .number)
+
+    effect : (place : ℕ) → effectOf place st s i ≡ onto (take (count - k) vals) (typed place w used q (map (typeAt w) vs))
+    effect place =
+        asked .effect place st enough ∙ ap (λ (l : List ℕ). onto l (typed place w used q (map (typeAt w) vs))) (below-them count vals fits k)
+
+    pub base-room : (base < most) × (base < length vals)
+    base-room = let a = on-some q k (asked .on) in let b = keyed .enough in let e = keyed .start in (omega (arith, a .0, e, ready .fits), omega (arith, a .0, e, fits))
+
+    -- a value that was recalled is the one that typing gives
+    pub recalled-does : (memo : List ℕ) → Recalls memo w used → (t : ℕ) → Recalled memo key t → t ≢ nothing → (place : ℕ)
+        → Does (effectOf place st s i) (did.Went (base + 1) used) (set vals base t) w
+    recalled-does memo r t f n place =
+        let z = slot-with memo key t f n in
+        let x = r .holds (z .1 .0) (z .1 .1) .holds q vs t on bytes (z .0) (z .1 .2 ∙ ap (λ (y : ℕ). slotOf y t) is) in
+        let o = x .2 place w used ∙ standing-outcome place w used (ready .good .sound) t (typeAt w t) (x .1) refl in
+        let g : Gave (typed place w used q (map (typeAt w) vs)) (accept t used) w = gave-whole (sym o) in
+        let d = settled (settle-value base vals (record { 0 = t }) used t refl (base-room .1) (base-room .0)) g in
+        record { effect = d .effect ∙ ap (λ (b : ℕ). onto (take b vals) (typed place w used q (map (typeAt w) vs))) (keyed .start) ∙ sym (effect place); counted = d .counted }
+
+    -- what it left may be noted
+    noting : (place c u : ℕ) (vals' v : List ℕ) → c ≤ length vals' → effectOf place st s i ≡ goes (stateOf c vals' u v)
+        → (1 ≤ c) × (getD vals' (c - 1) 0 < 256) × Grew w used v u × Holds v u (slotOf key (getD vals' (c - 1) 0))
+    noting place c u vals' v l h =
+        let b = take (count - k) vals in
+        let x = onto-went b (typed place w used q (map (typeAt w) vs)) (stateOf c vals' u v) (sym (effect place) ∙ h) in
+        let t = x .0 in
+        let y = value-noted place w used (ready .good .sound) t u q vs on under v (x .1) (x .2) in
+        let n : c ≡ length b + 1 = sym (sized c vals' l) ∙ ap length (x .3) ∙ length-append b (t .0 ∷ []) in
+        let j : c - 1 ≡ length b = omega arith in
+        let e : getD vals' (c - 1) 0 ≡ t .0 = sym (value-in c vals' l (c - 1) (omega arith)) ∙ ap (λ (y : List ℕ). getD y (c - 1) 0) (x .3) ∙ ap (λ (m : ℕ). getD (pushed b (t .0)) m 0) j ∙ last-pushed b (t .0) in (
+          omega arith,
+          rw e (y .0),
+          y .1,
+          subst (λ (z : ℕ). Holds v u (slotOf z (getD vals' (c - 1) 0))) (sym is) (subst (λ (z : ℕ). Holds v u (slotOf (keyOf (codeOf q) vs) z)) (sym e) (y .2)),
+        )
+
+    module _ (place : ℕ) (vals' v : List ℕ) (size : length vals' ≡ most) where
+      went : (c u : ℕ) → Does (effectOf place st s i) (did.Went c u) vals' v
+          → (c ≤ length vals') × ((1 ≤ c) × (getD vals' (c - 1) 0 < 256) × Grew w used v u × Holds v u (slotOf key (getD vals' (c - 1) 0)))
+      unfolding effectBy Counted
+      went c u h =
+          let m : c ≤ most = h .counted in
+          let l : c ≤ length vals' = omega (arith, size) in
+          (l, noting place c u vals' v l (sym (h .effect)))
+
+      pub step-leaves : (d : Did) → Does (effectOf place st s i) d vals' v → Leaves d vals'
+      unfolding Leaves
+      step-leaves (did.Went c u) h = let z = went c u h in (z .1 .0, z .0, z .1 .1)
+      step-leaves (did.Silent c u) h = tt
+      step-leaves (did.Ended c u) h = tt
+      step-leaves (did.Refused x) h = tt
+
+      pub step-noted : (memo memo' : List ℕ) → Recalls memo w used → (d : Did) → Does (effectOf place st s i) d vals' v → NotedStep memo key d vals' memo' → AfterStep d memo' v
+      unfolding NotedStep AfterStep
+      step-noted memo memo' r (did.Went c u) h n =
+          let z = went c u h .1 in
+          recalls-noted memo v u key (getD vals' (c - 1) 0) memo' (recalls-on w used v u (z .2) memo r) (z .3) n
+      step-noted memo memo' r (did.Silent c u) h n = tt
+      step-noted memo memo' r (did.Ended c u) h n = tt
+      step-noted memo memo' r (did.Refused x) h n = tt

@@ -1,0 +1,5 @@
+pub mod MemoLaws
+pub mod Asking
+pub mod QuickLaws
+pub mod Short
+pub mod OneReply

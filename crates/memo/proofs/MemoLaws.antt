@@ -1,0 +1,272 @@
+-- The memo: a slot says what it holds, what it holds stays true while the table grows, and a value that typing gave may be noted. Assumes nothing.
+use Prim.Native.Nat.{ℕ, zero, suc, _+_, _-_, _*_, _<_, _≤_}
+use mathlib.Core.Path.{_≡_, refl, sym, _∙_, ap, subst}
+use mathlib.Core.Logic.{_⊎_, inl, inr, _≢_}
+use mathlib.Core.Bool.{true}
+use mathlib.Core.List.{List, [], _∷_, map}
+use native.Mathlib.Omega.{arith}
+use lib.Dec.{ltb, eqb}
+use lib.ListN.{length, getD, length-set}
+use lib.Seq.{getD-set-other, getD-set-same, ext-getD}
+use borrow.Author.Tests.{eqb-true, eqb-false, ltb-true, ltb-false}
+use Rattle.conv.specs.Types.{Ty, formed}
+use Rattle.conv.specs.Rank.{isReference}
+use Rattle.overload.specs.Overload.{Judged}
+use Rattle.overload.specs.Overload.Judged.{gives, noneFits, nonePreferred}
+use Rattle.overload.specs.Rows.{judgeRow, judgeAddress, judgeIndirection}
+use Rattle.overload.proofs.Operands.{allFormed}
+use Rattle.overload.proofs.Results.{gives-formed}
+use Rattle.names.specs.Names.Known.{known}
+use Rattle.answer.specs.Answer.{refuse}
+use Rattle.answer.specs.declared.TypeNo.{TypeNo}
+use Rattle.answer.specs.declared.Answer.the-variants.{Value, NoValue}
+use Rattle.table.specs.Table.{Sound}
+use Rattle.table.specs.Denote.{typeAt}
+use Rattle.table.specs.Stands.{Stands}
+use Rattle.table.specs.Placing.{Outcome, entering}
+use Rattle.table.proofs.TypeLaws.{type-keeps}
+use Rattle.table.proofs.Demand1.{entering-stands}
+use Rattle.table.proofs.KindLaws.{split}
+use Rattle.table.proofs.SlotLaws.{zeros, zero-at}
+use Rattle.ruled.specs.Call.{anyReference, judgedOutcome, ruledOutcome}
+use Rattle.ops_ty.specs.Ops.{unaryOps, addressOp, indirectionOp, binaryOps, binaryRow, unaryOutcome, binaryOutcome}
+use Rattle.ops_ty.proofs.Pointers.{address-formed, indirection-formed}
+use Rattle.call_ty.specs.Calls.{templateRight, operandsOf, givenBy, givenOutcome, byRule}
+use Rattle.call_ty.specs.Calls.Given.{judgment}
+use Rattle.call_ty.specs.Codes.{Under}
+use Rattle.call_ty.proofs.Lists.{types-formed}
+use Rattle.call_ty.proofs.Ends.{Ends, rule-call-ends}
+use Rattle.call_ty.proofs.Ends.Ends.{refused, silent, valued}
+use Rattle.step.specs.Kept.{Grew}
+use Rattle.memo.specs.Memo.{slots, nothing, Question, codeOf, On, typed, Gives, keyUp, keyOf, slotOf, Holds, Recalls, Recalled, Noted}
+use Rattle.memo.specs.Memo.Question.{binary, unary, builtin}
+
+impossible : {P : Type 0} → _≡_ {A = ℕ} 0 1 → P
+impossible e = absurd (omega arith)
+
+-- A SLOT SAYS WHAT IT HOLDS: one question, one list of operands and one value
+
+code-byte : (q : Question) (k : ℕ) → On q k → (1 ≤ codeOf q) × (codeOf q < 256)
+code-byte (binary op) k h = let a = h .0 in (omega arith, omega arith)
+code-byte (unary op) k h = let a = h .0 in (omega arith, omega arith)
+code-byte (builtin rule) k h = let a = h .0 in (omega arith, omega arith)
+
+code-one : (q r : Question) (j k : ℕ) → On q j → On r k → codeOf q ≡ codeOf r → q ≡ r
+code-one (binary a) (binary b) j k g h e = let z : a ≡ b = omega arith in ap binary z
+code-one (binary a) (unary b) j k g h e = let x = g .0 in absurd (omega arith)
+code-one (binary a) (builtin b) j k g h e = let x = g .0 in absurd (omega arith)
+code-one (unary a) (binary b) j k g h e = let x = h .0 in absurd (omega arith)
+code-one (unary a) (unary b) j k g h e = let z : a ≡ b = omega arith in ap unary z
+code-one (unary a) (builtin b) j k g h e = let x = g .0 in absurd (omega arith)
+code-one (builtin a) (binary b) j k g h e = let x = h .0 in absurd (omega arith)
+code-one (builtin a) (unary b) j k g h e = let x = h .0 in absurd (omega arith)
+code-one (builtin a) (builtin b) j k g h e = let z : a ≡ b = omega arith in ap builtin z
+
+-- the key, an operand at a time
+pub key-none : (code : ℕ) (vs : List ℕ) → code ≡ keyUp code vs 0
+unfolding keyUp
+key-none code vs = refl
+
+pub key-next : (code : ℕ) (vs : List ℕ) (k key a : ℕ) → key ≡ keyUp code vs k → a ≡ getD vs k 0 → key * 256 + a ≡ keyUp code vs (suc k)
+unfolding keyUp
+key-next code vs k key a e f = rw (e, f)
+
+pub byte-at : (vs : List ℕ) (k a : ℕ) → Under 256 vs → k < length vs → a ≡ getD vs k 0 → a < 256
+byte-at vs k a u h e = rw e (u k h)
+
+key-least : (code : ℕ) (vs : List ℕ) (k : ℕ) → 1 ≤ code → 1 ≤ keyUp code vs k
+unfolding keyUp
+key-least code vs zero h = h
+key-least code vs (suc k) h = let q = key-least code vs k h in omega arith
+
+module _ (a b : ℕ) (vs us : List ℕ) (la : 1 ≤ a) (ha : a < 256) (lb : 1 ≤ b) (hb : b < 256) (bv : Under 256 vs) (bu : Under 256 us) where
+  key-one : (j k : ℕ) → j ≤ length vs → k ≤ length us → keyUp a vs j ≡ keyUp b us k → (a ≡ b) × (j ≡ k) × ((i : ℕ) → i < j → getD vs i 0 ≡ getD us i 0)
+  unfolding keyUp
+  key-one zero zero l m e = (e, refl, λ i h. absurd (omega arith))
+  key-one zero (suc k) l m e = let q = key-least b us k lb in absurd (omega arith)
+  key-one (suc j) zero l m e = let q = key-least a vs j la in absurd (omega arith)
+  key-one (suc j) (suc k) l m e =
+      let x = bv j (omega arith) in
+      let y = bu k (omega arith) in
+      let q : keyUp a vs j ≡ keyUp b us k = omega arith in
+      let z : getD vs j 0 ≡ getD us k 0 = omega arith in
+      let r = key-one j k (omega arith) (omega arith) q in (
+        r .0,
+        ap suc (r .1),
+        λ i h. split (ltb i j)
+            (λ t. r .2 i (ltb-true i j t))
+            (λ t.
+            let f : j ≤ i = ltb-false i j t in
+            let g : i ≡ j = omega arith in
+            ap (λ (n : ℕ). getD vs n 0) g ∙ z ∙ ap (λ (n : ℕ). getD us n 0) (sym (g ∙ r .1))),
+      )
+
+slot-one : (q r : Question) (vs us : List ℕ) (t u : ℕ) → On q (length vs) → On r (length us) → Under 256 vs → Under 256 us → t < 256 → u < 256
+    → slotOf (keyOf (codeOf q) vs) t ≡ slotOf (keyOf (codeOf r) us) u → (q ≡ r) × (vs ≡ us) × (t ≡ u)
+slot-one q r vs us t u oq os bv bu lt lu e =
+    let k : keyOf (codeOf q) vs ≡ keyOf (codeOf r) us = omega arith in
+    let z : t ≡ u = omega arith in
+    let a = code-byte q (length vs) oq in
+    let b = code-byte r (length us) os in
+    let x = key-one (codeOf q) (codeOf r) vs us (a .0) (a .1) (b .0) (b .1) bv bu (length vs) (length us) (omega arith) (omega arith) k in
+    (code-one q r (length vs) (length us) oq os (x .0), ext-getD 0 vs us (x .1) (x .2), z)
+
+-- an empty slot says nothing
+pub holds-none : (w : List ℕ) (n : ℕ) → Holds w n 0
+holds-none w n = record { holds = λ q vs t o b l e. let k = key-least (codeOf q) vs (length vs) (code-byte q (length vs) o .0) in absurd (omega arith) }
+
+-- a new slot
+holds-new : (w : List ℕ) (n : ℕ) (q : Question) (vs : List ℕ) (t : ℕ) → On q (length vs) → Under 256 vs → t < 256
+    → Under n vs × (t < n) × Gives q (map (typeAt w) vs) (typeAt w t) → Holds w n (slotOf (keyOf (codeOf q) vs) t)
+holds-new w n q vs t o b l x =
+    record {
+      holds = λ q' vs' t' o' b' l' e.
+          let z = slot-one q q' vs vs' t t' o o' b b' l l' e in
+          rw (← z .0, ← z .1, ← z .2) x;
+    }
+
+-- WHAT A SLOT SAYS STAYS TRUE
+
+module _ (w : List ℕ) (n : ℕ) (v : List ℕ) (m : ℕ) (g : Grew w n v m) where
+  types-kept : (vs : List ℕ) → Under n vs → map (typeAt v) vs ≡ map (typeAt w) vs
+  types-kept [] u = refl
+  types-kept (t ∷ vs) u = λ i. type-keeps w v n (g .keeps) t (u 0 (omega arith)) i ∷ types-kept vs (λ j h. u (suc j) (omega arith)) i
+
+  under-on : (vs : List ℕ) → Under n vs → Under m vs
+  under-on vs u i h = let a = u i h in let b = g .more in omega arith
+
+  pub holds-on : (x : ℕ) → Holds w n x → Holds v m x
+  holds-on x h =
+      record {
+        holds = λ q vs t o b l e.
+            let y = h .holds q vs t o b l e in
+            let up = g .more in
+            let lt = y .1 in
+            (under-on vs (y .0), omega arith, rw (types-kept vs (y .0), type-keeps w v n (g .keeps) t (y .1)) (y .2));
+      }
+
+  pub recalls-on : (memo : List ℕ) → Recalls memo w n → Recalls memo v m
+  recalls-on memo r = record { size = r .size; holds = λ i h. holds-on (getD memo i 0) (r .holds i h) }
+
+-- noting keeps what the other slots say
+pub recalls-noted : (memo w : List ℕ) (n key t : ℕ) (after : List ℕ) → Recalls memo w n → Holds w n (slotOf key t) → Noted memo key t after → Recalls after w n
+recalls-noted memo w n key t after r h d =
+    record {
+      size = ap length (d .words) ∙ length-set memo (d .slot) (slotOf key t) ∙ r .size;
+      holds = λ i l. subst (λ (x : List ℕ). Holds w n (getD x i 0)) (sym (d .words))
+          (split (eqb i (d .slot))
+          (λ b. let q : i ≡ d .slot = eqb-true i (d .slot) b in rw (q, getD-set-same memo (d .slot) (slotOf key t) 0 (omega (arith, r .size, d .below))) h)
+          (λ b. let q : i ≢ d .slot = eqb-false i (d .slot) b in rw (getD-set-other memo (d .slot) i (slotOf key t) 0 q) (r .holds i l)));
+    }
+
+-- a memo of empty slots, which a test finds
+pub recalls-none : (memo w : List ℕ) (n : ℕ) → length memo ≡ slots → zeros memo ≡ true → Recalls memo w n
+recalls-none memo w n l z = record { size = l; holds = λ i h. rw (zero-at memo z i) (holds-none w n) }
+
+-- the slot of a value that was recalled
+pub slot-with : (memo : List ℕ) (key t : ℕ) → Recalled memo key t → t ≢ nothing → (t < 256) × ((i : ℕ) × (i < slots) × (getD memo i 0 ≡ slotOf key t))
+slot-with memo key t r k = go (r .found)
+  where
+    go : (t ≡ nothing) ⊎ ((t < 256) × ((i : ℕ) × (i < slots) × (getD memo i 0 ≡ slotOf key t))) → (t < 256) × ((i : ℕ) × (i < slots) × (getD memo i 0 ≡ slotOf key t))
+    go (inl z) = absurd (k z)
+    go (inr z) = z
+
+-- WHAT GAVE A VALUE gives the same type in every table
+
+judged-gives : (place : ℕ) (w : List ℕ) (n : ℕ) (j : Judged) (t : TypeNo) (m : ℕ) → judgedOutcome place w n j .answer ≡ Value t m
+    → (R : Ty) × (j ≡ gives R) × ((place : ℕ) (w : List ℕ) (n : ℕ) → judgedOutcome place w n j ≡ entering place w n R)
+unfolding judgedOutcome
+judged-gives place w n (gives R) t m e = (R, refl, λ place w n. refl)
+judged-gives place w n noneFits t m e = impossible (cc)
+judged-gives place w n nonePreferred t m e = impossible (cc)
+
+module _ (place : ℕ) (w : List ℕ) (n : ℕ) (t : TypeNo) (m : ℕ) where
+  -- a call that ends in a judgment, whatever the table
+  by-judgment : (f : ℕ → List ℕ → ℕ → Outcome) (j : Judged) → ((R : Ty) → j ≡ gives R → formed R ≡ true)
+      → ((p : ℕ) (v : List ℕ) (k : ℕ) → f p v k ≡ judgedOutcome p v k j) → f place w n .answer ≡ Value t m
+      → (R : Ty) × (formed R ≡ true) × ((p : ℕ) (v : List ℕ) (k : ℕ) → f p v k ≡ entering p v k R)
+  by-judgment f j g h e =
+      let q = judged-gives place w n j t m (ap (λ (o : Outcome). o .answer) (sym (h place w n)) ∙ e) in
+      (q .0, g (q .0) (q .1), λ p v k. h p v k ∙ q .2 p v k)
+
+  gives-binary : (op : ℕ) (x y : Ty) → binaryOutcome place w n op x y .answer ≡ Value t m
+      → (R : Ty) × (formed R ≡ true) × ((p : ℕ) (v : List ℕ) (k : ℕ) → binaryOutcome p v k op x y ≡ entering p v k R)
+  unfolding binaryOutcome ruledOutcome
+  gives-binary op x y e =
+      split (ltb op binaryOps)
+      (λ a.
+      split (anyReference (x ∷ y ∷ []))
+      (λ b. let q = rw (a, b) at e in impossible (cc))
+      (λ b. by-judgment (λ p v k. binaryOutcome p v k op x y) (judgeRow (binaryRow op) (x ∷ y ∷ [])) (λ R q. gives-formed (binaryRow op) (x ∷ y ∷ []) R q .0) (λ p v k. rw (a, b)) e))
+      (λ a. let q = rw a at e in impossible (cc))
+
+  gives-unary : (op : ℕ) → Sound w n → (i : ℕ) → i < n → unaryOutcome place w n op (typeAt w i) .answer ≡ Value t m
+      → (R : Ty) × (formed R ≡ true) × ((p : ℕ) (v : List ℕ) (k : ℕ) → unaryOutcome p v k op (typeAt w i) ≡ entering p v k R)
+  unfolding unaryOutcome
+  gives-unary op s i l e =
+      let x = typeAt w i in
+      split (ltb op unaryOps)
+      (λ a.
+      split (eqb op addressOp)
+      (λ b. by-judgment (λ p v k. unaryOutcome p v k op x) (judgeAddress x) (address-formed w n s i l) (λ p v k. rw (a, b)) e)
+      (λ b.
+      split (isReference x)
+      (λ c. let q = rw (a, b, c) at e in impossible (cc))
+      (λ c.
+      split (eqb op indirectionOp)
+      (λ d. by-judgment (λ p v k. unaryOutcome p v k op x) (judgeIndirection x) (indirection-formed w n s i l) (λ p v k. rw (a, b, c, d)) e)
+      (λ d. by-judgment (λ p v k. unaryOutcome p v k op x) (judgeRow op (x ∷ [])) (λ R q. gives-formed op (x ∷ []) R q .0) (λ p v k. rw (a, b, c, d)) e))))
+      (λ a. let q = rw a at e in impossible (cc))
+
+  -- the rule of a call that gave a value gives its type
+  rule-gives : (rule : ℕ) (us : List Ty) (o : Outcome) → Ends place w n (known rule) [] us o → o .answer ≡ Value t m
+      → (R : Ty) × (formed R ≡ true) × (givenBy rule [] us ≡ judgment (gives R))
+  rule-gives rule us o (refused reason f e) h =
+      let a : Value t m ≡ refuse reason place n = sym h ∙ ap (λ (x : Outcome). x .answer) e in
+      impossible (cc)
+  rule-gives rule us o (silent e) h =
+      let a : Value t m ≡ NoValue n = sym h ∙ ap (λ (x : Outcome). x .answer) e in
+      impossible (cc)
+  rule-gives rule us o (valued R k f q g e) h = let z : rule ≡ k = cc in (R, f, ap (λ (j : ℕ). givenBy j [] us) z ∙ g)
+
+  rule-typed : (rule : ℕ) (us : List Ty) (R : Ty) → givenBy rule [] us ≡ judgment (gives R) → byRule place w n (known rule) [] us .answer ≡ Value t m
+      → (p : ℕ) (v : List ℕ) (k : ℕ) → byRule p v k (known rule) [] us ≡ entering p v k R
+  unfolding byRule givenOutcome judgedOutcome
+  rule-typed rule us R g e =
+      split (templateRight rule [])
+      (λ a.
+      split (eqb (length us) (operandsOf rule))
+      (λ b. split (anyReference us) (λ c. let q = rw (a, b, c) at e in impossible (cc)) (λ c p v k. rw (a, b, c, g)))
+      (λ b. let q = rw (a, b) at e in impossible (cc)))
+      (λ a. let q = rw a at e in impossible (cc))
+
+  gives-builtin : (rule : ℕ) (us : List Ty) → allFormed us ≡ true → byRule place w n (known rule) [] us .answer ≡ Value t m
+      → (R : Ty) × (formed R ≡ true) × ((p : ℕ) (v : List ℕ) (k : ℕ) → byRule p v k (known rule) [] us ≡ entering p v k R)
+  unfolding allFormed
+  gives-builtin rule us f e =
+      let z = rule-gives rule us (byRule place w n (known rule) [] us) (rule-call-ends place w n [] us refl f (known rule)) e in
+      (z .0, z .1, rule-typed rule us (z .0) (z .2) e)
+
+-- the type that a question on operands of a table gives
+module _ (place : ℕ) (w : List ℕ) (n : ℕ) (s : Sound w n) (t : TypeNo) (m : ℕ) where
+  gives-value : (q : Question) (vs : List ℕ) → On q (length vs) → Under n vs → typed place w n q (map (typeAt w) vs) .answer ≡ Value t m
+      → (R : Ty) × (formed R ≡ true) × Gives q (map (typeAt w) vs) R
+  gives-value (binary op) vs o u e = gives-binary place w n t m op _ _ e
+  gives-value (unary op) [] o u e = let z = o .1 in absurd (omega arith)
+  gives-value (unary op) (a ∷ []) o u e = gives-unary place w n t m op s a (u 0 (omega arith)) e
+  gives-value (unary op) (a ∷ b ∷ vs) o u e = let z = o .1 in absurd (omega arith)
+  gives-value (builtin rule) vs o u e = gives-builtin place w n t m rule (map (typeAt w) vs) (types-formed w n s vs u) e
+
+  -- A VALUE THAT TYPING GAVE may be noted: the table grew, and the new slot is true
+  module _ (q : Question) (vs : List ℕ) (o : On q (length vs)) (u : Under n vs) (v : List ℕ)
+      (e : typed place w n q (map (typeAt w) vs) .answer ≡ Value t m) (f : typed place w n q (map (typeAt w) vs) .words ≡ v) where
+    pub value-noted : (t .0 < 256) × Grew w n v m × Holds v m (slotOf (keyOf (codeOf q) vs) (t .0))
+    value-noted =
+        let x = gives-value q vs o u e in
+        let st : Stands w n (x .0) (t .0) m v = entering-stands place w n s (x .0) (x .1) t m v (sym (x .2 place w n) ∙ (λ i. record { answer = e i; words = f i })) in
+        let g : Grew w n v m = record { more = st .grows; keeps = st .keeps; long = st .long; beyond = st .beyond } in
+        let top = s .high in
+        let b = st .below in
+        let high = st .sound .high in
+        let l : t .0 < 256 = omega arith in
+        (l, g, holds-new v m q vs (t .0) o (λ i h. let z = u i h in omega arith) l (under-on w n v m g vs u, b, rw (types-kept w n v m g vs u, st .stands) (x .2)))

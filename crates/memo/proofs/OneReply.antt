@@ -1,0 +1,19 @@
+-- No second effect meets the promise of `noted_step`, as of `step`; and where `quick_at` did something, it did the one thing that its item does. What the memo
+-- holds, and so whether `quick_at` does anything, is left open (docs/OPEN_PROMISES.md). Assumes nothing.
+use Prim.Native.Nat.{ℕ}
+use mathlib.Core.Path.{_≡_, sym, _∙_}
+use mathlib.Core.List.{List}
+use Rattle.step.specs.declared.Did.{Did}
+use Rattle.step.specs.Effect.{Effect, goes}
+use Rattle.step.specs.Code.{stateOf, effectBy, Does}
+use Rattle.step.proofs.OneReply.{step-one}
+use Rattle.memo.specs.Memo.{AfterStep}
+use Rattle.memo.specs.Quick.{WentAt}
+
+pub noted-one : (memo memo' : List ℕ) {e : Effect} {r q : Did} {vals vals' w w' : List ℕ} → Does e r vals w × AfterStep r memo w → Does e q vals' w' × AfterStep q memo' w'
+    → effectBy r vals w ≡ effectBy q vals' w'
+noted-one memo memo' a b = step-one (a .0) (b .0)
+
+pub quick-one : {s : List ℕ} {at count : ℕ} {vals : List ℕ} {used : ℕ} {w : List ℕ} {r q : ℕ} {after after' : List ℕ} → WentAt s at count vals used w r after
+    → WentAt s at count vals used w q after' → goes (stateOf r after used w) ≡ goes (stateOf q after' used w)
+quick-one a b = sym (a .effect) ∙ b .effect

@@ -1,0 +1,75 @@
+-- `memo::asked_call` meets its contract: the rule of the name, on as many operands as the call has. Assumes nothing.
+use Prim.Native.Nat.{ℕ, _+_}
+use Rattle.memo.proofs.Asking.{neither, call-asked}
+use Rattle.names.specs.Names.{said, ruleOf}
+use borrow.Author.Tests.{ltb-false}
+use mathlib.Core.Path.{refl, sym, _∙_, ap}
+use mathlib.Core.Logic.{inl}
+use borrow.Author.Needs.{needs}
+use Rattle.memo.proofs.asked_call.Statement.{statement}
+use Rattle.memo.proofs.asked_call.Tie as tie
+use Rattle.memo.proofs.asked_call.Reads as reads
+use Rattle.memo.proofs.asked_call.Lts as lts
+use Rattle.frame.proofs.part_of.Reads as part-of-reads
+use Rattle.memo.proofs.wide.Reads as wide-reads
+use Rattle.memo.proofs.wide32.Reads as wide32-reads
+use Rattle.memo.proofs.wide64.Reads as wide64-reads
+use Rattle.names.proofs.rule_of.Reads as rule-of-reads
+
+returns : tie.Need-returns
+returns c = record { asks = inl refl }
+
+part-of-requires : tie.Need-part-of-requires
+part-of-requires c κs = search needs
+
+rule-of-requires : tie.Need-rule-of-requires
+rule-of-requires c κs = search needs
+
+enum-known-rule : tie.Need-enum-known-rule
+enum-known-rule c = search needs
+
+returns-2 : tie.Need-returns-2
+returns-2 c = record { asks = inl refl }
+
+wide32-requires : tie.Need-wide32-requires
+wide32-requires c κs = search needs
+
+add-wide64 : tie.Need-add-wide64
+add-wide64 c = search needs
+
+wide64-requires : tie.Need-wide64-requires
+wide64-requires c κs = search needs
+
+wide-requires : tie.Need-wide-requires
+wide-requires c κs = search needs
+
+enum-told : tie.Need-enum-told
+enum-told c = search needs
+
+returns-3 : tie.Need-returns-3
+unfolding said
+returns-3 c = let a = c .before .before .before .before .before .before .before .before .before .before .before .args in
+    let n = neither _ _ (c .before .before .before .before .before .before .before .before .before .if1 .left) in
+    let g = c .before .before .before .before .before .rule .given in
+    let e = ap ruleOf (sym (c .before .before .before .before .before .before .before .before .part-of .ensures .bytes)) ∙ sym (c .before .before .before .before .before .before .before .rule-of .ensures) ∙ ap said (g .1) in
+    call-asked (a .sheet .now) (a .name) (a .k) (g .0 .0) (c .before .wide64 .result) (c .wide .result) (ltb-false _ _ (n .0)) (ltb-false _ _ (n .1)) (c .before .before .before .if2 .left) e (c .before .wide64 .ensures ∙ ap (λ (x : ℕ). 24 + x) (c .before .before .wide32 .ensures)) (c .wide .ensures)
+
+returns-4 : tie.Need-returns-4
+returns-4 c = record { asks = inl refl }
+
+pub asked-call-spec : {M : Type 1} → statement M
+asked-call-spec =
+    tie.close
+    (tie.spec
+    returns
+    part-of-requires
+    rule-of-requires
+    enum-known-rule
+    returns-2
+    wide32-requires
+    add-wide64
+    wide64-requires
+    wide-requires
+    enum-told
+    returns-3
+    returns-4)

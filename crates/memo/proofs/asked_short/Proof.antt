@@ -1,0 +1,49 @@
+-- `memo::asked_short` meets its contract: an operator that is known has its code, and all else none. Assumes nothing.
+use Rattle.memo.proofs.QuickLaws.{short-none, short-binary, short-unary}
+use borrow.Author.Needs.{needs}
+use Rattle.memo.proofs.asked_short.Statement.{statement}
+use Rattle.memo.proofs.asked_short.Tie as tie
+use Rattle.memo.proofs.asked_short.Reads as reads
+use Rattle.memo.proofs.asked_short.Lts as lts
+use Rattle.memo.proofs.wide64.Reads as wide64-reads
+
+returns : tie.Need-returns
+returns c = short-none _
+
+add-wide64 : tie.Need-add-wide64
+add-wide64 c = search needs
+
+wide64-requires : tie.Need-wide64-requires
+wide64-requires c κs = search needs
+
+returns-2 : tie.Need-returns-2
+returns-2 c = let a = c .before .before .before .args in short-binary (a .x) (c .wide64 .result) (c .before .before .if1 .taken) (c .before .if2 .left) (c .wide64 .ensures)
+
+returns-3 : tie.Need-returns-3
+returns-3 c = short-none _
+
+add-wide64-2 : tie.Need-add-wide64-2
+add-wide64-2 c = search needs
+
+wide64-requires-2 : tie.Need-wide64-requires-2
+wide64-requires-2 c κs = search needs
+
+returns-4 : tie.Need-returns-4
+returns-4 c = let a = c .before .before .before .before .args in short-unary (a .x) (c .wide642 .result) (c .before .before .if3 .taken) (c .before .if4 .left) (c .wide642 .ensures)
+
+returns-5 : tie.Need-returns-5
+returns-5 c = short-none _
+
+pub asked-short-spec : {M : Type 1} → statement M
+asked-short-spec =
+    tie.close
+    (tie.spec
+    returns
+    add-wide64
+    wide64-requires
+    returns-2
+    returns-3
+    add-wide64-2
+    wide64-requires-2
+    returns-4
+    returns-5)

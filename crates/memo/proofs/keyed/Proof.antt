@@ -1,0 +1,56 @@
+-- `memo::keyed` meets its contract: the operands are the last values of the stack. Assumes nothing.
+use lib.Dec.{eqb, ltb}
+use Rattle.memo.proofs.Asking.{neither, coded-some, last-many, last-bytes}
+use borrow.Author.Tests.{ltb-false, eqb-false}
+use native.Mathlib.Omega.{arith}
+use mathlib.Core.Logic.{inl, inr}
+use mathlib.Core.Path.{refl}
+use borrow.Author.Needs.{needs}
+use Rattle.memo.proofs.keyed.Statement.{statement}
+use Rattle.memo.proofs.keyed.Tie as tie
+use Rattle.memo.proofs.keyed.Reads as reads
+use Rattle.memo.proofs.keyed.Lts as lts
+use Rattle.memo.proofs.key_on.Reads as key-on-reads
+
+returns : tie.Need-returns
+returns c = record { keyed = inl refl }
+
+sub-base : tie.Need-sub-base
+sub-base c = let n = neither (eqb (c .before .before .before .before .before .args .a .code) 0) (ltb (c .before .before .before .before .before .args .count) (c .before .before .before .before .before .args .a .operands)) (c .before .if1 .left) in ltb-false _ _ (n .1)
+
+mul-key-on : tie.Need-mul-key-on
+mul-key-on c = search needs
+
+sub-key-on : tie.Need-sub-key-on
+sub-key-on c = search needs
+
+part-key-on-start : tie.Need-part-key-on-start
+part-key-on-start c = search needs
+
+part-key-on-end : tie.Need-part-key-on-end
+part-key-on-end c = search needs
+
+key-on-requires : tie.Need-key-on-requires
+key-on-requires c κs = let a = c .before .before .before .before .before .before .args in
+    let n = neither (eqb (c .before .before .before .before .before .before .args .a .code) 0) (ltb (c .before .before .before .before .before .before .args .count) (c .before .before .before .before .before .before .args .a .operands)) (c .before .before .if1 .left) in
+    let h = ltb-false _ _ (n .1) in
+    let d = coded-some (a .a .code) (a .a .operands) (c .before .before .before .before .before .before .pre .1) (eqb-false _ _ (n .0)) in
+    let m = last-many (a .a .operands) (a .count) (a .stack .now) (c .before .before .before .before .before .before .pre .0) h in
+    (d .0, last-bytes (a .a .operands) (a .count) (a .stack .now) (c .before .before .before .before .before .before .pre .0) h, omega (arith, m, d .1), omega (arith, m, d .2))
+
+returns-2 : tie.Need-returns-2
+returns-2 c = let n = neither (eqb (c .before .before .before .before .before .before .before .args .a .code) 0) (ltb (c .before .before .before .before .before .before .before .args .count) (c .before .before .before .before .before .before .before .args .a .operands)) (c .before .before .before .if1 .left) in
+    record { keyed = inr (record { some = eqb-false _ _ (n .0); enough = ltb-false _ _ (n .1); is = c .key-on .ensures .0; small = c .key-on .ensures .1; start = refl }) }
+
+pub keyed-spec : {M : Type 1} → statement M
+keyed-spec =
+    tie.close
+    (tie.spec
+    returns
+    sub-base
+    mul-key-on
+    sub-key-on
+    part-key-on-start
+    part-key-on-end
+    key-on-requires
+    returns-2)

@@ -1,0 +1,53 @@
+-- `memo::note` meets its contract: the slot of the key gets its value. Assumes nothing.
+use lib.ListN.{set}
+use mathlib.Core.Path.{ap}
+use Prim.Native.Nat.{ℕ, _+_, _*_}
+use borrow.Author.Needs.{needs}
+use Rattle.memo.proofs.note.Statement.{statement}
+use Rattle.memo.proofs.note.Tie as tie
+use Rattle.memo.proofs.note.Reads as reads
+use Rattle.memo.proofs.note.Lts as lts
+use Rattle.memo.proofs.slot_of.Reads as slot-of-reads
+use Rattle.memo.proofs.wide64.Reads as wide64-reads
+
+slot-of-requires : tie.Need-slot-of-requires
+slot-of-requires c κs = search needs
+
+mul-memo : tie.Need-mul-memo
+mul-memo c = search needs
+
+wide64-requires : tie.Need-wide64-requires
+wide64-requires c κs = search needs
+
+add-memo : tie.Need-add-memo
+add-memo c = search needs
+
+mul-memo-2 : tie.Need-mul-memo-2
+mul-memo-2 c = search needs
+
+slice-write-memo : tie.Need-slice-write-memo
+slice-write-memo c = search needs
+
+same-length : tie.Need-same-length
+same-length c = search needs
+
+returns : tie.Need-returns
+returns c = let a = c .before .before .before .args in
+    record {
+      slot = c .before .slot-of .result;
+      below = c .before .slot-of .ensures;
+      words = ap (λ (x : ℕ). set (a .memo .now) (c .before .slot-of .result) (a .key * 256 + x)) (c .wide64 .ensures);
+    }
+
+pub note-spec : {M : Type 1} → statement M
+note-spec =
+    tie.close
+    (tie.spec
+    slot-of-requires
+    mul-memo
+    wide64-requires
+    add-memo
+    mul-memo-2
+    slice-write-memo
+    same-length
+    returns)

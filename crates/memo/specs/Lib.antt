@@ -1,0 +1,3 @@
+pub mod Memo
+pub mod Asking
+pub mod Quick
