@@ -1,0 +1,253 @@
+//! A sheet does what the single calls do, item by item: made-up sheets of pushes, operators and calls, of which many meet the same operands again.
+use swartabelk::{binary, call, sheet, unary, Answer, Reason, Refusal, SCALARS};
+
+/// The stack's values, and the bytes that a sheet may have after its header.
+const VALUES: usize = 64;
+const LONGEST: usize = 60_000;
+
+/// What is called, and on how many operands. One name is no builtin's.
+const CALLS: [(&str, usize); 27] = [
+    ("abs", 1),
+    ("all", 1),
+    ("any", 1),
+    ("clamp", 3),
+    ("cross", 2),
+    ("determinant", 1),
+    ("distance", 2),
+    ("dot", 2),
+    ("dpdx", 1),
+    ("extractBits", 3),
+    ("fma", 3),
+    ("frexp", 1),
+    ("insertBits", 4),
+    ("ldexp", 2),
+    ("length", 1),
+    ("max", 2),
+    ("mix", 3),
+    ("modf", 1),
+    ("nothing", 1),
+    ("pow", 2),
+    ("reverseBits", 1),
+    ("select", 3),
+    ("sign", 1),
+    ("smoothstep", 3),
+    ("sqrt", 1),
+    ("step", 2),
+    ("transpose", 1),
+];
+
+/// After the scalars: vectors, a matrix, a pointer to f32 and a reference to it.
+const ENTRIES: [[u32; 4]; 8] = [
+    [7, 3, 0, 5],
+    [7, 2, 0, 1],
+    [7, 4, 0, 6],
+    [7, 3, 0, 0],
+    [7, 2, 0, 4],
+    [8, 2, 2, 5],
+    [12, 0, 2, 5],
+    [13, 0, 2, 5],
+];
+
+/// Numbers that look made up, the same in each run.
+struct Dice(u64);
+
+impl Dice {
+    fn below(&mut self, n: usize) -> usize {
+        self.0 ^= self.0 << 13;
+        self.0 ^= self.0 >> 7;
+        self.0 ^= self.0 << 17;
+        (self.0 % n as u64) as usize
+    }
+}
+
+enum Item {
+    Push(u8),
+    Unary(u8),
+    Binary(u8),
+    Call(&'static str, usize),
+}
+
+impl Item {
+    fn bytes(&self) -> Vec<u8> {
+        match *self {
+            Item::Push(t) => vec![2, 1, t],
+            Item::Unary(op) => vec![2, 2, op],
+            Item::Binary(op) => vec![2, 3, op],
+            Item::Call(name, k) => {
+                let mut bytes = vec![2 + name.len() as u8, 4, k as u8];
+                bytes.extend_from_slice(name.as_bytes());
+                bytes
+            }
+        }
+    }
+}
+
+#[derive(Clone)]
+struct State {
+    words: [u32; 1024],
+    used: u32,
+    stack: Vec<u32>,
+}
+
+impl State {
+    fn new() -> State {
+        let mut words = [0; 1024];
+        words[..28].copy_from_slice(&SCALARS);
+        for (i, e) in ENTRIES.iter().enumerate() {
+            words[28 + 4 * i..32 + 4 * i].copy_from_slice(e);
+        }
+        State {
+            words,
+            used: 7 + ENTRIES.len() as u32,
+            stack: Vec::new(),
+        }
+    }
+
+    fn refused(&self, reason: Reason) -> Answer {
+        Answer::Refused(Refusal {
+            reason,
+            place: 0,
+            used: self.used,
+        })
+    }
+
+    /// An item by the single call that it stands for: its answer, and of a type the state after it.
+    fn take(&mut self, item: &Item) -> Answer {
+        let operands = match *item {
+            Item::Push(t) => return self.push(t as u32),
+            Item::Unary(_) => 1,
+            Item::Binary(_) => 2,
+            Item::Call(_, k) => k,
+        };
+        if self.stack.len() < operands {
+            return self.refused(Reason::Stack);
+        }
+        let below = self.stack.len() - operands;
+        let a = &self.stack[below..];
+        let answer = match *item {
+            Item::Push(_) => unreachable!(),
+            Item::Unary(op) => unary(&mut self.words, self.used, op as u32, a[0]),
+            Item::Binary(op) => binary(&mut self.words, self.used, op as u32, a[0], a[1]),
+            Item::Call(name, _) => call(&mut self.words, self.used, name.as_bytes(), &[], a),
+        };
+        if let Answer::Type { number, used } = answer {
+            self.stack.truncate(below);
+            self.stack.push(number);
+            self.used = used;
+        }
+        answer
+    }
+
+    fn push(&mut self, t: u32) -> Answer {
+        if self.used <= t {
+            return self.refused(Reason::NoSuchType);
+        }
+        if self.stack.len() == VALUES {
+            return self.refused(Reason::Stack);
+        }
+        self.stack.push(t);
+        Answer::Type {
+            number: t,
+            used: self.used,
+        }
+    }
+}
+
+fn any_item(dice: &mut Dice, state: &State) -> Item {
+    match dice.below(8) {
+        0..=2 => Item::Push(dice.below(state.used as usize + 1) as u8),
+        3 => Item::Unary(dice.below(6) as u8),
+        4 | 5 => Item::Binary(dice.below(19) as u8),
+        _ => {
+            let (name, k) = CALLS[dice.below(CALLS.len())];
+            let amiss = dice.below(32) == 0;
+            Item::Call(name, if amiss { k - 1 } else { k })
+        }
+    }
+}
+
+/// Of AbstractInt, f32 and vec3 of f32 alone, which `+` and its like can make one value of.
+fn mild_item(dice: &mut Dice) -> Item {
+    match dice.below(4) {
+        0 => Item::Push([1, 5, 7][dice.below(3)]),
+        1 => Item::Binary(2 + dice.below(5) as u8),
+        _ => {
+            let (name, k) = [("abs", 1), ("clamp", 3), ("max", 2), ("mix", 3)][dice.below(4)];
+            Item::Call(name, k)
+        }
+    }
+}
+
+/// A sheet of so many tries, and what the single calls say that it answers and leaves. An item that is refused is left out. A wild sheet ends at one such in 50; in
+/// a mild one nothing is pushed after half of the tries, until one value stands.
+fn made(dice: &mut Dice, most: usize, wild: bool) -> (Vec<u8>, Answer, State) {
+    let mut state = State::new();
+    let mut bytes = vec![1, 0, 0];
+    let mut stopped = None;
+    for i in 0..most {
+        let item = if wild {
+            any_item(dice, &state)
+        } else {
+            mild_item(dice)
+        };
+        if !wild && most / 2 <= i && matches!(item, Item::Push(_)) {
+            continue;
+        }
+        let item_bytes = item.bytes();
+        if 3 + LONGEST < bytes.len() + item_bytes.len() {
+            break;
+        }
+        let mut next = state.clone();
+        let answer = next.take(&item);
+        match answer {
+            Answer::Type { .. } => state = next,
+            Answer::Refused(r) if wild && dice.below(50) == 0 => {
+                let place = bytes.len() as u32;
+                stopped = Some(Answer::Refused(Refusal { place, ..r }));
+            }
+            _ => continue,
+        }
+        bytes.extend_from_slice(&item_bytes);
+        if stopped.is_some() {
+            break;
+        }
+    }
+    let length = bytes.len() - 3;
+    bytes[1] = (length / 256) as u8;
+    bytes[2] = (length % 256) as u8;
+    let used = state.used;
+    let end = match state.stack[..] {
+        [number] => Answer::Type { number, used },
+        _ => Answer::Refused(Refusal {
+            reason: Reason::Stack,
+            place: bytes.len() as u32,
+            used,
+        }),
+    };
+    (bytes, stopped.unwrap_or(end), state)
+}
+
+#[test]
+fn sheets_do_what_single_calls_do() {
+    let mut dice = Dice(0x5eed_5eed_5eed_5eed);
+    let mut reasons = [0; 14];
+    for k in 0..2000 {
+        let (bytes, told, after) = made(
+            &mut dice,
+            if k % 100 < 2 { 20_000 } else { 400 },
+            k % 2 == 0,
+        );
+        let mut state = State::new();
+        let answer = sheet(&mut state.words, state.used, &bytes);
+        assert_eq!(answer, told, "sheet {k}: {bytes:?}");
+        assert_eq!(state.words, after.words, "sheet {k}: {bytes:?}");
+        match answer {
+            Answer::Refused(r) => reasons[r.reason as usize] += 1,
+            _ => reasons[0] += 1,
+        }
+    }
+    println!("sheets by refusal, 0 for a type: {reasons:?}");
+    for reason in [0, 2, 3, 4, 7, 8, 11] {
+        assert_ne!(reasons[reason], 0, "no sheet ends with {reason}");
+    }
+}
