@@ -14,9 +14,11 @@ use Rattle.overload.specs.Rows.{judgeRow, judgeAddress, judgeIndirection}
 use Rattle.overload.proofs.Results.{gives-formed}
 use Rattle.table.specs.Table.{soundb, Sound}
 use Rattle.table.specs.Denote.{typeAt}
+use Rattle.table.specs.Kept.{Kept}
 use Rattle.table.proofs.SoundLaws.{sound-of}
+use Rattle.table.proofs.Keeping.{kept-refused, kept-by}
 use Rattle.ruled.specs.Call.{judgedOutcome}
-use Rattle.ruled.proofs.Demands.{Kept, kept-refused, kept-by, kept-judged, kept-ruled}
+use Rattle.ruled.proofs.Demands.{kept-judged, kept-ruled}
 use Rattle.ops_ty.specs.Ops.{unaryOps, addressOp, indirectionOp, binaryOps, binaryRow, unaryOutcome, binaryOutcome, typeUnaryOp, typeBinaryOp}
 use Rattle.ops_ty.proofs.Pointers.{address-formed, indirection-formed}
 

@@ -26,55 +26,27 @@ use Rattle.answer.specs.declared.Reason.the-variants.{NoOverload, Reference, No
 use Rattle.answer.specs.declared.Refusal.{Refusal}
 use Rattle.answer.specs.declared.Answer.{Answer}
 use Rattle.answer.specs.declared.Answer.the-variants.{Value, NoValue, Refused}
-use Rattle.table.proofs.Demand1.{entering-stands, entering-refused, entering-valued}
+use Rattle.table.specs.Kept.{Kept}
+use Rattle.table.proofs.Demand1.{entering-stands, entering-refused}
+use Rattle.table.proofs.Keeping.{kept-refused, kept-by, kept-entering}
 use Rattle.ruled.specs.Call.{anyReference, judgedOutcome, ruledOutcome}
-
--- DEMAND 1: "A refused call changes no lent byte or word." "An accepted call leaves every earlier entry at its number and adds only the
--- missing entries its result needs": where a value is given, its type stands at its number in a sound table that grew by it and its parts alone.
--- The count of a refusal is the one that came in
-pub record Kept (w : List ℕ) (n : ℕ) (o : Outcome) : Type 0 where
-  pub refused : (r : Refusal) → o .answer ≡ Refused r → o .words ≡ w
-  pub counted : (r : Refusal) → o .answer ≡ Refused r → r .used ≡ n
-  pub accepted : (t : TypeNo) (m : ℕ) → o .answer ≡ Value t m → (R : Ty) × Stands w n R (t .0) m (o .words)
-  pub without : (m : ℕ) → o .answer ≡ NoValue m → (o .words ≡ w) × (m ≡ n)
 
 impossible : {P : Type 0} → _≡_ {A = ℕ} 0 1 → P
 impossible e = absurd (omega arith)
 
-module _ (w : List ℕ) (n : ℕ) where
-  pub kept-refused : (reason : Reason) (place : ℕ) → Kept w n (turnedDown reason place w n)
-  kept-refused reason place =
-      record {
-        refused = λ r e. refl;
-        counted = λ r e. let q : record { reason = reason; place = record { 0 = place }; used = n } ≡ r = cc in sym (ap (λ (x : Refusal). x .used) q);
-        accepted = λ t m e. impossible (cc);
-        without = λ m e. impossible (cc);
-      }
+-- DEMAND 1
 
-  pub kept-by : (b : Bool) (x y : Outcome) → (b ≡ true → Kept w n x) → (b ≡ false → Kept w n y) → Kept w n (cond b x y)
-  kept-by true x y f g = f refl
-  kept-by false x y f g = g refl
+module _ (w : List ℕ) (n : ℕ) (s : Sound w n) where
+  pub kept-judged : (place : ℕ) (j : Judged) → ((R : Ty) → j ≡ gives R → formed R ≡ true) → Kept w n (judgedOutcome place w n j)
+  unfolding judgedOutcome
+  kept-judged place (gives R) f = kept-entering w n s place R (f R refl)
+  kept-judged place noneFits f = kept-refused w n _ place
+  kept-judged place nonePreferred f = kept-refused w n _ place
 
-  module _ (s : Sound w n) where
-    pub kept-entering : (place : ℕ) (R : Ty) → formed R ≡ true → Kept w n (entering place w n R)
-    kept-entering place R f =
-        record {
-          refused = λ r e. entering-refused place w n s R f r (entering place w n R .words) (λ i. record { answer = e i; words = entering place w n R .words }) .0;
-          counted = λ r e. ap (λ (x : Refusal). x .used) (entering-refused place w n s R f r (entering place w n R .words) (λ i. record { answer = e i; words = entering place w n R .words }) .1);
-          accepted = λ t m e. (R, entering-stands place w n s R f t m (entering place w n R .words) (λ i. record { answer = e i; words = entering place w n R .words }));
-          without = λ m e. absurd (entering-valued place w n s R f m (entering place w n R .words) (λ i. record { answer = e i; words = entering place w n R .words }));
-        }
-
-    pub kept-judged : (place : ℕ) (j : Judged) → ((R : Ty) → j ≡ gives R → formed R ≡ true) → Kept w n (judgedOutcome place w n j)
-    unfolding judgedOutcome
-    kept-judged place (gives R) f = kept-entering place R (f R refl)
-    kept-judged place noneFits f = kept-refused _ place
-    kept-judged place nonePreferred f = kept-refused _ place
-
-    pub kept-ruled : (place row : ℕ) (ts : List Ty) → Kept w n (ruledOutcome place w n row ts)
-    unfolding ruledOutcome
-    kept-ruled place row ts =
-        kept-by (anyReference ts) _ _ (λ e. kept-refused _ place) (λ e. kept-judged place (judgeRow row ts) (λ R q. gives-formed row ts R q .0))
+  pub kept-ruled : (place row : ℕ) (ts : List Ty) → Kept w n (ruledOutcome place w n row ts)
+  unfolding ruledOutcome
+  kept-ruled place row ts =
+      kept-by w n (anyReference ts) _ _ (λ e. kept-refused w n _ place) (λ e. kept-judged place (judgeRow row ts) (λ R q. gives-formed row ts R q .0))
 
 -- the judgment of a row, by demand 3
 

@@ -11,7 +11,7 @@ use lib.ListN.{getD, length-drop}
 use borrow.Author.Tests.{lt-ltb, le-leb}
 use Rattle.table.specs.Table.{soundb, allowedb}
 use Rattle.table.specs.Denote.{typeAt, tyOf}
-use Rattle.table.specs.Enter.{entered, enterWords, enterTypeReply, enterTypeWords}
+use Rattle.table.specs.Enter.{enterTypeReply, enterTypeWords}
 use Rattle.table.specs.Placing.{Outcome, entering, enterType}
 use Rattle.table.specs.declared.Entry.{Entry}
 use Rattle.table.specs.declared.Entered.{Entered}
@@ -19,7 +19,7 @@ use Rattle.table.specs.declared.Entered.the-variants.{There, Full}
 use Rattle.answer.specs.declared.Reason.the-variants.{NoSuchType, Template}
 use Rattle.table.proofs.SoundLaws.{of-sound}
 use Rattle.table.proofs.KindLaws.{split}
-use Rattle.table.proofs.PlacingLaws.{enter-outcome}
+use Rattle.table.proofs.Keeping.{enter-call}
 use Rattle.ops_ty.specs.Ops.{unaryOutcome, binaryOutcome, typeUnaryOp, typeBinaryOp}
 use Rattle.call_ty.specs.Calls.{callOutcome, allUnder, typeBuiltinFn}
 use Rattle.call_ty.specs.Codes.{Under}
@@ -115,12 +115,6 @@ module _ (place : ℕ) (st : State) (good : Good st) where
 
   -- TAKE, on a stack that has room for one value more
 
-  enter-call : (e : Entry) → allowedb w n e ≡ true → entering 0 w n (tyOf w e) ≡ enterType w n e
-  unfolding enterTypeReply enterTypeWords
-  enter-call e h =
-      sym (enter-outcome 0 w n (good .sound) e h (entered w n e) (enterWords w n e) (record { reply = refl; words = refl }))
-      ∙ sym (rw (sound, h))
-
   -- an entry that is not allowed is 5, of the item and of the host's call
   not-entered : (e : Entry) → allowedb w n e ≡ false → stop Template place st ≡ onto (st .stack) (moved place (enterType w n e))
   unfolding enterTypeReply enterTypeWords onto
@@ -131,5 +125,5 @@ module _ (place : ℕ) (st : State) (good : Good st) where
   take-single e l =
       rw (lt-ltb (height st) most l)
       (split (allowedb w n e)
-      (λ b. rw b (ap (onto (st .stack)) (entering-moved place w n (tyOf w e) ∙ ap (moved place) (enter-call e b))))
+      (λ b. rw b (ap (onto (st .stack)) (entering-moved place w n (tyOf w e) ∙ ap (moved place) (sym (enter-call w n (good .sound) e sound b)))))
       (λ b. rw b (not-entered e b)))

@@ -1,9 +1,9 @@
 -- What the answers of single calls keep, as a sheet needs it: a value is a number of the table, and a call without operands gives none.
 -- Assumes nothing.
 use Prim.Native.Nat.{ℕ, _<_, _≤_, _^_}
-use mathlib.Core.Path.{_≡_, refl, sym, _∙_, ap}
+use mathlib.Core.Path.{_≡_, refl, sym}
 use mathlib.Core.Bool.{Bool, true, false, cond}
-use mathlib.Core.List.{List, [], _∷_, map}
+use mathlib.Core.List.{List, []}
 use native.Mathlib.Omega.{arith}
 use lib.Dec.{T, eqb, ltb, leb}
 use lib.ListN.{length}
@@ -14,62 +14,17 @@ use Rattle.conv.proofs.Finite.{all, below}
 use Rattle.overload.specs.Rows.{rows, operators, builtins}
 use Rattle.names.specs.Names.{Known, ruleOf, overloadRows, ruleBitcast, ruleArrayLength, ruleLdexp}
 use Rattle.names.specs.Names.Known.{known, unknown}
-use Rattle.table.specs.Table.{Sound}
-use Rattle.table.specs.Denote.{typeAt}
-use Rattle.answer.specs.Answer.{refuse}
-use Rattle.table.specs.Placing.{Outcome, Gave, turnedDown, entering}
+use Rattle.table.specs.Placing.{Outcome}
 use Rattle.answer.specs.declared.TypeNo.{TypeNo}
-use Rattle.answer.specs.declared.Refusal.{Refusal}
 use Rattle.answer.specs.declared.Answer.{Answer}
 use Rattle.answer.specs.declared.Answer.the-variants.{Value, NoValue, Refused}
 use Rattle.table.proofs.KindLaws.{split, clash}
 use Rattle.ruled.specs.Call.{anyReference}
-use Rattle.ruled.proofs.Demands.{Kept}
+use Rattle.table.specs.Kept.{Kept}
 use Rattle.call_ty.specs.Calls.{templateRight, operandsIn, operandsOf, givenBy, givenOutcome, byRule, callOutcome}
 use Rattle.call_ty.specs.Calls.Given.{nothing}
-use Rattle.call_ty.specs.Codes.{Under}
-use Rattle.table.proofs.Demand1.{entering-refused}
-use Rattle.table.proofs.Giving.{gave}
-use Rattle.call_ty.proofs.Lists.{types-formed}
-use Rattle.call_ty.proofs.Ends.{Ends, rule-call-ends}
-use Rattle.call_ty.proofs.Ends.Ends.{refused, silent, valued}
-use Rattle.call_ty.proofs.Demand1.{call-refused, call-silent, call-accepted}
 use Rattle.step.specs.Effect.{most}
 use Rattle.step.specs.Code.{Pushes}
-
--- the count of a refusal is the one that came in
-call-counted : (place : ℕ) (w : List ℕ) (n : ℕ) → Sound w n → (name tplt args : List ℕ) → Under n tplt → Under n args
-    → (r : Refusal) → callOutcome place w n name (map (typeAt w) tplt) (map (typeAt w) args) .answer ≡ Refused r → r .used ≡ n
-call-counted place w n s name tplt args ut ua r h = go (rule-call-ends place w n ts us (types-formed w n s tplt ut) (types-formed w n s args ua) (ruleOf name))
-  where
-    ts : List Ty
-    ts = map (typeAt w) tplt
-
-    us : List Ty
-    us = map (typeAt w) args
-
-    go : Ends place w n (ruleOf name) ts us (callOutcome place w n name ts us) → r .used ≡ n
-    go (refused reason f e) =
-        let a : refuse reason place n ≡ Refused r = sym (ap (λ (x : Outcome). x .answer) e) ∙ h in
-        let q : record { reason = reason; place = record { 0 = place }; used = n } ≡ r = cc in
-        sym (ap (λ (x : Refusal). x .used) q)
-    go (silent e) = let a : NoValue n ≡ Refused r = sym (ap (λ (x : Outcome). x .answer) e) ∙ h in absurd (let z : _≡_ {A = ℕ} 0 1 = cc in omega arith)
-    go (valued R k f q g e) =
-        let o = entering place w n R in
-        let a : o .answer ≡ Refused r = sym (ap (λ (x : Outcome). x .answer) e) ∙ h in
-        ap (λ (x : Refusal). x .used) (entering-refused place w n s R f r (o .words) (λ i. record { answer = a i; words = o .words }) .1)
-
--- a call of a builtin keeps what the calls of operators keep
-pub call-at-kept : (place : ℕ) (w : List ℕ) (n : ℕ) → Sound w n → (name tplt args : List ℕ) → Under n tplt → Under n args
-    → Kept w n (callOutcome place w n name (map (typeAt w) tplt) (map (typeAt w) args))
-call-at-kept place w n s name tplt args ut ua =
-    let o = callOutcome place w n name (map (typeAt w) tplt) (map (typeAt w) args) in
-    record {
-      refused = λ r e. call-refused place w n s name tplt args ut ua r (o .words) (gave (sym e) refl);
-      counted = λ r e. call-counted place w n s name tplt args ut ua r e;
-      accepted = λ t m e. let x = call-accepted place w n s name tplt args ut ua t m (o .words) (gave (sym e) refl) in (x .0, x .1 .stands);
-      without = λ m e. let x = call-silent place w n s name tplt args ut ua m (o .words) (gave (sym e) refl) in (x .1, x .0);
-    }
 
 -- A CALL WITHOUT OPERANDS: of the rules only the barriers want none, and those give no value
 

@@ -19,17 +19,19 @@ use Rattle.answer.specs.declared.Answer.{Answer}
 use Rattle.answer.specs.declared.Answer.the-variants.{Value}
 use Rattle.table.proofs.FormedLaws.{allowed-type}
 use Rattle.table.proofs.PlacingLaws.{enter-outcome}
-use Rattle.ruled.proofs.Demands.{Kept, kept-entering}
+use Rattle.table.specs.Kept.{Kept}
+use Rattle.table.proofs.Keeping.{kept-entering}
 use Rattle.ruled.proofs.Outcomes.{gave-from}
 use Rattle.ops_ty.specs.Ops.{unaryOutcome, binaryOutcome}
 use Rattle.ops_ty.proofs.Demand1.{unary-at-kept, binary-at-kept}
 use Rattle.call_ty.specs.Calls.{callOutcome}
 use Rattle.call_ty.specs.Codes.{Under}
+use Rattle.call_ty.proofs.Demand1.{call-at-kept}
 use Rattle.step.specs.declared.Did.{Did}
 use Rattle.step.specs.Effect.{most, State, onto, unaryEffect, binaryEffect, calling, callEffect, templateEffect, takeEffect}
 use Rattle.step.specs.Code.{stateOf, Ready, Pushes, Does, Settles}
 use Rattle.step.proofs.StackLaws.{sized, operands-lent, under-drop}
-use Rattle.step.proofs.Answers.{call-at-kept, no-operand, pushes}
+use Rattle.step.proofs.Answers.{no-operand, pushes}
 use Rattle.step.proofs.Effects.{does-as, settled, value-under, unary-goes, binary-goes, calling-on, take-goes}
 
 module _ (place : Place) (count : ℕ) (vals : List ℕ) (used : ℕ) (w : List ℕ) (ready : Ready count vals used w) where

@@ -21,18 +21,20 @@ use Rattle.answer.specs.declared.TypeNo.{TypeNo}
 use Rattle.answer.specs.declared.Answer.{Answer}
 use Rattle.answer.specs.declared.Answer.the-variants.{Value, NoValue, Refused}
 use Rattle.table.proofs.FormedLaws.{allowed-type}
-use Rattle.ruled.proofs.Demands.{Kept, kept-entering}
+use Rattle.table.specs.Kept.{Kept}
+use Rattle.table.proofs.Keeping.{kept-entering}
 use Rattle.frame.specs.declared.Item.{Item}
 use Rattle.frame.specs.declared.Item.the-variants.{Push, Unary, Binary, Call, CallTemplate, Take, End, Bad}
 use Rattle.ops_ty.specs.Ops.{unaryOutcome, binaryOutcome}
 use Rattle.ops_ty.proofs.Demand1.{unary-at-kept, binary-at-kept}
 use Rattle.call_ty.specs.Calls.{callOutcome}
+use Rattle.call_ty.proofs.Demand1.{call-at-kept}
 use Rattle.call_ty.specs.Codes.{Under}
 use Rattle.step.specs.Effect.{most, State, height, operands, below, Effect, goes, silent, ends, stops, stop, pushed, onto, having, holding, pushEffect, unaryEffect, binaryEffect, calling, callEffect, templateEffect, takeEffect, effectOf, entryOf, bytesOf}
 use Rattle.step.specs.Code.{Good}
 use Rattle.step.specs.Kept.{Grew}
 use Rattle.step.proofs.StackLaws.{under-take, under-drop}
-use Rattle.step.proofs.Answers.{call-at-kept, no-operand}
+use Rattle.step.proofs.Answers.{no-operand}
 
 -- what an effect keeps of the state before it
 abbrev pub EffectKept : State → Effect → Type 0

@@ -13,17 +13,17 @@ use Rattle.answer.specs.declared.TypeNo.{TypeNo}
 use Rattle.answer.specs.declared.Reason.the-variants.{Unsound}
 use Rattle.answer.specs.declared.Answer.{Answer}
 use Rattle.answer.specs.declared.Answer.the-variants.{Value, NoValue, Refused}
-use Rattle.ruled.proofs.Demands.{Kept}
+use Rattle.table.specs.Kept.{Kept}
 use Rattle.ops_ty.specs.Ops.{typeUnaryOp, typeBinaryOp}
 use Rattle.ops_ty.proofs.Demand1.{unary-kept, binary-kept}
 use Rattle.call_ty.specs.Calls.{typeBuiltinFn}
-use Rattle.call_ty.proofs.Demand1.{single-accepted, single-silent}
+use Rattle.call_ty.proofs.Demand1.{call-kept}
 use Rattle.tplt.specs.Templates.{templateOutcome}
-use Rattle.tplt.proofs.Demand1.{accepted-grows, refused-keeps, always-valued}
+use Rattle.tplt.proofs.Demand1.{template-kept}
 use Rattle.swartabelk.specs.Reply.{replyOf, Replied, checkAnswer}
 use Rattle.swartabelk.specs.Code.{Fits}
 use Rattle.swartabelk.specs.declared.Reply.{Reply}
-use Rattle.swartabelk.proofs.Places.{At, type-unary-at, type-binary-at, type-builtin-at}
+use Rattle.swartabelk.proofs.Places.{At, type-unary-at, type-binary-at, type-builtin-at, type-template-at}
 
 -- a type of a sound table
 value-fits : (t : TypeNo) (m : ℕ) → t .0 < m → m ≤ 256 → Fits (Value t m)
@@ -38,7 +38,7 @@ case-fits place n p l (Value t m) v e at = let s = v t m refl in value-fits t m 
 case-fits place n p l (NoValue m) v e at = let q = e m refl in omega arith
 case-fits place n p l (Refused r) v e at = (omega (arith, at .0), omega (arith, at .1))
 
--- an operator's call keeps what `Kept` says
+-- a call keeps what `Kept` says
 kept-fits : (w : List ℕ) (n : ℕ) (o : Outcome) → n < 2 ^ 32 → Kept w n o → At 0 n (o .answer) → (a : Answer) → a ≡ o .answer → Fits a
 kept-fits w n o l k at a e =
     case-fits 0 n (omega arith) l a
@@ -53,17 +53,10 @@ module _ (w : List ℕ) (n : ℕ) (l : n < 2 ^ 32) (r : Answer) (v : List ℕ) w
   binary-fits op a b g = kept-fits w n _ l (binary-kept w n op a b) (type-binary-at w n op a b) r (g .reply)
 
   pub call-fits : (name tplt args : List ℕ) → Gave (typeBuiltinFn w n name tplt args) r v → Fits r
-  call-fits name tplt args g =
-      case-fits 0 n (omega arith) l r
-      (λ t m q. let s = single-accepted w n name tplt args t m v (rw q at g) .1 .1 .stands in (s .below, s .sound .high))
-      (λ m q. single-silent w n name tplt args m v (rw q at g) .0)
-      (rw (g .reply) (type-builtin-at w n name tplt args))
+  call-fits name tplt args g = kept-fits w n _ l (call-kept w n name tplt args) (type-builtin-at w n name tplt args) r (g .reply)
 
-pub template-fits : (w : List ℕ) (n : ℕ) → n < 2 ^ 32 → (head : List ℕ) (args : List ℤ) (r : Answer) (v : List ℕ) → Gave (templateOutcome w n head args) r v → Fits r
-unfolding Fits
-template-fits w n l head args (Value t m) v d = let s = accepted-grows w n head args t m v d .stands in value-fits t m (s .below) (s .sound .high)
-template-fits w n l head args (NoValue m) v d = absurd (always-valued w n head args m v d)
-template-fits w n l head args (Refused r) v d = let u = refused-keeps w n head args r v d in (omega (arith, u .1), omega (arith, u .2))
+  pub template-fits : (head : List ℕ) (args : List ℤ) → Gave (templateOutcome w n head args) r v → Fits r
+  template-fits head args g = kept-fits w n _ l (template-kept w n head args) (type-template-at w n head args) r (g .reply)
 
 -- an outcome's answer, told in numbers, is the reply of the same outcome
 pub replied : {o p : Outcome} {a : Answer} {r : Reply} {v : List ℕ} → o ≡ p → Gave o a v → r ≡ replyOf a → Replied p r v

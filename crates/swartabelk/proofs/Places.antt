@@ -5,6 +5,7 @@ use mathlib.Core.Bool.{Bool, true, false, cond}
 use mathlib.Core.List.{List, [], _∷_, map}
 use lib.Dec.{eqb, ltb, leb}
 use lib.ListN.{length}
+use lib.IntN.{ℤ}
 use Rattle.conv.specs.Types.{Ty}
 use Rattle.conv.specs.Rank.{isReference}
 use Rattle.overload.specs.Overload.{Judged}
@@ -22,6 +23,11 @@ use Rattle.ruled.specs.Call.{anyReference, judgedOutcome, ruledOutcome}
 use Rattle.ops_ty.specs.Ops.{unaryOps, addressOp, indirectionOp, binaryOps, binaryRow, unaryOutcome, binaryOutcome, typeUnaryOp, typeBinaryOp}
 use Rattle.call_ty.specs.Calls.{Given, templateRight, operandsOf, givenBy, givenOutcome, byRule, callOutcome, allUnder, typeBuiltinFn}
 use Rattle.call_ty.specs.Calls.Given.{judgment, nothing}
+use Rattle.tplt.specs.Heads.{headOf}
+use Rattle.tplt.specs.Params.{paramsOf, typesKnown, argumentsOf}
+use Rattle.tplt.specs.Templates.{parsedOf, typeOf, outcomeOf, templateOutcome}
+use Rattle.tplt.specs.declared.Parsed.{Parsed}
+use Rattle.tplt.specs.declared.Parsed.the-variants.{OfVec, OfMat, OfAtomic, OfArray, Wrong}
 
 -- an answer is no refusal, or one at this place with this count
 abbrev pub At : ℕ → ℕ → Answer → Type 0
@@ -97,4 +103,19 @@ module _ (w : List ℕ) (n : ℕ) where
       (at-by 0 w n (allUnder n tplt) _ _
       (at-by 0 w n (allUnder n args) _ _ (call-at 0 w n name (map (typeAt w) tplt) (map (typeAt w) args)) (refl, refl))
       (refl, refl))
+      (refl, refl)
+
+  parsed-at : (p : Parsed) → At 0 n (outcomeOf w n p .answer)
+  unfolding outcomeOf
+  parsed-at (OfVec x) = entering-at 0 w n (typeOf w (OfVec x))
+  parsed-at (OfMat x) = entering-at 0 w n (typeOf w (OfMat x))
+  parsed-at (OfAtomic x) = entering-at 0 w n (typeOf w (OfAtomic x))
+  parsed-at (OfArray x) = entering-at 0 w n (typeOf w (OfArray x))
+  parsed-at (Wrong r) = (refl, refl)
+
+  pub type-template-at : (head : List ℕ) (args : List ℤ) → At 0 n (templateOutcome w n head args .answer)
+  unfolding templateOutcome
+  type-template-at head args =
+      at-by 0 w n (soundb w n) _ _
+      (at-by 0 w n (typesKnown (paramsOf n args)) _ _ (parsed-at (parsedOf w (headOf head) (argumentsOf n args))) (refl, refl))
       (refl, refl)

@@ -13,3 +13,4 @@ pub mod OneReply
 pub mod Examples
 pub mod PlacingLaws
 pub mod Demand1
+pub mod Keeping

@@ -5,3 +5,4 @@ pub mod Denote
 pub mod Enter
 pub mod Stands
 pub mod Placing
+pub mod Kept
