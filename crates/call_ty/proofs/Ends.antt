@@ -23,7 +23,7 @@ use Rattle.answer.specs.declared.Reason.the-variants.{Unsound, NoSuchType, Refe
 use Rattle.table.proofs.SoundLaws.{sound-of}
 use Rattle.ruled.specs.Call.{anyReference, judgedOutcome}
 use Rattle.call_ty.specs.Calls.{firstIn, secondIn, templateRight, operandsOf, ldexpTakes, judgeLdexp, givenBy, givenOutcome, withoutValue, byRule, allUnder, typeBuiltinFn}
-use Rattle.call_ty.specs.Calls.Given.{judgment, nothing}
+use Rattle.call_ty.specs.Calls.Given.{judgment}
 use Rattle.call_ty.proofs.Lists.{types, types-formed, all-under}
 use Rattle.call_ty.proofs.Ways.{by-unknown}
 use Rattle.table.proofs.KindLaws.{split}

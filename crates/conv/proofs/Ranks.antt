@@ -1,15 +1,14 @@
 -- The laws of ranks that everything above uses: numbers outside the domain, the rank of plain numbers by width and component, the
 -- preference order of scalars, and the join. Each test over the domain is computed. Assumes nothing.
-use Prim.Native.Nat.{ℕ, _+_, _*_, _/_, _%_, _<_, _≤_}
+use Prim.Native.Nat.{ℕ, _/_, _%_, _<_, _≤_}
 use native.Mathlib.Omega.{arith}
-use mathlib.Core.Path.{_≡_, refl, sym, _∙_, ap}
+use mathlib.Core.Path.{_≡_, refl}
 use mathlib.Core.Bool.{Bool, true, false, not}
-use mathlib.Core.List.{List, [], _∷_}
+use mathlib.Core.List.{[], _∷_}
 use mathlib.Core.Logic.{_≢_, _⊎_, inl, inr}
 use lib.Dec.{T, eqb, ltb, eqb→eq, ltb→lt}
 use lib.ListN.{getD}
 use borrow.Author.Tests.{lt-ltb, le-ltb, ltb-true, ltb-false, eqb-true, eq-eqb, ne-eqb}
-use Rattle.conv.specs.Types.{Ty}
 use Rattle.conv.specs.Rank.{pick, both, none, rankOf, shapeOf, componentOf, tagOf, firstOf, secondOf, elementOf, sameTy, conversionRank, made, plain, commonOf, plainRank, accepts}
 use Rattle.conv.proofs.Finite.{both-left, both-right, same, same-eq, implies, modus, all, below, below₂, below₃}
 

@@ -1,6 +1,6 @@
 // Entering: a type that is absent from the table becomes its next entry.
 ghost use mathlib.Core.Path.{_≡_};
-ghost use Prim.Native.Nat.{ℕ, _+_, _*_, _≤_};
+ghost use Prim.Native.Nat.{_+_, _*_, _≤_};
 ghost use lib.ListN.{length};
 ghost use Rattle.table.specs.Table.{stride, scalars, ceiling, putEntry, findIn, Sound};
 ghost use Rattle.table.specs.Enter.{withScalars, free, container, EnterDone, EnterTwoDone, entryAnswer};

@@ -1,6 +1,6 @@
 // The sheet's header and its items. An item is answered by value, with its own place and the place of the next.
 ghost use mathlib.Core.Path.{_≡_};
-ghost use Prim.Native.Nat.{_+_, _<_, _≤_, _^_};
+ghost use Prim.Native.Nat.{_+_, _<_, _^_};
 ghost use lib.ListN.{length};
 ghost use Rattle.frame.specs.Frame.{version, headerOk, be32, payloadItem, itemAt, namePart, Within, IsPart};
 use answer::Place;

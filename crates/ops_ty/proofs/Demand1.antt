@@ -1,15 +1,11 @@
 -- DEMAND 1 for operators: "A refused call changes no lent byte or word." "An accepted call leaves every earlier entry at its number and adds
 -- only the missing entries its result needs." Of any table, count, operator and operands. Assumes nothing.
 use Prim.Native.Nat.{ℕ, _<_}
-use mathlib.Core.Path.{_≡_, refl, sym, _∙_, ap}
-use mathlib.Core.Bool.{Bool, true, false, not, cond}
 use mathlib.Core.List.{List, [], _∷_}
 use lib.Dec.{eqb, ltb}
 use borrow.Author.Tests.{ltb-true}
-use Rattle.conv.specs.Types.{Ty, formed, handle}
-use Rattle.conv.specs.Rank.{both, isReference, isPointer, firstOf}
-use Rattle.overload.specs.Overload.{Judged}
-use Rattle.overload.specs.Overload.Judged.{gives}
+use Rattle.conv.specs.Types.{Ty}
+use Rattle.conv.specs.Rank.{isReference}
 use Rattle.overload.specs.Rows.{judgeRow, judgeAddress, judgeIndirection}
 use Rattle.overload.proofs.Results.{gives-formed}
 use Rattle.table.specs.Table.{soundb, Sound}
@@ -17,7 +13,6 @@ use Rattle.table.specs.Denote.{typeAt}
 use Rattle.table.specs.Kept.{Kept}
 use Rattle.table.proofs.SoundLaws.{sound-of}
 use Rattle.table.proofs.Keeping.{kept-refused, kept-by}
-use Rattle.ruled.specs.Call.{judgedOutcome}
 use Rattle.ruled.proofs.Demands.{kept-judged, kept-ruled}
 use Rattle.ops_ty.specs.Ops.{unaryOps, addressOp, indirectionOp, binaryOps, binaryRow, unaryOutcome, binaryOutcome, typeUnaryOp, typeBinaryOp}
 use Rattle.ops_ty.proofs.Pointers.{address-formed, indirection-formed}

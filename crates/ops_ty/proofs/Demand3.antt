@@ -3,8 +3,8 @@
 -- other fitting overload; every other costs more at some operand." `Preferred` is that, over the overloads of the operator's row, written from
 -- the standard; and the number answered stands for that result. Assumes nothing.
 use Prim.Native.Nat.{ℕ, _<_}
-use mathlib.Core.Path.{_≡_, refl, sym, _∙_, ap, subst}
-use mathlib.Core.Bool.{Bool, true, false, _&&_, cond}
+use mathlib.Core.Path.{_≡_, sym, _∙_, ap, subst}
+use mathlib.Core.Bool.{true, false}
 use mathlib.Core.Logic.{_≢_}
 use mathlib.Core.List.{List, [], _∷_}
 use lib.Dec.{T, eqb, ltb}

@@ -2,26 +2,25 @@
 use Prim.Native.Nat.{ℕ, _≤_, _<_}
 use mathlib.Core.Path.{_≡_, refl, sym, _∙_, ap, subst}
 use mathlib.Core.Logic.{_≢_}
-use mathlib.Core.Bool.{Bool, true, false, _&&_, not, cond}
+use mathlib.Core.Bool.{Bool, true, false, _&&_, not}
 use mathlib.Core.List.{List}
 use native.Mathlib.Omega.{arith}
 use lib.Dec.{eqb, leb}
-use borrow.Author.Tests.{eq-eqb, ne-eqb, eqb-true, eqb-false, le-leb, leb-true}
+use borrow.Author.Tests.{ne-eqb, eqb-true, eqb-false, le-leb, leb-true}
 use Rattle.conv.specs.Types.{Ty, formed, isValue, abstractTy, storage, handle, readWrite}
 use Rattle.conv.specs.Types.Ty.{ptr, ref}
-use Rattle.conv.specs.Rank.{both, tagOf, firstOf, secondOf, elementOf, isReference, isPointer}
-use Rattle.overload.specs.Overload.{Judged}
+use Rattle.conv.specs.Rank.{both, tagOf, firstOf, secondOf, elementOf}
 use Rattle.overload.specs.Overload.Judged.{gives, noneFits}
 use Rattle.overload.specs.Rows.{judgeAddress, judgeIndirection}
 use Rattle.overload.proofs.Operands.{and-left, and-right}
 use Rattle.table.specs.Table.{scalars, kindPtr, kindRef, entryAt, Sound}
-use Rattle.table.specs.Denote.{made, typeAt, tyOf}
+use Rattle.table.specs.Denote.{typeAt}
 use Rattle.table.specs.Enter.{EnterDone, entryAnswer}
-use Rattle.table.specs.Placing.{Outcome, turnedDown, entering}
+use Rattle.table.specs.Placing.{turnedDown, entering}
 use Rattle.answer.specs.declared.Reason.the-variants.{NoOverload}
 use Rattle.table.specs.declared.Entry.{Entry}
 use Rattle.table.specs.declared.Entered.{Entered}
-use Rattle.table.proofs.TypeLaws.{type-ptr, type-ref, kind-above, elem-in, made-ptr, made-ref, row-at}
+use Rattle.table.proofs.TypeLaws.{type-ptr, type-ref, kind-above, made-ptr, made-ref, row-at}
 use Rattle.table.proofs.FormedLaws.{formed-at, clean}
 use Rattle.table.proofs.EnterLaws.{allow, ty-made}
 use Rattle.table.proofs.PlacingLaws.{enter-outcome}

@@ -1,11 +1,9 @@
 -- The ways out of a call of an operator, each as the outcome that its definition gives. Assumes nothing.
 use Prim.Native.Nat.{ℕ, _≤_, _<_}
-use mathlib.Core.Path.{_≡_, refl, sym, _∙_, ap, subst}
+use mathlib.Core.Path.{_≡_, sym, _∙_, ap}
 use mathlib.Core.Logic.{_≢_}
-use mathlib.Core.Bool.{Bool, true, false, _&&_, cond}
+use mathlib.Core.Bool.{true, false}
 use mathlib.Core.List.{List, [], _∷_, map}
-use native.Mathlib.Omega.{arith}
-use lib.Dec.{eqb, ltb}
 use borrow.Author.Tests.{lt-ltb, le-ltb, eq-eqb, ne-eqb}
 use Rattle.conv.specs.Types.{Ty, formed}
 use Rattle.conv.specs.Rank.{isReference}
@@ -15,7 +13,7 @@ use Rattle.overload.specs.Code.{operand, codeOf}
 use Rattle.overload.proofs.Operands.{allFormed, judge-types}
 use Rattle.table.specs.Table.{soundb}
 use Rattle.table.specs.Denote.{typeAt}
-use Rattle.table.specs.Placing.{Outcome, turnedDown}
+use Rattle.table.specs.Placing.{turnedDown}
 use Rattle.answer.specs.declared.Reason.the-variants.{Unsound, NoSuchType, Reference, Unknown}
 use Rattle.ruled.specs.Call.{anyReference, judgedOutcome, ruledOutcome}
 use Rattle.ruled.proofs.Loaded.{ruled-reference, ruled-judged}

@@ -1,13 +1,11 @@
 -- Document 01, "Sixteen cases for the table of proof": one statement over the definitions. Assumes nothing.
 use Prim.Native.Nat.{ℕ}
 use mathlib.Core.Path.{_≡_, refl}
-use mathlib.Core.Bool.{Bool, true, false}
-use mathlib.Core.List.{List, [], _∷_}
-use lib.Dec.{T}
-use Rattle.conv.specs.Types.{Ty, bool, abstractInt, abstractFloat, i32, u32, f32, f16, expOf}
+use mathlib.Core.List.{[], _∷_}
+use Rattle.conv.specs.Types.{bool, abstractInt, abstractFloat, i32, u32, f32, f16, expOf}
 use Rattle.conv.specs.Types.Ty.{scalar, vec, mat, frexp}
 use Rattle.conv.specs.Rank.{both, rankOf, shapeOf, componentOf, tagOf, firstOf, secondOf, elementOf, sameTy, conversionRank, made}
-use Rattle.overload.specs.Overload.{or, fits, noMore, less, Judged, sameTys, allYield, isPreferred, anyFits, chosen, judge}
+use Rattle.overload.specs.Overload.{or, fits, noMore, less, sameTys, allYield, isPreferred, anyFits, chosen, judge}
 use Rattle.overload.specs.Overload.Judged.{gives, noneFits}
 use Rattle.overload.specs.Rows.{formAt, componentAt, wrapped, atSizes, overSet, ofFamilies, operators, builtins, judgeRow}
 

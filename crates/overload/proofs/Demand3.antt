@@ -1,26 +1,25 @@
 -- DEMAND 3: "a call is accepted exactly when an overload fits, all operands converting to its parameters. The result is that of one fitting
 -- overload under which no operand costs more, by WGSL's conversion ranks, than under any other fitting overload; every other costs more at
 -- some operand." Proved for every listed row and all operands; no second judgment meets it, and refusal 13 is never given. Assumes nothing.
-use Prim.Native.Nat.{ℕ, zero, suc, _+_, _-_, _*_, _/_, _%_, _<_, _≤_}
+use Prim.Native.Nat.{ℕ, _/_, _<_, _≤_}
 use native.Mathlib.Omega.{arith}
-use mathlib.Core.Path.{_≡_, refl, sym, _∙_, ap, ap₂, subst}
+use mathlib.Core.Path.{_≡_, refl, sym, _∙_, ap, subst}
 use mathlib.Core.Logic.{_⊎_, _≢_, inl, inr, ⊎-elim}
 use mathlib.Core.Bool.{Bool, true, false}
 use mathlib.Core.List.{List, [], _∷_, map, List·Memᴰ}
 use lib.Dec.{T, eqb, ltb, eqb→eq, ltb→lt}
 use lib.ListN.{length, getD}
-use borrow.Author.Tests.{eq-eqb, eqb-true, eqb-false}
-use Rattle.conv.specs.Types.{Ty}
-use Rattle.conv.specs.Rank.{pick, both, none, formOf, sameShape}
+use borrow.Author.Tests.{eqb-true, eqb-false}
+use Rattle.conv.specs.Rank.{pick, both, none, formOf}
 use Rattle.conv.proofs.Finite.{both-left, both-right, both-pair, below}
 use Rattle.conv.proofs.Ranks.{order}
-use Rattle.overload.specs.Overload.{Overload, or, fits, Preferred, Judged, Resolved}
-use Rattle.overload.specs.Overload.Judged.{gives, noneFits, nonePreferred}
-use Rattle.overload.specs.Rows.{Size, Family, formAt, patternTy, overload, wrapped, N, rows, overloadsOf, ofRow}
-use Rattle.overload.specs.Code.{shapeOfNo, shapeNo, operand, sizeOfNo, familyOf, startOf, noFamily, firstParam, familyAt, pivotNo, sizeAt, encode, wordOf, member, firstOf, preference, fitsAt, firstX, lastX, formsOf}
-use Rattle.overload.proofs.Preference.{Sized, or-cases, Beats, beats, one-judgment}
+use Rattle.overload.specs.Overload.{Overload, or, fits, Preferred, Resolved}
+use Rattle.overload.specs.Overload.Judged.{noneFits}
+use Rattle.overload.specs.Rows.{Family, formAt, patternTy, overload, rows, overloadsOf, ofRow}
+use Rattle.overload.specs.Code.{shapeOfNo, shapeNo, operand, sizeOfNo, familyOf, noFamily, firstParam, familyAt, pivotNo, sizeAt, wordOf, member, firstOf, preference, fitsAt, firstX, lastX, formsOf}
+use Rattle.overload.proofs.Preference.{Sized, or-cases, Beats, beats}
 use Rattle.overload.proofs.Slots.{sized-no}
-use Rattle.overload.proofs.Families.{Good, good, param-small}
+use Rattle.overload.proofs.Families.{good, param-small}
 use Rattle.overload.proofs.Listing.{to-listed, row-family}
 use Rattle.overload.proofs.Places.{Inside, inside, size-small, size-proper, size-listed}
 use Rattle.overload.proofs.Found.{Found, complete, fits-at, shape-of-fit, shape-back, pivot-word}

@@ -1,20 +1,20 @@
 -- Demand 3 for unary `&` and `*`, whose overloads are described: one for each reference or pointer type that their rule takes.
 -- Assumes nothing.
-use Prim.Native.Nat.{ℕ, _<_}
+use Prim.Native.Nat.{ℕ}
 use native.Mathlib.Omega.{arith}
 use mathlib.Core.Path.{_≡_, refl, sym, _∙_, ap, subst}
-use mathlib.Core.Logic.{_⊎_, _≢_, inl, inr}
+use mathlib.Core.Logic.{_≢_, inl}
 use mathlib.Core.Bool.{Bool, true, false, not, cond}
-use mathlib.Core.List.{List, [], _∷_}
-use lib.Dec.{T, eqb, ltb, eqb→eq, T-not}
+use mathlib.Core.List.{[], _∷_}
+use lib.Dec.{T, eqb, eqb→eq, T-not}
 use borrow.Author.Tests.{eq-eqb, ne-eqb, eqb-true}
 use Rattle.conv.specs.Types.{Ty, handle}
 use Rattle.conv.specs.Types.Ty.{scalar, vec, mat, array, runtime, atomic, ptr, ref, frexp, modf}
-use Rattle.conv.specs.Rank.{pick, both, none, rankOf, Shape, formOf, shapeOf, componentOf, sameShape, byComponent, tagOf, isPointer, isReference, firstOf, secondOf, elementOf, sameTy, conversionRank, converts}
+use Rattle.conv.specs.Rank.{pick, both, none, rankOf, Shape, shapeOf, componentOf, sameShape, byComponent, tagOf, isPointer, isReference, firstOf, secondOf, elementOf, sameTy, conversionRank, converts}
 use Rattle.conv.specs.Rank.Shape.{one, vector, matrix, other}
-use Rattle.conv.proofs.Finite.{both-left, both-right, both-pair}
+use Rattle.conv.proofs.Finite.{both-left, both-right}
 use Rattle.conv.proofs.Made.{same-ty, self-rank}
-use Rattle.overload.specs.Overload.{Overload, fits, Preferred, Judged, Resolved}
+use Rattle.overload.specs.Overload.{Overload, fits, Resolved}
 use Rattle.overload.specs.Overload.Judged.{gives, noneFits, nonePreferred}
 use Rattle.overload.specs.Rows.{addressOf, indirection, judgeAddress, judgeIndirection}
 

@@ -1,18 +1,18 @@
 -- What holds of every family, and of the words that the code has of it: computed over all of them. Assumes nothing.
-use Prim.Native.Nat.{ℕ, zero, suc, _+_, _-_, _*_, _/_, _%_, _<_, _≤_}
+use Prim.Native.Nat.{ℕ, zero, suc, _+_, _*_, _/_, _%_, _<_, _≤_}
 use native.Mathlib.Omega.{arith}
-use mathlib.Core.Path.{_≡_, refl, sym, _∙_, ap}
-use mathlib.Core.Bool.{Bool, true, false, not, cond}
+use mathlib.Core.Path.{_≡_, refl, _∙_, ap}
+use mathlib.Core.Bool.{Bool, true}
 use mathlib.Core.Logic.{⊎-elim}
-use mathlib.Core.List.{List, [], _∷_, map}
+use mathlib.Core.List.{List, [], _∷_}
 use lib.Dec.{T, eqb, leb, ltb, eqb→eq, ltb→lt, leb→le}
 use lib.ListN.{length, getD}
 use native.Mathlib.Nat.{le-of-suc-le-suc, not-suc-le-zero}
 use borrow.Author.Tests.{ne-eqb}
-use Rattle.conv.specs.Rank.{both, rankOf}
+use Rattle.conv.specs.Rank.{both}
 use Rattle.conv.proofs.Finite.{both-left, both-right, below, below₂}
 use Rattle.overload.specs.Overload.{or}
-use Rattle.overload.specs.Rows.{Size, Form, Component, Pattern, Family, formAt, N, operators, builtins}
+use Rattle.overload.specs.Rows.{Form, Component, Pattern, Family, formAt, N, operators, builtins}
 use Rattle.overload.specs.Rows.Form.{sized, single, vecC, vecR, left, right, turned, square}
 use Rattle.overload.specs.Rows.Component.{ofT, just}
 use Rattle.overload.specs.Code as code

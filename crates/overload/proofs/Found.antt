@@ -3,29 +3,26 @@
 use Prim.Native.Nat.{ℕ, zero, suc, _+_, _-_, _*_, _/_, _%_, _<_, _≤_}
 use native.Mathlib.Omega.{arith}
 use native.Mathlib.Nat.{le-of-suc-le-suc, not-suc-le-zero}
-use mathlib.Core.Path.{_≡_, refl, sym, _∙_, ap, ap₂, subst}
-use mathlib.Core.Logic.{_⊎_, _≢_, inl, inr, ⊎-elim}
-use mathlib.Core.Bool.{Bool, true, false, not}
-use mathlib.Core.List.{List, [], _∷_, map, List·Memᴰ, List·Memᴰ·not-nil}
-use lib.Dec.{T, eqb, leb, ltb, eqb→eq, ltb→lt, leb→le, le→leb, T-not}
+use mathlib.Core.Path.{_≡_, refl, sym, _∙_, ap, subst}
+use mathlib.Core.Bool.{Bool, true, false}
+use mathlib.Core.List.{List, [], _∷_, map, List·Memᴰ}
+use lib.Dec.{T, eqb, leb, ltb, eqb→eq, leb→le}
 use lib.ListN.{length, getD, length-map, List·getD-eq-default}
-use borrow.Author.Tests.{eq-eqb, ne-eqb, lt-ltb, le-ltb, ltb-true, ltb-false, eqb-true, eqb-false}
+use borrow.Author.Tests.{ne-eqb, le-ltb, ltb-true, ltb-false}
 use Rattle.conv.specs.Types.{Ty}
-use Rattle.conv.specs.Rank.{pick, both, none, rankOf, Shape, formOf, shapeOf, componentOf, sameShape, converts, made}
-use Rattle.conv.specs.Rank.Shape.{one, vector, matrix, other}
-use Rattle.conv.proofs.Finite.{both-left, both-right, both-pair, below}
-use Rattle.conv.proofs.Ranks.{order}
+use Rattle.conv.specs.Rank.{pick, both, none, rankOf, Shape, formOf, componentOf, sameShape, converts}
+use Rattle.conv.specs.Rank.Shape.{other}
+use Rattle.conv.proofs.Finite.{both-left, both-right, below}
 use Rattle.conv.proofs.Made.{shape-made}
-use Rattle.overload.specs.Overload.{Overload, or, fits, listed, Preferred, Judged, Resolved}
-use Rattle.overload.specs.Overload.Judged.{gives, noneFits, nonePreferred}
-use Rattle.overload.specs.Rows.{Size, Family, Pattern, formAt, componentAt, patternTy, overload, N, operators, builtins, rows, overloadsOf, ofFamilies, ofRow}
+use Rattle.overload.specs.Overload.{Overload, fits}
+use Rattle.overload.specs.Rows.{Size, Family, Pattern, formAt, componentAt, patternTy, overload, N, operators, builtins, rows, overloadsOf, ofFamilies}
 use Rattle.overload.specs.Code as code
-use Rattle.overload.specs.Code.{shapeOfNo, shapeNo, operand, sizeOfNo, sizeNo, familyOf, startOf, noFamily, firstParam, lastParam, formsAt, familyAt, pivotNo, sizeAt, encode, wordOf, member, firstOf, preference, liftOf, fitsAt, firstX, lastX, formsOf}
-use Rattle.overload.proofs.Preference.{Sized, smallC, allSmall, someT, slot-cost, pick-test, or-cases, Beats, beats}
+use Rattle.overload.specs.Code.{shapeOfNo, shapeNo, operand, sizeOfNo, sizeNo, familyOf, startOf, noFamily, firstParam, lastParam, formsAt, familyAt, pivotNo, sizeAt, encode, wordOf, member, fitsAt, firstX, lastX, formsOf}
+use Rattle.overload.proofs.Preference.{Sized, smallC, slot-cost, pick-test}
 use Rattle.overload.proofs.Slots.{sized-no}
-use Rattle.overload.proofs.Families.{Good, good, param-small}
-use Rattle.overload.proofs.Listing.{Of, listed-of, to-listed, row-family}
-use Rattle.overload.proofs.Places.{shape-eq, Way, way, Inside, size-small, size-proper, size-listed}
+use Rattle.overload.proofs.Families.{good, param-small}
+use Rattle.overload.proofs.Listing.{Of, listed-of, row-family}
+use Rattle.overload.proofs.Places.{shape-eq, way}
 
 -- WHAT FITTING SAYS
 

@@ -1,5 +1,5 @@
 -- The join of a list of operands: what is joined so far and the operands that are left fit as the whole does. Assumes nothing.
-use Prim.Native.Nat.{ℕ, suc, _+_, _-_, _*_, _/_, _%_, _<_, _≤_}
+use Prim.Native.Nat.{ℕ, _+_, _*_, _/_, _%_, _<_, _≤_}
 use native.Mathlib.Numerals.{add-one}
 use native.Mathlib.Omega.{arith}
 use mathlib.Core.Path.{_≡_, refl, sym, _∙_, ap, ap₂, subst}
@@ -11,7 +11,7 @@ use lib.ListN.{length, getD, drop, drop-of-length-le}
 use lib.Seq.{drop-cons}
 use Rattle.conv.specs.Rank.{pick, both, none, rankOf, converts, accepts}
 use Rattle.conv.proofs.Finite.{both-right}
-use Rattle.conv.proofs.Ranks.{order, rank-to}
+use Rattle.conv.proofs.Ranks.{rank-to}
 use Rattle.overload.specs.Overload.{fits}
 use Rattle.overload.specs.Rows.{Size, Pattern, Component, patternTy, N}
 use Rattle.overload.specs.Rows.Component.{ofT, just}
@@ -19,7 +19,7 @@ use Rattle.overload.specs.Code.{operand, sizeOfNo, patternOfNo, formNo, 
 use Rattle.overload.proofs.Preference.{isT, or-left, or-right}
 use Rattle.overload.proofs.Slots.{both-true, plain-accepts, slot-apart, slot-T}
 use Rattle.overload.proofs.Places.{size-small, size-proper, pattern-shape}
-use Rattle.overload.proofs.Families.{Good, good, param-is, param-word, param-below}
+use Rattle.overload.proofs.Families.{good, param-is, param-word, param-below}
 use Rattle.overload.proofs.Demand3.{takes, preference-small, first-some}
 
 -- do the operands from i on fit the parameters from i on?

@@ -1,7 +1,5 @@
 -- DEMAND 3 over any list of overloads: the function `judge` gives the judgment that `Resolved` describes, and no other judgment meets it.
 -- Assumes nothing.
-use Prim.Native.Nat.{ℕ}
-use native.Mathlib.Omega.{arith}
 use mathlib.Core.Path.{_≡_, refl, sym, _∙_, ap, subst}
 use mathlib.Core.Logic.{_⊎_, inl, inr, ⊎-elim}
 use mathlib.Core.Bool.{Bool, true, false, not, cond}
@@ -12,7 +10,7 @@ use Rattle.conv.specs.Rank.{both, sameTy}
 use Rattle.conv.proofs.Finite.{both-left, both-right, both-pair}
 use Rattle.conv.proofs.Made.{same-ty, self-ty}
 use Rattle.overload.specs.Overload.{Overload, fits, noMore, less, or, listed, Preferred, Judged, Resolved, sameTys, sameOverload, yields, allYield, isPreferred, anyFits, chosen, judge}
-use Rattle.overload.specs.Overload.Judged.{gives, noneFits, nonePreferred}
+use Rattle.overload.specs.Overload.Judged.{gives, noneFits}
 use Rattle.overload.proofs.Preference.{or-cases, or-left, or-right, one-judgment}
 
 -- the test of one overload

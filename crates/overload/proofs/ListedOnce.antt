@@ -2,7 +2,7 @@
 use Prim.Native.Nat.{ℕ, _<_}
 use mathlib.Core.Bool.{Bool, true, false, not}
 use mathlib.Core.List.{List, [], _∷_}
-use lib.Dec.{T, eqb}
+use lib.Dec.{T}
 use Rattle.conv.specs.Rank.{both, tagOf, firstOf, secondOf, elementOf, made, componentOf, sameTy}
 use Rattle.conv.proofs.Finite.{below}
 use Rattle.overload.specs.Overload.{Overload, or, sameTys, sameOverload}

@@ -1,17 +1,14 @@
 -- What stands in the list of a row's overloads: one overload for each family, T of its set and size. Assumes nothing.
-use Prim.Native.Nat.{ℕ, zero, suc, _+_, _<_, _≤_}
+use Prim.Native.Nat.{ℕ, zero, suc, _+_, _<_}
 use native.Mathlib.Omega.{arith}
-use native.Mathlib.Nat.{le-of-suc-le-suc, not-suc-le-zero, suc-add, zero-add, add-assoc}
-use mathlib.Core.Path.{_≡_, refl, sym, _∙_, ap, subst}
-use mathlib.Core.Logic.{_⊎_, inl, inr, ⊎-elim}
-use mathlib.Core.Bool.{Bool, true, false}
+use native.Mathlib.Nat.{le-of-suc-le-suc, not-suc-le-zero, zero-add, add-assoc}
+use mathlib.Core.Path.{_≡_, refl, _∙_, ap, subst}
+use mathlib.Core.Logic.{_⊎_, ⊎-elim}
 use mathlib.Core.List.{List, [], _∷_, _++_, List·Memᴰ, List·Memᴰ·head, List·Memᴰ·tail, List·Memᴰ·cases-cons, List·Memᴰ·not-nil, List·Memᴰ·append-cases, Memᴰ·append-left, Memᴰ·append-right}
 use lib.Dec.{T, eqb, eqb→eq, eqb-refl}
 use lib.ListN.{length, getD, take, length-append, List·getD-append}
 use lib.Seq.{getD-append-add}
-use Rattle.conv.specs.Rank.{both}
-use Rattle.conv.proofs.Finite.{both-left, both-right}
-use Rattle.overload.specs.Overload.{Overload, or}
+use Rattle.overload.specs.Overload.{Overload}
 use Rattle.overload.specs.Rows.{Size, Family, overload, atSizes, overSet, ofFamilies, rows}
 use Rattle.overload.specs.Code.{joined, families, familyOf, startOf, noFamily, member}
 use Rattle.overload.proofs.Preference.{or-cases, or-left, or-right}

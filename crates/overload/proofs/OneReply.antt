@@ -1,20 +1,19 @@
 -- No second answer meets the promise of `resolve`: where a row gives a type its number is the one that stands for it, and 8 and 13 are told apart.
 -- Assumes nothing.
-use Prim.Native.Nat.{ℕ, _+_, _*_, _/_, _%_, _<_, _≤_}
+use Prim.Native.Nat.{ℕ, _/_, _%_, _<_, _≤_}
 use native.Mathlib.Omega.{arith}
 use mathlib.Core.Path.{_≡_, refl, sym, _∙_, ap, subst}
-use mathlib.Core.Bool.{Bool, true, false, _&&_, not}
+use mathlib.Core.Bool.{Bool, true, false, not}
 use mathlib.Core.List.{List, map}
 use lib.Dec.{T, ltb}
-use borrow.Author.Tests.{lt-ltb, ltb-true, ltb-false}
+use borrow.Author.Tests.{ltb-true, ltb-false}
 use Rattle.conv.specs.Types.{Ty, formed, isRuntime, isFract}
-use Rattle.conv.specs.Types.Ty.{scalar, vec, mat, array, runtime, atomic, ptr, ref, frexp, modf}
-use Rattle.conv.specs.Rank.{both, Shape, formOf, shapeOf, componentOf, tagOf, made}
+use Rattle.conv.specs.Types.Ty.{scalar, runtime, frexp, modf}
+use Rattle.conv.specs.Rank.{both, Shape, formOf, tagOf, made}
 use Rattle.conv.specs.Rank.Shape.{one, vector, matrix, other}
 use Rattle.conv.proofs.Finite.{below}
 use Rattle.conv.proofs.Made.{shape-made, component-made}
-use Rattle.overload.specs.Overload.{Judged}
-use Rattle.overload.specs.Overload.Judged.{gives, noneFits, nonePreferred}
+use Rattle.overload.specs.Overload.Judged.{gives}
 use Rattle.overload.specs.Rows.{judgeRow}
 use Rattle.overload.specs.Code.{shapeOfNo, shapeNo, operand, codeOf, outOf, judgedOf}
 use Rattle.overload.specs.declared.Out.{Out}

@@ -1,28 +1,28 @@
 -- A type stands for an operand by its number: it converts to the parameters of every listed row as the type does that the number stands for.
 -- So demand 3 and all that goes with it holds of the types themselves. Assumes nothing.
-use Prim.Native.Nat.{ℕ, zero, suc, _+_, _-_, _*_, _/_, _%_, _<_, _≤_}
+use Prim.Native.Nat.{ℕ, _+_, _-_, _*_, _/_, _%_, _<_, _≤_}
 use native.Mathlib.Omega.{arith}
 use mathlib.Core.Path.{_≡_, refl, sym, _∙_, ap, ap₂, subst}
-use mathlib.Core.Logic.{_≢_, _⊎_, inl, inr, ⊎-elim}
+use mathlib.Core.Logic.{_⊎_, inl, inr, ⊎-elim}
 use mathlib.Core.Bool.{Bool, true, false, _&&_, _||_}
 use mathlib.Core.List.{List, [], _∷_, map, List·Memᴰ}
-use lib.Dec.{T, eqb, leb, ltb, ltb→lt}
-use lib.ListN.{length, getD}
-use borrow.Author.Tests.{eq-eqb, ne-eqb, lt-ltb, le-ltb, le-leb, ltb-true, leb-true, eqb-true}
+use lib.Dec.{T, eqb, leb, ltb}
+use lib.ListN.{getD}
+use borrow.Author.Tests.{ne-eqb, lt-ltb, le-ltb, ltb-true, leb-true, eqb-true}
 use Rattle.conv.specs.Types.{Ty, isWidth, isFloat, formed}
 use Rattle.conv.specs.Types.Ty.{scalar, vec, mat, array, runtime, atomic, ptr, ref, frexp, modf}
-use Rattle.conv.specs.Rank.{pick, both, none, rankOf, Shape, formOf, shapeOf, componentOf, sameShape, isReference, conversionRank, converts, made}
-use Rattle.conv.specs.Rank.Shape.{one, vector, matrix, other}
+use Rattle.conv.specs.Rank.{pick, both, none, rankOf, Shape, formOf, shapeOf, componentOf, sameShape, isReference, conversionRank, made}
+use Rattle.conv.specs.Rank.Shape.{vector, matrix, other}
 use Rattle.conv.proofs.Finite.{both-left, both-right}
-use Rattle.conv.proofs.Made.{made-rank, shape-made, component-made}
+use Rattle.conv.proofs.Made.{made-rank, shape-made}
 use Rattle.overload.specs.Overload.{Overload, fits, noMore, less, or, Preferred, Judged, Resolved}
 use Rattle.overload.specs.Overload.Judged.{gives, noneFits, nonePreferred}
-use Rattle.overload.specs.Rows.{Size, Pattern, Family, formAt, componentAt, patternTy, overload, rows, overloadsOf, ofRow, judgeRow}
+use Rattle.overload.specs.Rows.{Size, Pattern, formAt, componentAt, patternTy, rows, overloadsOf, ofRow, judgeRow}
 use Rattle.overload.specs.Code.{shapeOfNo, shapeNo, operand, codeOf, sizeNo, startOf, noFamily}
-use Rattle.overload.proofs.Preference.{Sized, smallC, allSmall, form-small, component-small, one-judgment}
+use Rattle.overload.proofs.Preference.{Sized, smallC, allSmall, form-small, component-small}
 use Rattle.overload.proofs.Slots.{by-shape, sized-no}
 use Rattle.overload.proofs.Families.{Good, good}
-use Rattle.overload.proofs.Listing.{Of, listed-of, row-family}
+use Rattle.overload.proofs.Listing.{listed-of, row-family}
 use Rattle.overload.proofs.Places.{way}
 use Rattle.overload.proofs.Found.{row-in, total}
 use Rattle.overload.proofs.Demand3.{some-preferred}

@@ -1,27 +1,23 @@
 -- The shapes of the operands give the family and the size: computed over every row, family and size. So where an overload of a row fits,
 -- it is of that family and that size, and the family and size that the code finds are those of an overload of the row. Assumes nothing.
-use Prim.Native.Nat.{ℕ, zero, suc, _+_, _-_, _*_, _/_, _%_, _<_, _≤_}
+use Prim.Native.Nat.{ℕ, zero, suc, _+_, _-_, _/_, _<_, _≤_}
 use native.Mathlib.Omega.{arith}
-use native.Mathlib.Nat.{le-of-suc-le-suc, not-suc-le-zero, suc-add}
-use native.Mathlib.Numerals.{add-one}
-use mathlib.Core.Path.{_≡_, refl, sym, _∙_, ap, ap₂, subst}
-use mathlib.Core.Logic.{_⊎_, _≢_, inl, inr, ⊎-elim}
+use native.Mathlib.Nat.{le-of-suc-le-suc, not-suc-le-zero}
+use mathlib.Core.Path.{_≡_, refl, sym, _∙_, subst}
+use mathlib.Core.Logic.{_⊎_, _≢_, ⊎-elim}
 use mathlib.Core.Bool.{Bool, true, false, not}
-use mathlib.Core.List.{List, [], _∷_, map, List·Memᴰ, List·Memᴰ·head, List·Memᴰ·tail, List·Memᴰ·cases-cons, List·Memᴰ·not-nil}
+use mathlib.Core.List.{List, [], _∷_, List·Memᴰ, List·Memᴰ·head, List·Memᴰ·tail, List·Memᴰ·cases-cons, List·Memᴰ·not-nil}
 use lib.Dec.{T, eqb, leb, ltb, eqb→eq, ltb→lt, leb→le, le→leb, T-not}
 use lib.ListN.{length, getD}
-use borrow.Author.Tests.{eq-eqb, ne-eqb, lt-ltb, le-ltb, ltb-true, ltb-false, eqb-true}
-use Rattle.conv.specs.Types.{Ty}
-use Rattle.conv.specs.Rank.{both, none, Shape, formOf, columnsOf, rowsOf, shapeOf, sameShape, converts, made}
+use borrow.Author.Tests.{eq-eqb, eqb-true}
+use Rattle.conv.specs.Rank.{both, none, Shape, formOf, columnsOf, rowsOf, sameShape}
 use Rattle.conv.specs.Rank.Shape.{one, vector, matrix, other}
 use Rattle.conv.proofs.Finite.{both-left, both-right, both-pair, implies, modus, all, below, below₂}
-use Rattle.conv.proofs.Made.{shape-made}
-use Rattle.overload.specs.Overload.{Overload, or, fits}
-use Rattle.overload.specs.Rows.{Size, Family, Pattern, formAt, patternTy, overload, N, operators, builtins, rows, overloadsOf}
+use Rattle.overload.specs.Overload.{or}
+use Rattle.overload.specs.Rows.{Size, Family, formAt, operators, builtins, rows}
 use Rattle.overload.specs.Code as code
-use Rattle.overload.specs.Code.{shapeOfNo, shapeNo, operand, sizeOfNo, sizeNo, familyOf, startOf, noFamily, firstParam, lastParam, formsAt, familyAt, pivotNo, sizeAt, wordOf, member, askedOf}
-use Rattle.overload.proofs.Preference.{Sized, smallC, slot-cost, pick-test, or-cases}
-use Rattle.overload.proofs.Listing.{Of, listed-of, to-listed, row-family}
+use Rattle.overload.specs.Code.{shapeOfNo, shapeNo, sizeOfNo, sizeNo, familyOf, startOf, noFamily, firstParam, lastParam, formsAt, familyAt, pivotNo, sizeAt, wordOf, askedOf}
+use Rattle.overload.proofs.Preference.{or-cases}
 
 -- shapes and sizes that pass the test are one
 

@@ -1,12 +1,12 @@
 -- Demand 3, over any set of overloads: no two are preferred, so no second judgment meets `Resolved`. And within a family at one size the
 -- overload of the earlier T, in the order of preference, beats that of the later one wherever both fit. Assumes nothing.
-use Prim.Native.Nat.{ℕ, _<_, _≤_}
+use Prim.Native.Nat.{ℕ, _<_}
 use native.Mathlib.Omega.{arith}
 use mathlib.Core.Path.{_≡_, refl, sym, _∙_, ap, subst}
 use mathlib.Core.Logic.{_⊎_, inl, inr, ⊎-elim}
 use mathlib.Core.Bool.{Bool, true, false}
 use mathlib.Core.List.{List, [], _∷_, map}
-use lib.Dec.{T, leb, ltb, ltb→lt, lt→ltb, leb→le, le→leb}
+use lib.Dec.{T, leb, ltb, ltb→lt, leb→le, le→leb}
 use borrow.Author.Tests.{ltb-true, ltb-false}
 use Rattle.conv.specs.Types.{Ty}
 use Rattle.conv.specs.Rank.{pick, both, none, rankOf, formOf, shapeOf, componentOf, sameShape, conversionRank, converts, made}

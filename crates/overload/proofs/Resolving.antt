@@ -1,23 +1,21 @@
 -- The ways out of the engine, each as a judgment of demand 3. Assumes nothing.
-use Prim.Native.Nat.{ℕ, _+_, _-_, _*_, _/_, _%_, _<_, _≤_}
+use Prim.Native.Nat.{ℕ, _+_, _*_, _/_, _%_, _<_, _≤_}
 use native.Mathlib.Omega.{arith}
 use mathlib.Core.Path.{_≡_, refl, sym, _∙_, ap, subst}
 use mathlib.Core.Logic.{_≢_, ⊎-elim}
-use mathlib.Core.Bool.{Bool, true, false}
-use mathlib.Core.List.{List, [], _∷_, map}
+use mathlib.Core.List.{List, map}
 use lib.Dec.{T, eqb}
-use lib.ListN.{length, getD}
+use lib.ListN.{length}
 use borrow.Author.Tests.{eq-eqb, ne-eqb, le-ltb}
 use Rattle.conv.specs.Types.{Ty}
 use Rattle.conv.specs.Types.Ty.{frexp, modf}
-use Rattle.conv.specs.Rank.{pick, none, Shape, formOf, sameShape, made, accepts}
+use Rattle.conv.specs.Rank.{pick, none, formOf, made, accepts}
 use Rattle.conv.proofs.Finite.{both-left, both-right}
-use Rattle.overload.specs.Overload.{Overload, Judged, Resolved}
-use Rattle.overload.specs.Overload.Judged.{gives, noneFits}
-use Rattle.overload.specs.Rows.{Size, Wrap, Family, formAt, componentAt, patternTy, overload, wrapped, operators, builtins, rows, ofRow}
+use Rattle.overload.specs.Overload.{Overload, Resolved}
+use Rattle.overload.specs.Rows.{Wrap, formAt, patternTy, overload, wrapped, operators, builtins, ofRow}
 use Rattle.overload.specs.Rows.Wrap.{bare, inFrexp, inModf}
 use Rattle.overload.specs.Code as code
-use Rattle.overload.specs.Code.{shapeOfNo, operand, sizeOfNo, formOfNo, componentOfNo, patternNo, patternOfNo, wrapNo, askedOf, familyOf, familyAt, sizeAt, encode, wordOf, member, firstOf, preference, liftOf, fitsAt, firstX, lastX, formsOf, orNone, outOf, judgedOf}
+use Rattle.overload.specs.Code.{shapeOfNo, operand, sizeOfNo, formOfNo, patternNo, patternOfNo, wrapNo, askedOf, familyOf, familyAt, sizeAt, encode, wordOf, member, firstOf, preference, liftOf, fitsAt, firstX, lastX, formsOf, orNone, outOf, judgedOf}
 use Rattle.overload.specs.declared.Out.{Out}
 use Rattle.overload.specs.declared.Resolution.the-variants.{Gives, NoneFits}
 use Rattle.overload.proofs.Slots.{shape-test, component-no, none-accepts}

@@ -2,16 +2,15 @@
 -- Assumes nothing.
 use Prim.Native.Nat.{ℕ, _<_}
 use mathlib.Core.Path.{_≡_, refl, sym, _∙_, ap, subst}
-use mathlib.Core.Bool.{Bool, true, false, _&&_, _||_, not}
+use mathlib.Core.Bool.{Bool, true, false, not}
 use mathlib.Core.List.{List, [], _∷_, List·Memᴰ, List·Memᴰ·cases-cons, List·Memᴰ·not-nil}
 use mathlib.Core.Logic.{⊎-elim}
-use lib.Dec.{T, eqb, ltb}
-use Rattle.conv.specs.Types.{Ty, formed, isValue, isRuntime, isFract, abstractTy}
-use Rattle.conv.specs.Types.Ty.{scalar, vec, mat, array, runtime, atomic, ptr, ref, frexp, modf}
+use lib.Dec.{T}
+use Rattle.conv.specs.Types.{Ty, formed, isRuntime, isFract}
 use Rattle.conv.specs.Rank.{both, made}
 use Rattle.conv.proofs.Finite.{both-left, both-right, below}
-use Rattle.overload.specs.Overload.{Overload, or, Preferred, Judged, Resolved}
-use Rattle.overload.specs.Overload.Judged.{gives, noneFits, nonePreferred}
+use Rattle.overload.specs.Overload.{Overload, or, Resolved}
+use Rattle.overload.specs.Overload.Judged.{gives}
 use Rattle.overload.specs.Rows.{formAt, componentAt, wrapped, atSizes, overSet, ofFamilies, operators, builtins, overloadsOf, ofRow, judgeRow}
 use Rattle.overload.proofs.Found.{row-in}
 use Rattle.overload.proofs.Judge.{judge-resolved}

@@ -1,18 +1,17 @@
 -- One parameter in the code's numbers: what an operand's conversion to it comes to. Assumes nothing.
-use Prim.Native.Nat.{ℕ, _+_, _*_, _/_, _%_, _<_, _≤_}
+use Prim.Native.Nat.{ℕ, _+_, _*_, _/_, _%_, _<_}
 use native.Mathlib.Omega.{arith}
 use mathlib.Core.Path.{_≡_, refl, sym, _∙_, ap, ap₂}
 use mathlib.Core.Logic.{_≢_}
 use mathlib.Core.Bool.{Bool, true, false, not, cond}
-use lib.Dec.{T, eqb, ltb, ltb→lt}
-use borrow.Author.Tests.{eqb-true, eq-eqb, ne-eqb, lt-ltb, le-ltb}
-use Rattle.conv.specs.Types.{Ty}
-use Rattle.conv.specs.Rank.{pick, both, none, rankOf, Shape, formOf, shapeOf, componentOf, sameShape, conversionRank, converts, made, commonOf, accepts}
+use lib.Dec.{T, eqb, ltb}
+use borrow.Author.Tests.{eqb-true, eq-eqb, ne-eqb, lt-ltb}
+use Rattle.conv.specs.Rank.{pick, both, none, rankOf, Shape, formOf, componentOf, sameShape, conversionRank, converts, made, commonOf, accepts}
 use Rattle.conv.specs.Rank.Shape.{one, vector, matrix, other}
 use Rattle.conv.proofs.Finite.{implies, modus, same, same-eq, below, below₃}
 use Rattle.conv.proofs.Ranks.{join}
 use Rattle.conv.proofs.Made.{shape-made}
-use Rattle.overload.specs.Rows.{Size, Form, Component, Pattern, formAt, componentAt, patternTy}
+use Rattle.overload.specs.Rows.{formAt, componentAt, patternTy}
 use Rattle.overload.specs.Rows.Component.{ofT, just}
 use Rattle.overload.specs.Code.{shapeOfNo, shapeNo, operand, sizeOfNo, formOfNo, componentOfNo, patternOfNo, askedOf}
 use Rattle.overload.proofs.Preference.{Sized, smallC, slot-cost}

@@ -1,5 +1,4 @@
 -- Overloads, and which of a set is preferred at given operands: WGSL "Overload Resolution". Assumes nothing.
-use Prim.Native.Nat.{ℕ}
 use mathlib.Core.Path.{_≡_}
 use mathlib.Core.Logic.{_⊎_}
 use mathlib.Core.Bool.{Bool, true, false, not, cond}

@@ -1,26 +1,25 @@
 -- The operand's number of an entry, by its kind, and the entries of the results. Assumes nothing.
 use Prim.Native.Nat.{ℕ, _+_, _-_, _*_, _/_, _%_, _≤_, _<_}
-use mathlib.Core.Path.{_≡_, refl, sym, _∙_, ap, ap₂, subst}
+use mathlib.Core.Path.{_≡_, refl, sym, _∙_, ap}
 use mathlib.Core.Logic.{_≢_}
-use mathlib.Core.Bool.{Bool, true, false, _&&_, not, cond}
+use mathlib.Core.Bool.{Bool, true, false, _&&_}
 use mathlib.Core.List.{List}
 use native.Mathlib.Omega.{arith}
-use lib.Dec.{T, eqb, ltb, leb}
-use borrow.Author.Tests.{ltb-true, ltb-false, lt-ltb, le-ltb, eq-eqb, ne-eqb, le-leb}
-use Rattle.conv.specs.Types.{Ty, formed, isWidth, isFloat, isRuntime, isFract}
-use Rattle.conv.specs.Types.Ty.{scalar, vec, mat, array, runtime, atomic, ptr, ref, frexp, modf}
-use Rattle.conv.specs.Rank.{pick, Shape, shapeOf, tagOf, isReference, made}
-use Rattle.conv.specs.Rank.Shape.{one, vector, matrix, other}
+use lib.Dec.{ltb}
+use borrow.Author.Tests.{ltb-true, lt-ltb, le-ltb, ne-eqb}
+use Rattle.conv.specs.Types.{Ty, formed, isWidth, isFloat}
+use Rattle.conv.specs.Types.Ty.{scalar, vec, mat, runtime, ref}
+use Rattle.conv.specs.Rank.{pick, shapeOf, tagOf, isReference, made}
+use Rattle.conv.specs.Rank.Shape.{other}
 use Rattle.overload.specs.Code.{shapeOfNo, operand, codeOf}
 use Rattle.overload.proofs.Operands.{code-scalar, code-vec, code-mat, code-other, between, float-small, and-left, and-right}
-use Rattle.table.specs.Table.{scalars, kindVec, kindMat, kindRef, kindFrexp, kindModf, entryAt, allowedb, Sound}
-use Rattle.table.specs.Denote.{typeAt, tyOf}
+use Rattle.table.specs.Table.{scalars, kindVec, kindMat, kindRef, entryAt, Sound}
+use Rattle.table.specs.Denote.{typeAt}
 use Rattle.table.specs.Denote as denote
 use Rattle.table.specs.declared.Entry.{Entry}
-use Rattle.table.proofs.KindLaws.{by-kind, clash, split}
-use Rattle.table.proofs.TypeLaws.{type-scalar, type-made, type-vec, type-mat, type-ref, kind-above}
-use Rattle.table.proofs.FormedLaws.{formed-at, clean}
-use Rattle.table.proofs.EnterLaws.{allow, allow-vec, allow-mat, ty-made}
+use Rattle.table.proofs.KindLaws.{by-kind}
+use Rattle.table.proofs.TypeLaws.{type-scalar, type-made, type-vec, type-mat, type-ref}
+use Rattle.table.proofs.FormedLaws.{formed-at}
 
 -- THE NUMBER OF AN ENTRY
 

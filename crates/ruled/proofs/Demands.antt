@@ -1,11 +1,11 @@
 -- What every call that ends in a judgment keeps of demands 1, 2 and 3. Assumes nothing.
-use Prim.Native.Nat.{ℕ, _-_, _≤_, _<_}
+use Prim.Native.Nat.{ℕ, _-_, _≤_}
 use mathlib.Core.Path.{_≡_, refl, sym, _∙_, ap, subst}
 use mathlib.Core.Logic.{_≢_}
 use mathlib.Core.Bool.{Bool, true, false, cond}
 use mathlib.Core.List.{List}
 use native.Mathlib.Omega.{arith}
-use lib.Dec.{T, leb}
+use lib.Dec.{T}
 use borrow.Author.Tests.{le-leb}
 use Rattle.conv.specs.Types.{Ty, formed}
 use Rattle.overload.specs.Overload.{Overload, fits, Preferred, Judged, Resolved}
@@ -18,14 +18,12 @@ use Rattle.answer.specs.Answer.{accept, reasonNo}
 use Rattle.table.specs.Table.{Sound}
 use Rattle.table.specs.Denote.{typeAt}
 use Rattle.table.specs.Enter.{free}
-use Rattle.table.specs.Stands.{Stands}
 use Rattle.table.specs.Placing.{Outcome, turnedDown, placed, entering}
 use Rattle.answer.specs.declared.TypeNo.{TypeNo}
 use Rattle.answer.specs.declared.Reason.{Reason}
 use Rattle.answer.specs.declared.Reason.the-variants.{NoOverload, Reference, NoRoom}
 use Rattle.answer.specs.declared.Refusal.{Refusal}
-use Rattle.answer.specs.declared.Answer.{Answer}
-use Rattle.answer.specs.declared.Answer.the-variants.{Value, NoValue, Refused}
+use Rattle.answer.specs.declared.Answer.the-variants.{Value, Refused}
 use Rattle.table.specs.Kept.{Kept}
 use Rattle.table.proofs.Demand1.{entering-stands, entering-refused}
 use Rattle.table.proofs.Keeping.{kept-refused, kept-by, kept-entering}

@@ -1,23 +1,21 @@
 -- Operands that are loaded: which number a reference has, and that a row judges types as it judges their numbers. Assumes nothing.
-use Prim.Native.Nat.{ℕ, _+_, _-_, _*_, _≤_, _<_}
-use mathlib.Core.Path.{_≡_, refl, sym, _∙_, ap, subst}
+use Prim.Native.Nat.{ℕ, _+_, _-_, _*_, _<_}
+use mathlib.Core.Path.{_≡_, refl, sym, _∙_, ap}
 use mathlib.Core.Logic.{_≢_}
-use mathlib.Core.Bool.{Bool, true, false, _&&_, cond}
-use mathlib.Core.List.{List, [], _∷_, map}
+use mathlib.Core.Bool.{true, false, _&&_}
+use mathlib.Core.List.{List, map}
 use native.Mathlib.Omega.{arith}
-use lib.Dec.{T, eqb, ltb}
-use lib.ListN.{length, getD}
-use borrow.Author.Tests.{ltb-true, lt-ltb, eq-eqb, ne-eqb}
+use lib.Dec.{eqb}
+use borrow.Author.Tests.{ltb-true, eq-eqb, ne-eqb}
 use Rattle.conv.specs.Types.{Ty, formed, isWidth}
 use Rattle.conv.specs.Types.Ty.{scalar, vec, mat, array, runtime, atomic, ptr, ref, frexp, modf}
-use Rattle.conv.specs.Rank.{pick, shapeOf, tagOf, isReference, isPointer}
-use Rattle.overload.specs.Overload.{or}
+use Rattle.conv.specs.Rank.{shapeOf, tagOf, isReference, isPointer}
 use Rattle.overload.specs.Rows.{judgeRow}
 use Rattle.overload.specs.Code.{operand, codeOf}
 use Rattle.overload.proofs.Operands.{code-scalar, code-vec, code-mat, code-other, between, float-small, and-left, and-right, allFormed, codesOf, judge-types}
 use Rattle.table.specs.Table.{kindRef, kindPtr, entryAt, Sound}
 use Rattle.table.specs.Denote.{typeAt, kindOf}
-use Rattle.table.specs.Placing.{Outcome, turnedDown}
+use Rattle.table.specs.Placing.{turnedDown}
 use Rattle.answer.specs.declared.Reason.the-variants.{Reference}
 use Rattle.table.proofs.FormedLaws.{formed-at}
 use Rattle.table.proofs.TypeLaws.{kind-of}

@@ -1,16 +1,16 @@
 -- Entering a result by its number is the outcome of its type. Assumes nothing.
 use Prim.Native.Nat.{ℕ, _+_, _-_, _/_, _%_, _≤_, _<_}
 use mathlib.Core.Path.{_≡_, refl, sym, _∙_, ap, subst}
-use mathlib.Core.Bool.{Bool, true, false, _&&_, not, cond}
+use mathlib.Core.Bool.{Bool, true, false, _&&_, not}
 use mathlib.Core.List.{List}
 use native.Mathlib.Omega.{arith}
-use lib.Dec.{T, ltb, leb, eqb}
-use borrow.Author.Tests.{ltb-true, ltb-false, lt-ltb, le-ltb, le-leb, ne-eqb}
-use Rattle.conv.specs.Types.{Ty, formed, isWidth, isFloat, isRuntime, isFract, isValue, abstractTy}
-use Rattle.conv.specs.Types.Ty.{scalar, vec, mat, array, runtime, atomic, ptr, ref, frexp, modf}
+use lib.Dec.{T, ltb}
+use borrow.Author.Tests.{ltb-true, ltb-false, lt-ltb, le-ltb, le-leb}
+use Rattle.conv.specs.Types.{Ty, formed, isWidth, isRuntime, isFract}
+use Rattle.conv.specs.Types.Ty.{scalar, runtime, frexp, modf}
 use Rattle.overload.specs.Code.{operand}
 use Rattle.overload.proofs.Operands.{and-left, and-right}
-use Rattle.table.specs.Table.{scalars, kindVec, kindMat, kindFrexp, kindModf, allowedb, Sound}
+use Rattle.table.specs.Table.{kindFrexp, kindModf, allowedb, Sound}
 use Rattle.table.specs.Denote.{made, typeAt, tyOf, kindOf, pOf, qOf}
 use Rattle.table.specs.Enter.{entered, enterWords, EnterDone, enteredTwo, enterTwoWords, EnterTwoDone, container, entryAnswer}
 use Rattle.answer.specs.Answer.{RefusedWith}

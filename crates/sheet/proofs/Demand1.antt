@@ -1,6 +1,6 @@
 -- DEMAND 1 for sheets. "Any table, sheet .. gets one of document 01's replies. A refused sheet keeps only what its accepted items entered. An accepted call
 -- leaves every earlier entry at its number." Soundness is tested once, at the start, and kept by every item. Assumes nothing.
-use Prim.Native.Nat.{ℕ, _+_, _*_, _≤_, _<_}
+use Prim.Native.Nat.{ℕ, _<_}
 use mathlib.Core.Path.{_≡_, refl, sym, _∙_, ap}
 use mathlib.Core.Bool.{Bool, true, false, _&&_, cond}
 use mathlib.Core.List.{List, [], _∷_}
@@ -8,20 +8,17 @@ use native.Mathlib.Omega.{arith}
 use lib.Dec.{eqb}
 use lib.ListN.{length, getD}
 use Rattle.answer.specs.Answer.{accept, refuse}
-use Rattle.table.specs.Table.{stride, soundb, Sound, Keeps}
+use Rattle.table.specs.Table.{soundb, Sound}
 use Rattle.table.specs.Denote.{typeAt}
 use Rattle.table.specs.Placing.{Outcome, turnedDown}
 use Rattle.answer.specs.declared.Reason.the-variants.{Unsound, Framing, Stack}
-use Rattle.answer.specs.declared.Refusal.{Refusal}
-use Rattle.answer.specs.declared.TypeNo.{TypeNo}
-use Rattle.answer.specs.declared.Answer.{Answer}
-use Rattle.answer.specs.declared.Answer.the-variants.{Value, NoValue, Refused}
+use Rattle.answer.specs.declared.Answer.the-variants.{NoValue}
 use Rattle.table.proofs.SoundLaws.{sound-of}
 use Rattle.table.proofs.TypeLaws.{type-keeps}
 use Rattle.table.proofs.KindLaws.{split}
 use Rattle.frame.specs.Frame.{version, headerSize, headerOk, itemsFrom}
 use Rattle.frame.specs.declared.Placed.{Placed}
-use Rattle.step.specs.Effect.{most, State, height, Effect, goes, silent, ends, stops, effectOf}
+use Rattle.step.specs.Effect.{State, height, Effect, goes, silent, ends, stops, effectOf}
 use Rattle.sheet.specs.Machine.{endAnswer, leftAnswer, after, Turned, more, done, turnOf, onward, runItems, begun, typeSheet}
 use Rattle.step.specs.Code.{Good}
 use Rattle.step.specs.Kept.{Grew}

@@ -12,10 +12,8 @@ use borrow.Author.Tests.{lt-ltb, le-leb}
 use Rattle.table.specs.Table.{soundb, allowedb}
 use Rattle.table.specs.Denote.{typeAt, tyOf}
 use Rattle.table.specs.Enter.{enterTypeReply, enterTypeWords}
-use Rattle.table.specs.Placing.{Outcome, entering, enterType}
+use Rattle.table.specs.Placing.{enterType}
 use Rattle.table.specs.declared.Entry.{Entry}
-use Rattle.table.specs.declared.Entered.{Entered}
-use Rattle.table.specs.declared.Entered.the-variants.{There, Full}
 use Rattle.answer.specs.declared.Reason.the-variants.{NoSuchType, Template}
 use Rattle.table.proofs.SoundLaws.{of-sound}
 use Rattle.table.proofs.KindLaws.{split}

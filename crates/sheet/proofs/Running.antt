@@ -1,11 +1,11 @@
 -- A run, one turn unrolled: what is left of the items gives what the whole gives. Assumes nothing.
 use Prim.Native.Nat.{ℕ, _+_, _<_, _≤_}
 use mathlib.Core.Path.{_≡_, refl, sym, _∙_, ap}
-use mathlib.Core.Bool.{Bool, true, false}
+use mathlib.Core.Bool.{true, false}
 use mathlib.Core.Logic.{_⊎_, inl, inr, _≢_}
-use mathlib.Core.List.{List, [], _∷_}
+use mathlib.Core.List.{List}
 use native.Mathlib.Omega.{arith}
-use lib.ListN.{length, take}
+use lib.ListN.{length}
 use Rattle.table.specs.Table.{soundb, Sound}
 use Rattle.table.specs.Placing.{Outcome, Gave, turnedDown}
 use Rattle.table.proofs.Giving.{gave-whole}
@@ -20,7 +20,7 @@ use Rattle.frame.proofs.FrameLaws.{framed, name-within, own-place}
 use Rattle.frame.proofs.ItemsLaws.{items-from}
 use Rattle.sheet.specs.declared.Turn.the-variants as turn
 use Rattle.step.specs.Effect.{most, State, Effect, goes, silent, ends, stops, effectOf}
-use Rattle.sheet.specs.Machine.{after, Turned, more, done, turnOf, onward, runItems, begun, typeSheet}
+use Rattle.sheet.specs.Machine.{after, more, done, turnOf, onward, runItems, begun, typeSheet}
 use Rattle.step.specs.Code.{stateOf, Good, Ready}
 use Rattle.memo.specs.Quick.{WentAt, QuickAt}
 use Rattle.sheet.specs.Code.{turnBy, TurnCounted, Turns, Rushes}

@@ -3,7 +3,7 @@ use Prim.Native.Nat.{ℕ, zero, suc, _+_, _*_, _≤_, _<_, _^_}
 use Prim.Native.String.{String}
 use mathlib.Core.Path.{_≡_, refl}
 use mathlib.Core.Bool.{Bool, true, false, _&&_, cond}
-use mathlib.Core.List.{List, [], _∷_, _++_}
+use mathlib.Core.List.{List, [], _∷_}
 use native.Mathlib.Omega.{arith}
 use lib.ListN.{length, getD, length-append}
 use lib.Dec.{leb, ltb, eqb}
@@ -14,7 +14,7 @@ use Rattle.table.specs.Table.{entryAt, scalars, chainBy, chain}
 use Rattle.table.specs.Denote.{made, typeAt}
 use Rattle.table.specs.declared.Entry.{Entry}
 use Rattle.table.proofs.SoundLaws.{and-left, and-right}
-use Rattle.text.specs.Text.{ascii, decimal}
+use Rattle.text.specs.Text.{ascii}
 use Rattle.text.proofs.Decimals.{dec-ten}
 use Rattle.spell.specs.Spell.{scalarNames, spaceNames, accessNames, named, fractScalar, fractName, spelling}
 

@@ -1,16 +1,16 @@
 -- The table of texts, of which the padded rows are computed, and numbers in decimal. Assumes nothing.
-use Prim.Native.Nat.{ℕ, zero, suc, _+_, _*_, _/_, _%_, _≤_, _<_}
+use Prim.Native.Nat.{ℕ, zero, suc, _+_, _*_, _≤_, _<_}
 use Prim.Native.String.{String}
 use mathlib.Core.Path.{_≡_, refl, _∙_, ap}
-use mathlib.Core.Bool.{Bool, true, false, _&&_, not, cond}
+use mathlib.Core.Bool.{Bool, true, false, _&&_, not}
 use mathlib.Core.List.{List, [], _∷_, _++_}
 use native.Mathlib.Nat.{le-of-suc-le-suc, not-suc-le-zero}
 use native.Mathlib.Omega.{arith}
-use lib.ListN.{length, getD, length-append, List·getD-append, List·getD-eq-default}
+use lib.ListN.{length, getD, List·getD-append, List·getD-eq-default}
 use lib.Seq.{getD-append-add}
 use lib.Dec.{leb, ltb, eqb}
-use borrow.Author.Tests.{le-ltb, lt-ltb, ltb-true, ltb-false, leb-true, eqb-false, not-true}
-use Rattle.text.specs.Text.{ascii, digit, decimalBy, decimal}
+use borrow.Author.Tests.{ltb-true, ltb-false, leb-true, eqb-false, not-true}
+use Rattle.text.specs.Text.{ascii}
 use Rattle.spell.specs.Spell.{named}
 use Rattle.spell.specs.Parts.{texts, textOf}
 use Rattle.table.proofs.SoundLaws.{and-left, and-right}

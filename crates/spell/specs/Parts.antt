@@ -1,12 +1,9 @@
 -- What the parts of the speller put, by the words of an entry. Of these only `Put` and the bounds on places stand in public promises. Assumes nothing.
 use Prim.Native.Nat.{ℕ, _+_, _^_}
 use Prim.Native.String.{String}
-use mathlib.Core.Path.{_≡_}
 use mathlib.Core.Bool.{_||_, cond}
 use mathlib.Core.List.{List, [], _∷_, _++_}
 use lib.Dec.{eqb}
-use lib.ListN.{length}
-use lib.Seq.{sets}
 use Rattle.conv.specs.Types.{abstractFloat}
 use Rattle.table.specs.Table.{kindVec, kindMat, kindArray, kindPtr, kindRef, entryAt}
 use Rattle.table.specs.Denote.{typeAt}

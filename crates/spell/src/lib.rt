@@ -1,8 +1,7 @@
 // The spelling of a type of the table.
 ghost use mathlib.Core.Path.{_≡_};
-ghost use mathlib.Core.List.{[], _∷_};
-ghost use Prim.Native.Nat.{ℕ, _+_, _*_, _≤_, _<_};
-ghost use lib.ListN.{length, getD};
+ghost use Prim.Native.Nat.{_+_, _*_, _≤_, _<_};
+ghost use lib.ListN.{getD};
 ghost use Rattle.table.specs.Table.{scalars, Sound};
 ghost use Rattle.table.specs.Denote.{typeAt};
 ghost use Rattle.text.specs.Text.{decimal, far, Put};

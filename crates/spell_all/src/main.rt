@@ -1,6 +1,5 @@
 // Enters types of every kind in a table that starts from the scalars, and writes the spelling of each entry, a line for each. Then
 // asks for one spelling with an output of just its length, one byte short, and empty; and for numbers and tables that are refused.
-ghost use mathlib.Core.Path.{_≡_};
 ghost use Prim.Native.Nat.{_<_};
 use libc::STDOUT_FILENO;
 use spell::Spelled;

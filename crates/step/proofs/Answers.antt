@@ -1,24 +1,23 @@
 -- What the answers of single calls keep, as a sheet needs it: a value is a number of the table, and a call without operands gives none.
 -- Assumes nothing.
-use Prim.Native.Nat.{ℕ, _<_, _≤_, _^_}
+use Prim.Native.Nat.{ℕ, _<_}
 use mathlib.Core.Path.{_≡_, refl, sym}
 use mathlib.Core.Bool.{Bool, true, false, cond}
 use mathlib.Core.List.{List, []}
 use native.Mathlib.Omega.{arith}
 use lib.Dec.{T, eqb, ltb, leb}
-use lib.ListN.{length}
-use borrow.Author.Tests.{ltb-true, leb-true, eqb-true}
+use borrow.Author.Tests.{ltb-true, eqb-true}
 use Rattle.conv.specs.Types.{Ty}
 use Rattle.conv.specs.Rank.{both}
 use Rattle.conv.proofs.Finite.{all, below}
-use Rattle.overload.specs.Rows.{rows, operators, builtins}
+use Rattle.overload.specs.Rows.{operators, builtins}
 use Rattle.names.specs.Names.{Known, ruleOf, overloadRows, ruleBitcast, ruleArrayLength, ruleLdexp}
 use Rattle.names.specs.Names.Known.{known, unknown}
 use Rattle.table.specs.Placing.{Outcome}
 use Rattle.answer.specs.declared.TypeNo.{TypeNo}
 use Rattle.answer.specs.declared.Answer.{Answer}
 use Rattle.answer.specs.declared.Answer.the-variants.{Value, NoValue, Refused}
-use Rattle.table.proofs.KindLaws.{split, clash}
+use Rattle.table.proofs.KindLaws.{split}
 use Rattle.ruled.specs.Call.{anyReference}
 use Rattle.table.specs.Kept.{Kept}
 use Rattle.call_ty.specs.Calls.{templateRight, operandsIn, operandsOf, givenBy, givenOutcome, byRule, callOutcome}

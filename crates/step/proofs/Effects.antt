@@ -2,7 +2,7 @@
 -- Assumes nothing.
 use Prim.Native.Nat.{ℕ, _+_, _-_, _<_, _≤_}
 use mathlib.Core.Path.{_≡_, refl, sym, _∙_, ap}
-use mathlib.Core.Bool.{Bool, true, false, cond}
+use mathlib.Core.Bool.{true, false}
 use mathlib.Core.List.{List, [], _∷_, map}
 use native.Mathlib.Omega.{arith}
 use native.Mathlib.Nat.{add-zero}
@@ -10,7 +10,7 @@ use lib.ListN.{length, getD, take, drop, set}
 use lib.Dec.{ltb, leb}
 use borrow.Author.Tests.{lt-ltb, le-ltb, lt-leb, le-leb}
 use Rattle.conv.specs.Types.{Ty}
-use Rattle.table.specs.Table.{Sound, allowedb}
+use Rattle.table.specs.Table.{allowedb}
 use Rattle.table.specs.Denote.{typeAt, tyOf}
 use Rattle.table.specs.Placing.{Outcome, Gave, entering}
 use Rattle.table.specs.declared.Entry.{Entry}
@@ -23,7 +23,6 @@ use Rattle.answer.specs.declared.Answer.{Answer}
 use Rattle.answer.specs.declared.Answer.the-variants.{Value, NoValue, Refused}
 use Rattle.ops_ty.specs.Ops.{unaryOutcome, binaryOutcome}
 use Rattle.call_ty.specs.Calls.{callOutcome}
-use Rattle.call_ty.specs.Codes.{Under}
 use Rattle.step.specs.declared.Did.{Did}
 use Rattle.step.specs.declared.Did.the-variants as did
 use Rattle.step.specs.Effect.{most, State, Effect, goes, stop, pushed, onto, pushEffect, unaryEffect, binaryEffect, calling, callEffect, templateEffect, takeEffect}

@@ -1,16 +1,16 @@
 -- The item functions, each from the promises of the calls it makes: what a call answered can be pushed, and the stack afterwards is the item's effect.
 -- Assumes nothing.
 use Prim.Native.Nat.{ℕ, zero, suc, _+_, _-_, _<_, _≤_}
-use mathlib.Core.Path.{_≡_, refl, sym, _∙_, ap}
+use mathlib.Core.Path.{_≡_, refl, sym}
 use mathlib.Core.Bool.{true}
-use mathlib.Core.List.{List, [], _∷_, map}
+use mathlib.Core.List.{List, map}
 use native.Mathlib.Omega.{arith}
 use lib.ListN.{length, getD, take, drop}
 use Rattle.conv.specs.Types.{Ty}
 use Rattle.table.specs.Table.{Sound, allowedb}
 use Rattle.table.specs.Denote.{typeAt, tyOf}
 use Rattle.table.specs.Enter.{EnterDone, entryAnswer}
-use Rattle.table.specs.Placing.{Outcome, Gave, entering}
+use Rattle.table.specs.Placing.{Gave, entering}
 use Rattle.table.specs.declared.Entry.{Entry}
 use Rattle.table.specs.declared.Entered.{Entered}
 use Rattle.answer.specs.declared.Place.{Place}
@@ -19,7 +19,6 @@ use Rattle.answer.specs.declared.Answer.{Answer}
 use Rattle.answer.specs.declared.Answer.the-variants.{Value}
 use Rattle.table.proofs.FormedLaws.{allowed-type}
 use Rattle.table.proofs.PlacingLaws.{enter-outcome}
-use Rattle.table.specs.Kept.{Kept}
 use Rattle.table.proofs.Keeping.{kept-entering}
 use Rattle.ruled.proofs.Outcomes.{gave-from}
 use Rattle.ops_ty.specs.Ops.{unaryOutcome, binaryOutcome}
@@ -28,9 +27,9 @@ use Rattle.call_ty.specs.Calls.{callOutcome}
 use Rattle.call_ty.specs.Codes.{Under}
 use Rattle.call_ty.proofs.Demand1.{call-at-kept}
 use Rattle.step.specs.declared.Did.{Did}
-use Rattle.step.specs.Effect.{most, State, onto, unaryEffect, binaryEffect, calling, callEffect, templateEffect, takeEffect}
+use Rattle.step.specs.Effect.{most, State, unaryEffect, binaryEffect, calling, takeEffect}
 use Rattle.step.specs.Code.{stateOf, Ready, Pushes, Does, Settles}
-use Rattle.step.proofs.StackLaws.{sized, operands-lent, under-drop}
+use Rattle.step.proofs.StackLaws.{operands-lent, under-drop}
 use Rattle.step.proofs.Answers.{no-operand, pushes}
 use Rattle.step.proofs.Effects.{does-as, settled, value-under, unary-goes, binary-goes, calling-on, take-goes}
 

@@ -1,22 +1,20 @@
 -- What an item keeps. The state after it is good again; the earlier entries stay at their numbers; a refusal changes no word and gives the count as it
 -- stands. Assumes nothing.
-use Prim.Native.Nat.{ℕ, zero, suc, _+_, _-_, _*_, _<_, _≤_}
-use mathlib.Core.Path.{_≡_, refl, sym, _∙_, ap}
+use Prim.Native.Nat.{ℕ, zero, suc, _+_, _-_, _<_, _≤_}
+use mathlib.Core.Path.{_≡_, refl}
 use mathlib.Core.Bool.{Bool, true, false, cond}
-use mathlib.Core.List.{List, [], _∷_, _++_, map}
+use mathlib.Core.List.{List, [], _∷_, map}
 use native.Mathlib.Omega.{arith}
-use lib.Dec.{ltb, leb, eqb}
-use lib.ListN.{length, getD, take, drop, length-append, length-take, length-drop, drop-of-length-le}
+use lib.Dec.{ltb, leb}
+use lib.ListN.{length, getD, length-append, length-take, length-drop, drop-of-length-le}
 use borrow.Author.Tests.{ltb-true, leb-true}
 use Rattle.conv.specs.Types.{Ty}
-use Rattle.table.specs.Table.{stride, Sound, Keeps, allowedb}
+use Rattle.table.specs.Table.{allowedb}
 use Rattle.table.specs.Denote.{typeAt, tyOf}
-use Rattle.table.specs.Stands.{Stands}
-use Rattle.table.specs.Placing.{Outcome, entering}
+use Rattle.table.specs.Placing.{Outcome}
 use Rattle.table.specs.declared.Entry.{Entry}
 use Rattle.answer.specs.declared.Reason.{Reason}
 use Rattle.answer.specs.declared.Reason.the-variants.{NoSuchType, Template, Framing, Stack}
-use Rattle.answer.specs.declared.Refusal.{Refusal}
 use Rattle.answer.specs.declared.TypeNo.{TypeNo}
 use Rattle.answer.specs.declared.Answer.{Answer}
 use Rattle.answer.specs.declared.Answer.the-variants.{Value, NoValue, Refused}
@@ -25,7 +23,6 @@ use Rattle.table.specs.Kept.{Kept}
 use Rattle.table.proofs.Keeping.{kept-entering}
 use Rattle.frame.specs.declared.Item.{Item}
 use Rattle.frame.specs.declared.Item.the-variants.{Push, Unary, Binary, Call, CallTemplate, Take, End, Bad}
-use Rattle.ops_ty.specs.Ops.{unaryOutcome, binaryOutcome}
 use Rattle.ops_ty.proofs.Demand1.{unary-at-kept, binary-at-kept}
 use Rattle.call_ty.specs.Calls.{callOutcome}
 use Rattle.call_ty.proofs.Demand1.{call-at-kept}

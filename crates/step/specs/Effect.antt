@@ -1,7 +1,7 @@
 -- Document 01, "The sheet" and "What is answered": what an item does. Its effect is that of the single call on the operands that the stack holds.
 -- Assumes nothing.
 use Prim.Native.Nat.{ℕ, _-_}
-use mathlib.Core.Bool.{Bool, true, false, cond}
+use mathlib.Core.Bool.{cond}
 use mathlib.Core.List.{List, [], _∷_, _++_, map}
 use lib.ListN.{length, getD, take, drop}
 use lib.Dec.{ltb, leb}

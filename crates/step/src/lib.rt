@@ -10,7 +10,7 @@ use table::Refusal;
 use table::TypeNo;
 ghost use mathlib.Core.Path.{_≡_};
 ghost use mathlib.Core.List.{map};
-ghost use Prim.Native.Nat.{_<_, _≤_, _^_};
+ghost use Prim.Native.Nat.{_<_, _≤_};
 ghost use lib.ListN.{length};
 ghost use Rattle.table.specs.Denote.{typeAt};
 ghost use Rattle.frame.specs.Frame.{nameOf, Within};

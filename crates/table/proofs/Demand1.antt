@@ -1,35 +1,33 @@
 -- "A refused call changes no lent byte or word." "An accepted call leaves every earlier entry at its number and adds only the missing
 -- entries its result needs." Both are proved here once for every type: a call that accepts the type R has the outcome `entering`.
 -- Proved by recursion over the type, one new entry after another. Assumes nothing.
-use Prim.Native.Nat.{ℕ, zero, suc, _+_, _-_, _*_, _≤_, _<_}
+use Prim.Native.Nat.{ℕ, zero, suc, _+_, _-_, _≤_, _<_}
 use mathlib.Core.Path.{_≡_, refl, sym, _∙_, ap}
-use mathlib.Core.Bool.{Bool, true, false, _&&_, _||_, not, cond}
+use mathlib.Core.Bool.{Bool, true, false, _&&_, not, cond}
 use mathlib.Core.List.{List}
 use mathlib.Core.Logic.{_⊎_, inl, inr}
 use native.Mathlib.Omega.{arith}
-use lib.Dec.{leb, ltb, eqb}
-use lib.ListN.{length}
+use lib.Dec.{leb}
 use borrow.Author.Tests.{lt-ltb, ltb-true, leb-true, leb-false}
-use Rattle.conv.specs.Types.{Ty, storage, handle, readWrite, isWidth, isFloat, isValue, isRuntime, abstractTy, isFract, formed}
+use Rattle.conv.specs.Types.{Ty, storage, handle, readWrite, isWidth, isValue, isRuntime, abstractTy, isFract, formed}
 use Rattle.conv.specs.Types.Ty.{scalar, vec, mat, array, runtime, atomic, ptr, ref, frexp, modf}
 use Rattle.conv.specs.Rank.{sameTy, elementOf}
 use Rattle.conv.proofs.Made.{same-ty}
 use Rattle.answer.specs.Answer.{accept, refuse}
-use Rattle.table.specs.Table.{stride, scalars, ceiling, putEntry, orElse, findIn, allowedb, Sound}
+use Rattle.table.specs.Table.{scalars, putEntry, orElse, findIn, allowedb, Sound}
 use Rattle.table.specs.Denote.{typeAt, tyOf, made, kindOf, pOf, qOf}
 use Rattle.table.specs.Enter.{free}
-use Rattle.table.specs.Stands.{Absent, Part, Stands}
+use Rattle.table.specs.Stands.{Absent, Stands}
 use Rattle.table.specs.Stands.Part.{whole, inside}
 use Rattle.table.specs.Placing.{standsIn, Standing, here, entryOf, placed, Outcome, turnedDown, entering}
 use Rattle.table.specs.declared.Entry.{Entry}
 use Rattle.answer.specs.declared.TypeNo.{TypeNo}
 use Rattle.answer.specs.declared.Refusal.{Refusal}
 use Rattle.answer.specs.declared.Reason.the-variants.{NoRoom}
-use Rattle.answer.specs.declared.Answer.{Answer}
 use Rattle.answer.specs.declared.Answer.the-variants.{Value, NoValue, Refused}
 use Rattle.table.specs.declared.Found.{Found}
 use Rattle.table.specs.declared.Found.the-variants.{At, Nothing}
-use Rattle.table.proofs.SoundLaws.{and-left, and-right}
+use Rattle.table.proofs.SoundLaws.{and-right}
 use Rattle.table.proofs.KindLaws.{split, clash, isScalar, float-scalar, int-scalar}
 use Rattle.table.proofs.TypeLaws.{type-scalar, scalar-number}
 use Rattle.table.proofs.FormedLaws.{clean, clean-above}

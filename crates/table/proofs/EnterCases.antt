@@ -1,20 +1,19 @@
 -- The cases of entering one entry and two, by which the code goes: found, no room, new. Assumes nothing.
 use Prim.Native.Nat.{ℕ, _+_, _-_, _*_, _/_, _≤_, _<_}
-use mathlib.Core.Path.{_≡_, refl, sym, _∙_, ap}
+use mathlib.Core.Path.{_≡_, refl, ap}
 use mathlib.Core.Bool.{Bool, true, false, _&&_, cond}
 use mathlib.Core.List.{List}
 use native.Mathlib.Omega.{arith}
 use lib.ListN.{length}
 use lib.Dec.{leb, ltb, eqb}
-use borrow.Author.Tests.{le-leb, lt-leb, leb-true, leb-false, ltb-true, ltb-false, eqb-true, lt-ltb, le-ltb}
-use Rattle.table.specs.Table.{stride, scalars, ceiling, entryAt, putEntry, Key, keyOf, scalarOk, madeOk, entryOk, findIn, soundb, allowedb, Sound}
-use Rattle.table.specs.Enter.{free, missing, numberOr, entered, enterWords, EnterDone, container, outerOver, missingTwo, enteredTwo, enterTwoWords, EnterTwoDone, entryAnswer, enterTypeReply, enterTypeWords}
+use borrow.Author.Tests.{le-leb, lt-leb, leb-true, leb-false, ltb-true, eqb-true}
+use Rattle.table.specs.Table.{stride, scalars, ceiling, entryAt, putEntry, Key, scalarOk, madeOk, entryOk, findIn, soundb, allowedb, Sound}
+use Rattle.table.specs.Enter.{free, missing, entered, enterWords, EnterDone, container, outerOver, missingTwo, enteredTwo, enterTwoWords, EnterTwoDone, entryAnswer, enterTypeReply, enterTypeWords}
 use Rattle.table.specs.Placing.{enterType, Gave}
 use Rattle.answer.specs.Answer.{refuse}
 use Rattle.answer.specs.declared.Reason.the-variants.{Unsound, Template}
 use Rattle.table.specs.declared.Entry.{Entry}
 use Rattle.answer.specs.declared.TypeNo.{TypeNo}
-use Rattle.table.specs.declared.Found.{Found}
 use Rattle.table.specs.declared.Found.the-variants.{At, Nothing}
 use Rattle.table.specs.declared.Entered.{Entered}
 use Rattle.table.specs.declared.Entered.the-variants.{There, Full}

@@ -1,17 +1,17 @@
 -- Entering one entry, in types: what stands afterwards, when room lacks, and that nothing else changes. Assumes nothing.
 use Prim.Native.Nat.{ℕ, _+_, _*_, _≤_, _<_}
 use mathlib.Core.Path.{_≡_, refl, sym, _∙_, ap}
-use mathlib.Core.Bool.{Bool, true, false, _&&_, _||_, not, cond}
+use mathlib.Core.Bool.{true, _&&_}
 use mathlib.Core.List.{List}
 use mathlib.Core.Logic.{_≢_}
 use native.Mathlib.Omega.{arith}
-use lib.ListN.{length, getD, set}
+use lib.ListN.{length, getD}
 use lib.Seq.{getD-set-other}
 use lib.Dec.{leb, ltb, eqb}
-use borrow.Author.Tests.{le-ltb, lt-ltb, le-leb, lt-leb, ltb-true, ltb-false, leb-true, leb-false, eqb-true}
+use borrow.Author.Tests.{le-ltb, lt-ltb, lt-leb, ltb-true, ltb-false, leb-true, leb-false, eqb-true}
 use Rattle.conv.specs.Types.{Ty, isWidth, isFloat, formed}
 use Rattle.conv.specs.Types.Ty.{scalar}
-use Rattle.table.specs.Table.{stride, scalars, ceiling, kindVec, kindMat, entryAt, putEntry, Key, keyOf, rowOk, baseOf, scalarOk, madeOk, entryOk, findIn, allowedb, Sound, Keeps}
+use Rattle.table.specs.Table.{stride, scalars, ceiling, kindVec, kindMat, entryAt, putEntry, Key, keyOf, scalarOk, madeOk, entryOk, findIn, allowedb, Sound, Keeps}
 use Rattle.table.specs.Denote.{made, typeAt, tyOf}
 use Rattle.table.specs.Enter.{free, missing, entered, enterWords, EnterDone}
 use Rattle.table.specs.Stands.{Absent, Part, Stands}
@@ -21,11 +21,10 @@ use Rattle.table.specs.declared.Entry.{Entry}
 use Rattle.answer.specs.declared.TypeNo.{TypeNo}
 use Rattle.table.specs.declared.Found.{Found}
 use Rattle.table.specs.declared.Found.the-variants.{At, Nothing}
-use Rattle.table.specs.declared.Entered.{Entered}
 use Rattle.table.specs.declared.Entered.the-variants.{There, Full}
 use Rattle.table.proofs.TableLaws.{elemOf}
 use Rattle.table.proofs.SoundLaws.{and-left, and-right, find-at, find-unique, put-length, put-keeps, put-entry, put-sound}
-use Rattle.table.proofs.KindLaws.{split, clash, isScalar}
+use Rattle.table.proofs.KindLaws.{split, isScalar}
 use Rattle.table.proofs.TypeLaws.{Words, same-key, row-words, type-scalar, type-keeps, scalar-key, type-made, type-words, type-above, scalar-number, type-injective}
 use Rattle.table.proofs.FormedLaws.{clean, clean-above, allowed-formed, allowed-row}
 use Rattle.table.proofs.EnterCases.{free-room, missing-at, missing-none, enter-found, enter-full, enter-new, elem-below}

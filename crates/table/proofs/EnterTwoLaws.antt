@@ -1,30 +1,29 @@
 -- Entering an element and its container, in types: what stands afterwards, when room lacks, and that nothing else changes. Assumes nothing.
 use Prim.Native.Nat.{ℕ, _+_, _*_, _≤_, _<_}
 use mathlib.Core.Path.{_≡_, refl, sym, _∙_, ap}
-use mathlib.Core.Bool.{Bool, true, false, _&&_, _||_, not, cond}
+use mathlib.Core.Bool.{Bool, true, false, _&&_, _||_, not}
 use mathlib.Core.List.{List}
 use native.Mathlib.Omega.{arith}
-use lib.ListN.{length, getD}
+use lib.ListN.{length}
 use lib.Dec.{leb, ltb, eqb}
 use borrow.Author.Tests.{lt-leb, ltb-true, ltb-false, leb-true, leb-false, not-true}
 use Rattle.conv.specs.Types.{Ty, formed}
-use Rattle.table.specs.Table.{stride, scalars, ceiling, kindVec, kindMat, kindArray, kindRuntime, kindAtomic, kindPtr, kindRef, kindFrexp, kindModf, entryAt, putEntry, findIn, allowedb, Sound, Keeps}
+use Rattle.table.specs.Table.{stride, ceiling, kindVec, kindMat, kindAtomic, entryAt, putEntry, findIn, allowedb, Sound}
 use Rattle.table.specs.Denote.{made, typeAt, tyOf}
-use Rattle.table.specs.Enter.{free, missing, entered, enterWords, EnterDone, container, missingTwo, enteredTwo, enterTwoWords, EnterTwoDone}
+use Rattle.table.specs.Enter.{free, entered, enterWords, container, missingTwo, enteredTwo, enterTwoWords, EnterTwoDone}
 use Rattle.table.specs.Stands.{Absent, Part, Stands}
 use Rattle.conv.specs.Rank.{elementOf}
-use Rattle.table.specs.Stands.Part.{whole, inside}
+use Rattle.table.specs.Stands.Part.{inside}
 use Rattle.table.specs.declared.Entry.{Entry}
 use Rattle.answer.specs.declared.TypeNo.{TypeNo}
 use Rattle.table.specs.declared.Found.{Found}
 use Rattle.table.specs.declared.Found.the-variants.{At, Nothing}
-use Rattle.table.specs.declared.Entered.{Entered}
 use Rattle.table.specs.declared.Entered.the-variants.{There, Full}
 use Rattle.table.proofs.SoundLaws.{and-left, and-right}
 use Rattle.table.proofs.KindLaws.{split, clash, by-kind, isScalar}
 use Rattle.table.proofs.TypeLaws.{type-keeps, elem-of, elem-in}
 use Rattle.table.proofs.FormedLaws.{clean, clean-above}
-use Rattle.table.proofs.EnterCases.{free-room, outer-absent, two-found, two-full, two-new, missing-both}
+use Rattle.table.proofs.EnterCases.{free-room, outer-absent, two-found, two-full, two-new}
 use Rattle.table.proofs.EnterLaws.{ty-made, part-same, part-trans, allow, found-at, at-type, new-stands, one-stands, one-present}
 
 -- a container: its unused words are 0, and its elem may be of any form (no vector, matrix or atomic)

@@ -1,10 +1,9 @@
 -- The definitions at a few tables, computed. Assumes nothing.
 use Prim.Native.Nat.{ℕ}
 use mathlib.Core.Path.{_≡_, refl}
-use mathlib.Core.Bool.{Bool, true, false}
+use mathlib.Core.Bool.{true, false}
 use mathlib.Core.List.{List, [], _∷_, _++_}
-use lib.ListN.{length}
-use Rattle.conv.specs.Types.{Ty, bool, abstractInt, f32, function, storage, handle, read, readWrite}
+use Rattle.conv.specs.Types.{bool, abstractInt, f32, function, storage, handle, read, readWrite}
 use Rattle.conv.specs.Types.Ty.{scalar, vec, array, ref}
 use Rattle.table.specs.Tools.{allBelow}
 use Rattle.table.specs.Table.{kindVec, kindArray, kindRuntime, kindPtr, kindRef, kindFrexp, rowOk, chainBy, chain, baseOf, madeOk, entryOk, findIn, soundb, allowedb}

@@ -5,18 +5,16 @@ use mathlib.Core.Bool.{Bool, true, false, _&&_, _||_, not, cond}
 use mathlib.Core.List.{List}
 use native.Mathlib.Nat.{not-suc-le-zero}
 use native.Mathlib.Omega.{arith}
-use lib.ListN.{length, getD}
 use lib.Dec.{leb, ltb, eqb}
 use borrow.Author.Tests.{le-ltb, lt-ltb, ltb-true, ltb-false, ne-eqb}
-use Rattle.conv.specs.Types.{Ty, i32, u32, storage, handle, readWrite, isWidth, isFloat, isAbstract, abstractTy, isValue, isRuntime, isFract, formed}
-use Rattle.conv.specs.Types.Ty.{scalar}
-use Rattle.table.specs.Table.{scalars, kindVec, kindMat, kindArray, kindRuntime, kindAtomic, kindPtr, kindRef, kindFrexp, kindModf, entryAt, plain, stored, sized, rowOk, baseOf, scalarOk, madeOk, allowedb, Sound}
+use Rattle.conv.specs.Types.{Ty, storage, handle, readWrite, isWidth, isFloat, isAbstract, abstractTy, isValue, isRuntime, isFract, formed}
+use Rattle.table.specs.Table.{scalars, kindVec, kindMat, kindArray, kindRuntime, kindAtomic, kindPtr, kindRef, kindFrexp, kindModf, entryAt, plain, stored, sized, rowOk, baseOf, madeOk, allowedb, Sound}
 use Rattle.table.specs.Denote.{made, typeAt, tyOf, kindOf}
 use Rattle.table.specs.declared.Entry.{Entry}
 use Rattle.table.proofs.TableLaws.{elemOf, base-scalar}
-use Rattle.table.proofs.SoundLaws.{and-left, and-right, and-both}
-use Rattle.table.proofs.KindLaws.{split, clash, by-kind, innermost, isScalar, abstract-innermost, stored-kind, runtime-kind, fract-kind, and-true}
-use Rattle.table.proofs.TypeLaws.{made-vec, type-scalar, row-at, type-made, type-words, kind-of, base-of}
+use Rattle.table.proofs.SoundLaws.{and-left, and-right}
+use Rattle.table.proofs.KindLaws.{split, clash, by-kind, abstract-innermost, stored-kind, runtime-kind, fract-kind, and-true}
+use Rattle.table.proofs.TypeLaws.{type-scalar, row-at, type-made, type-words, kind-of, base-of}
 
 -- "unused words are 0", for every kind above the scalars
 unfoldable pub clean : Entry → Bool

@@ -1,6 +1,6 @@
 -- DEMAND 1 for what calls come to: a refusal, no value, a type that is entered; and for a type that a host enters. Assumes nothing.
 use Prim.Native.Nat.{ℕ}
-use mathlib.Core.Path.{_≡_, refl, sym, _∙_, ap, subst}
+use mathlib.Core.Path.{_≡_, refl, sym, ap, subst}
 use mathlib.Core.Bool.{Bool, true, false, cond}
 use mathlib.Core.List.{List}
 use native.Mathlib.Omega.{arith}
@@ -11,12 +11,11 @@ use Rattle.table.specs.Enter.{entered, enterWords, enterTypeReply, enter
 use Rattle.table.specs.Placing.{Outcome, turnedDown, entering, enterType}
 use Rattle.table.specs.Kept.{Kept}
 use Rattle.table.specs.declared.Entry.{Entry}
-use Rattle.answer.specs.declared.TypeNo.{TypeNo}
 use Rattle.answer.specs.declared.Reason.{Reason}
 use Rattle.answer.specs.declared.Reason.the-variants.{Unsound, Template}
 use Rattle.answer.specs.declared.Refusal.{Refusal}
 use Rattle.answer.specs.declared.Answer.{Answer}
-use Rattle.answer.specs.declared.Answer.the-variants.{Value, NoValue, Refused}
+use Rattle.answer.specs.declared.Answer.the-variants.{NoValue}
 use Rattle.table.proofs.KindLaws.{split}
 use Rattle.table.proofs.SoundLaws.{sound-of}
 use Rattle.table.proofs.FormedLaws.{allowed-type}

@@ -9,7 +9,7 @@ use Rattle.conv.specs.Types.{Ty, i32, u32, isFloat, isAbstract, abstractTy, isF
 use Rattle.conv.specs.Types.Ty.{scalar, vec, mat, array, runtime, atomic, ptr, ref, frexp, modf}
 use Rattle.table.specs.Table.{scalars, kindVec, kindMat, kindArray, kindRuntime, kindAtomic, kindPtr, kindRef, kindFrexp, kindModf, stored}
 use Rattle.conv.specs.Rank.{elementOf}
-use Rattle.table.specs.Denote.{kindOf, pOf, qOf}
+use Rattle.table.specs.Denote.{kindOf}
 
 -- the two cases of a test
 pub split : {P : Type 0} (b : Bool) → (b ≡ true → P) → (b ≡ false → P) → P

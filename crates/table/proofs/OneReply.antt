@@ -1,6 +1,6 @@
 -- For each public function: no second reply, and no other words afterwards, meet its promise. Assumes nothing.
 use Prim.Native.Nat.{ℕ}
-use mathlib.Core.Path.{_≡_, refl, sym, _∙_, ap}
+use mathlib.Core.Path.{_≡_, sym, _∙_}
 use mathlib.Core.Bool.{Bool}
 use mathlib.Core.List.{List}
 use Rattle.table.specs.Table.{scalars, entryAt, findIn, soundb, allowedb}

@@ -1,25 +1,24 @@
 -- Entering an entry, and an element with its container, is placing their types; and what an accepted type does to a sound table.
 -- Assumes nothing.
-use Prim.Native.Nat.{ℕ, zero, suc, _+_, _-_, _*_, _≤_, _<_}
+use Prim.Native.Nat.{ℕ, zero, suc, _+_, _-_, _≤_, _<_}
 use mathlib.Core.Path.{_≡_, refl, sym, _∙_, ap, subst}
 use mathlib.Core.Bool.{Bool, true, false, cond}
 use mathlib.Core.List.{List}
 use mathlib.Core.Logic.{⊎-elim}
 use native.Mathlib.Nat.{le-of-suc-le-suc, not-suc-le-zero, eq-or-lt-of-le}
 use native.Mathlib.Omega.{arith}
-use lib.Dec.{T, leb, ltb, eqb}
-use lib.ListN.{length, getD}
-use borrow.Author.Tests.{ltb-true, ltb-false, le-leb, lt-leb, leb-true, leb-false}
+use lib.Dec.{T, leb, ltb}
+use borrow.Author.Tests.{ltb-true, ltb-false, le-leb, leb-true, leb-false}
 use Rattle.conv.specs.Types.{Ty, formed}
 use Rattle.conv.specs.Types.Ty.{scalar, vec, mat, array, runtime, atomic, ptr, ref, frexp, modf}
 use Rattle.conv.specs.Rank.{sameTy, elementOf}
 use Rattle.conv.proofs.Made.{same-ty, self-ty}
-use Rattle.answer.specs.Answer.{accept, refuse}
-use Rattle.table.specs.Table.{scalars, putEntry, orElse, findIn, allowedb, Sound, keyOf, entryAt}
+use Rattle.answer.specs.Answer.{accept}
+use Rattle.table.specs.Table.{scalars, putEntry, orElse, findIn, allowedb, Sound, entryAt}
 use Rattle.table.specs.Denote.{typeAt, tyOf, made, kindOf, pOf, qOf}
-use Rattle.table.specs.Enter.{free, missing, numberOr, addAt, entered, enterWords, EnterDone, entryAnswer, container, missingTwo, enteredTwo, enterTwoWords, EnterTwoDone}
-use Rattle.table.specs.Stands.{Absent, Stands}
-use Rattle.table.specs.Placing.{standsIn, Standing, here, entryOf, orNext, over, placed, Outcome, turnedDown, entering}
+use Rattle.table.specs.Enter.{free, missing, numberOr, addAt, entered, enterWords, EnterDone, entryAnswer, container, EnterTwoDone}
+use Rattle.table.specs.Stands.{Absent}
+use Rattle.table.specs.Placing.{standsIn, Standing, here, entryOf, over, placed, Outcome, turnedDown, entering}
 use Rattle.table.specs.declared.Entry.{Entry}
 use Rattle.answer.specs.declared.TypeNo.{TypeNo}
 use Rattle.answer.specs.declared.Reason.the-variants.{NoRoom}
@@ -28,11 +27,11 @@ use Rattle.table.specs.declared.Found.the-variants.{At, Nothing}
 use Rattle.table.specs.declared.Entered.{Entered}
 use Rattle.table.specs.declared.Entered.the-variants.{There, Full}
 use Rattle.table.proofs.KindLaws.{split, isScalar}
-use Rattle.table.proofs.TypeLaws.{Words, type-scalar, type-injective, type-words, elem-in, elem-of}
+use Rattle.table.proofs.TypeLaws.{type-scalar, type-injective, type-words, elem-in, elem-of}
 use Rattle.table.proofs.FormedLaws.{allowed-row}
 use Rattle.table.proofs.EnterCases.{missing-at, missing-none, two-found, two-full, two-new}
-use Rattle.table.proofs.EnterTwoLaws.{Holds, holds, holder, over-allowed, over-type}
-use Rattle.table.proofs.EnterLaws.{ty-made, ty-scalar, entry-words, found-at, at-type, none-absent, missing-present}
+use Rattle.table.proofs.EnterTwoLaws.{holds, holder, over-allowed, over-type}
+use Rattle.table.proofs.EnterLaws.{ty-made, ty-scalar, entry-words, at-type, none-absent}
 
 -- A TYPE'S NUMBER
 

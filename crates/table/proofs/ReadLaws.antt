@@ -1,13 +1,12 @@
 -- The words of an entry, from the type that its number stands for. Assumes nothing.
-use Prim.Native.Nat.{ℕ, _≤_, _<_}
-use mathlib.Core.Path.{_≡_, refl, sym, _∙_, ap}
+use Prim.Native.Nat.{ℕ, _<_}
+use mathlib.Core.Path.{_≡_, refl, _∙_, ap}
 use mathlib.Core.Bool.{false}
 use mathlib.Core.List.{List}
 use native.Mathlib.Omega.{arith}
-use lib.ListN.{getD}
 use Rattle.conv.specs.Types.{Ty}
 use Rattle.conv.specs.Types.Ty.{scalar, vec, mat, array, runtime, atomic, ptr, ref, frexp, modf}
-use Rattle.table.specs.Table.{scalars, kindVec, kindMat, kindArray, kindRuntime, kindAtomic, kindPtr, kindRef, kindFrexp, kindModf, entryAt, Sound}
+use Rattle.table.specs.Table.{kindVec, kindMat, kindArray, kindRuntime, kindAtomic, kindPtr, kindRef, kindFrexp, kindModf, entryAt, Sound}
 use Rattle.table.specs.Denote.{typeAt, kindOf, pOf, qOf}
 use Rattle.conv.specs.Rank.{elementOf}
 use Rattle.table.proofs.KindLaws.{isScalar}

@@ -11,7 +11,7 @@ use lib.Seq.{getD-set-same, getD-set-other}
 use lib.Dec.{ltb, eqb}
 use borrow.Author.Tests.{lt-ltb, le-ltb, ltb-true, ltb-false, eqb-true, eqb-false, eq-eqb, ne-eqb}
 use Rattle.table.specs.Tools.{allBelow}
-use Rattle.table.specs.Table.{scalars, ceiling, entryAt, Key, keyOf, sameb, rowOk, madeOk, entryOk, orElse, findIn, isNothing, goodAt}
+use Rattle.table.specs.Table.{scalars, ceiling, entryAt, Key, sameb, rowOk, madeOk, entryOk, orElse, findIn, isNothing, goodAt}
 use Rattle.table.specs.Slots.{scalarAt, slots, slotOf, lastIn, Links, Slotted}
 use Rattle.table.specs.declared.Entry.{Entry}
 use Rattle.table.specs.declared.Found.{Found}

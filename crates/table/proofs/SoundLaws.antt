@@ -10,14 +10,14 @@ use native.Mathlib.Omega.{arith}
 use lib.ListN.{length, getD, set, length-set}
 use lib.Seq.{getD-set-same, getD-set-other}
 use lib.Dec.{leb, ltb, eqb}
-use borrow.Author.Tests.{lt-ltb, le-ltb, le-leb, ltb-true, ltb-false, leb-true, eqb-true, eq-eqb}
+use borrow.Author.Tests.{le-leb, ltb-true, leb-true, eqb-true, eq-eqb}
 use Rattle.table.specs.Tools.{allBelow}
-use Rattle.table.specs.Table.{stride, ceiling, entryAt, putEntry, Key, keyOf, sameb, rowOk, chainBy, chain, baseOf, entryOk, orElse, findIn, isNothing, goodAt, soundb, Sound, Keeps, scalarOk, madeOk, allowedb}
+use Rattle.table.specs.Table.{stride, ceiling, entryAt, putEntry, Key, keyOf, sameb, chainBy, chain, baseOf, entryOk, orElse, findIn, isNothing, goodAt, soundb, Sound, Keeps, scalarOk, madeOk}
 use Rattle.table.specs.declared.Entry.{Entry}
 use Rattle.answer.specs.declared.TypeNo.{TypeNo}
 use Rattle.table.specs.declared.Found.{Found}
 use Rattle.table.specs.declared.Found.the-variants.{At, Nothing}
-use Rattle.table.proofs.TableLaws.{elemOf, all-more, all-none, find-none, find-more, find-stop}
+use Rattle.table.proofs.TableLaws.{elemOf, find-stop}
 
 -- a conjunction
 

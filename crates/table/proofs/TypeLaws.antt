@@ -1,17 +1,16 @@
 -- What the numbers of a sound table stand for: the type of an entry by its kind and back, and that two numbers are two types. Assumes nothing.
-use Prim.Native.Nat.{ℕ, zero, suc, _+_, _*_, _≤_, _<_}
+use Prim.Native.Nat.{ℕ, zero, suc, _≤_, _<_}
 use mathlib.Core.Path.{_≡_, refl, sym, _∙_, ap}
-use mathlib.Core.Bool.{Bool, true, false, _&&_, _||_, not, cond}
+use mathlib.Core.Bool.{true, false, _&&_}
 use mathlib.Core.List.{List}
 use native.Mathlib.Nat.{not-suc-le-zero}
 use native.Mathlib.Omega.{arith}
-use lib.ListN.{length, getD}
 use lib.Dec.{leb, ltb, eqb}
 use borrow.Author.Tests.{le-ltb, lt-ltb, ltb-true, ltb-false, eqb-true}
-use Rattle.conv.specs.Types.{Ty, i32, u32, isWidth, isFloat}
+use Rattle.conv.specs.Types.{Ty, isWidth}
 use Rattle.conv.specs.Types.Ty.{scalar, vec, mat, array, runtime, atomic, ptr, ref, frexp, modf}
-use Rattle.table.specs.Table.{stride, scalars, kindVec, kindMat, kindArray, kindRuntime, kindAtomic, kindPtr, kindRef, kindFrexp, kindModf, entryAt, Key, keyOf, plain, sized, rowOk, baseOf, scalarOk, madeOk, entryOk, Sound, Keeps}
-use Rattle.table.specs.Denote.{made, typeAt, tyOf, kindOf, pOf, qOf}
+use Rattle.table.specs.Table.{scalars, kindVec, kindMat, kindArray, kindRuntime, kindAtomic, kindPtr, kindRef, kindFrexp, kindModf, entryAt, Key, keyOf, plain, rowOk, baseOf, scalarOk, madeOk, entryOk, Sound, Keeps}
+use Rattle.table.specs.Denote.{made, typeAt, kindOf, pOf, qOf}
 use Rattle.conv.specs.Rank.{elementOf}
 use Rattle.table.specs.declared.Entry.{Entry}
 use Rattle.table.proofs.TableLaws.{elemOf, chain-scalar, chain-step, base-scalar, base-step}

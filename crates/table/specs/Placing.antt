@@ -1,7 +1,7 @@
 -- What an accepted type does to the table: "A result not present is entered, an absent element before its container"; "An accepted call leaves
 -- every earlier entry at its number and adds only the missing entries its result needs". Assumes nothing.
 use Prim.Native.Nat.{ℕ, zero, suc, _+_, _-_}
-use mathlib.Core.Bool.{Bool, true, false, cond}
+use mathlib.Core.Bool.{cond}
 use mathlib.Core.List.{List}
 use mathlib.Core.Path.{_≡_}
 use lib.Dec.{leb}

@@ -3,19 +3,17 @@
 -- slices, which no call writes. Assumes nothing.
 use Prim.Native.Nat.{ℕ}
 use mathlib.Core.Path.{_≡_, refl, sym, _∙_, ap}
-use mathlib.Core.Bool.{true, false, cond}
 use mathlib.Core.List.{List}
 use native.Mathlib.Omega.{arith}
 use lib.IntN.{ℤ}
 use Rattle.conv.specs.Types.{Ty}
 use Rattle.table.specs.Table.{soundb, Sound}
 use Rattle.table.specs.Stands.{Stands}
-use Rattle.table.specs.Placing.{Outcome, turnedDown, entering}
+use Rattle.table.specs.Placing.{Outcome, turnedDown}
 use Rattle.table.specs.Kept.{Kept}
 use Rattle.answer.specs.declared.TypeNo.{TypeNo}
 use Rattle.answer.specs.declared.Reason.{Reason}
 use Rattle.answer.specs.declared.Reason.the-variants.{Unsound, NoSuchType}
-use Rattle.answer.specs.declared.Answer.{Answer}
 use Rattle.answer.specs.declared.Answer.the-variants.{Value}
 use Rattle.table.proofs.KindLaws.{split}
 use Rattle.table.proofs.SoundLaws.{sound-of}

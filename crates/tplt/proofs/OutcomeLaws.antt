@@ -1,12 +1,12 @@
 -- The three ways of a call: a table that is not sound, a number that is no type, and what the head and the list come to. Assumes nothing.
-use Prim.Native.Nat.{ℕ, _<_}
-use mathlib.Core.Path.{_≡_, refl, sym, _∙_, ap, subst}
-use mathlib.Core.Bool.{Bool, true, false, cond}
+use Prim.Native.Nat.{ℕ}
+use mathlib.Core.Path.{_≡_, sym, _∙_, ap, subst}
+use mathlib.Core.Bool.{true, false}
 use mathlib.Core.List.{List}
 use native.Mathlib.Omega.{arith}
 use lib.IntN.{ℤ}
 use Rattle.table.specs.Table.{soundb, Sound}
-use Rattle.table.specs.Placing.{Outcome, turnedDown, entering, Gave}
+use Rattle.table.specs.Placing.{Outcome, turnedDown, Gave}
 use Rattle.table.proofs.Giving.{gave-whole}
 use Rattle.answer.specs.declared.Reason.the-variants.{Unsound, NoSuchType}
 use Rattle.answer.specs.declared.Answer.{Answer}

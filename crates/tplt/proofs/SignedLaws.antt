@@ -1,20 +1,18 @@
 -- What the tests on a signed literal say of it, by the cases of its sign. Assumes nothing.
 use Prim.Native.Nat.{ℕ, _≤_, _<_, _^_}
 use mathlib.Core.Path.{_≡_, refl, sym, _∙_, ap}
-use mathlib.Core.Bool.{Bool, true, false, _&&_, cond}
+use mathlib.Core.Bool.{Bool, true, false}
 use native.Mathlib.Omega.{arith}
-use lib.Dec.{T, eqb, leb, ltb}
+use lib.Dec.{T}
 use lib.IntN.{ℤ, pos, negsuc, natAbs}
 use lib.Signed.{ltZ, leZ, nonNeg, mag}
-use borrow.Author.Tests.{ltb-true, ltb-false, leb-true, leb-false, le-ltb, lt-ltb, le-leb, lt-leb, ne-eqb, eq-eqb}
+use borrow.Author.Tests.{ltb-true, ltb-false, leb-true, leb-false, le-ltb, lt-ltb, le-leb, lt-leb, ne-eqb}
 use mir.Syntax.{w32, w64}
 use mir.Val.{Fits, SFits, toZ, ofZ}
 use mir.ValLaws.{toZ-ofZ, toZ-pos}
-use Rattle.tplt.specs.Params.{typeParam, i32Param, u32Param, paramOf, countZ, countOf}
-use Rattle.tplt.specs.declared.param.TpltParam.{TpltParam}
+use Rattle.tplt.specs.Params.{typeParam, i32Param, u32Param, paramOf, countZ}
 use Rattle.tplt.specs.declared.param.TpltParam.the-variants.{Typed, NoType, AbstractInt, I32, U32, Other}
-use Rattle.tplt.specs.declared.param.ArrayCount.{ArrayCount}
-use Rattle.tplt.specs.declared.param.ArrayCount.the-variants.{Of, Without, Unfit}
+use Rattle.tplt.specs.declared.param.ArrayCount.the-variants.{Of, Unfit}
 
 clash : {P : Type 0} {b : Bool} → b ≡ true → b ≡ false → P
 clash p q = absurd (let z : _≡_ {A = ℕ} 0 1 = cc in omega arith)

@@ -1,6 +1,6 @@
 -- Document 01, "Template types": "A head (vec2 to vec4, mat2x2 to mat4x4, atomic, array; any other 4)". Assumes nothing.
 use Prim.Native.Nat.{ℕ, _+_}
-use mathlib.Core.Bool.{Bool, true, false, _&&_, _||_, cond}
+use mathlib.Core.Bool.{Bool, true, _&&_, cond}
 use mathlib.Core.List.{List, [], _∷_}
 use lib.ListN.{length}
 use lib.Dec.{eqb}

@@ -10,7 +10,7 @@ use Rattle.tplt.specs.declared.param.TpltParam.the-variants.{Typed, NoTy
 use Rattle.tplt.specs.declared.param.Arguments.{Arguments}
 use Rattle.tplt.specs.declared.param.Arguments.the-variants.{One, Two, Amiss}
 use Rattle.tplt.specs.declared.param.ArrayCount.{ArrayCount}
-use Rattle.tplt.specs.declared.param.ArrayCount.the-variants.{Of, Without, Unfit}
+use Rattle.tplt.specs.declared.param.ArrayCount.the-variants.{Of, Unfit}
 
 -- tag 0: a type's number, which is a type of the table where it is below n
 unfoldable pub typeParam : ℕ → ℤ → TpltParam

@@ -1,5 +1,5 @@
 // Template types: a head with a list of arguments is the type of that name, entered where it is absent.
-ghost use Prim.Native.Nat.{_<_, _≤_};
+ghost use Prim.Native.Nat.{_<_};
 ghost use mathlib.Core.Path.{_≡_};
 ghost use Rattle.table.specs.Table.{ceiling, Sound};
 ghost use Rattle.table.specs.Denote.{typeAt};

@@ -1,6 +1,6 @@
 -- The table of the 55 types, type by type. Assumes nothing.
-use Prim.Native.Nat.{ℕ, zero, suc, _+_, _-_, _≤_, _<_}
-use mathlib.Core.Path.{_≡_, refl, sym, _∙_, ap}
+use Prim.Native.Nat.{ℕ, suc, _+_, _-_, _≤_}
+use mathlib.Core.Path.{_≡_, refl, _∙_, ap}
 use mathlib.Core.List.{List}
 use native.Mathlib.Omega.{arith}
 use Rattle.answer.specs.Answer.{Numbers, numbersOf}
@@ -8,7 +8,7 @@ use Rattle.answer.specs.declared.Answer.{Answer}
 use Rattle.table.specs.Table.{scalars}
 use Rattle.table.specs.Placing.{enterType, Gave}
 use Rattle.table.specs.declared.Entry.{Entry}
-use Rattle.vectors.specs.Filled.{entryOf, Filled, withType, filled, containers, FillDone}
+use Rattle.vectors.specs.Filled.{entryOf, filled, containers, FillDone}
 
 -- the types below i are entered
 pub record Below (w : List ℕ) (i used : ℕ) (words : List ℕ) : Type 0 where

@@ -5,9 +5,6 @@ use mathlib.Core.Path.{sym, _∙_}
 use borrow.Author.Needs.{needs}
 use Rattle.conv.proofs.conversion_rank.Statement.{statement}
 use Rattle.conv.proofs.conversion_rank.Tie as tie
-use Rattle.conv.proofs.conversion_rank.Reads as reads
-use Rattle.conv.proofs.conversion_rank.Lts as lts
-use Rattle.conv.proofs.board.Reads as board-reads
 
 returns : tie.Need-returns
 returns c = sym (plain-from _ _ (c .if1 .taken))

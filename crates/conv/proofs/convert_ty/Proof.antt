@@ -4,9 +4,6 @@ use mathlib.Core.Path.{sym}
 use borrow.Author.Needs.{needs}
 use Rattle.conv.proofs.convert_ty.Statement.{statement}
 use Rattle.conv.proofs.convert_ty.Tie as tie
-use Rattle.conv.proofs.convert_ty.Reads as reads
-use Rattle.conv.proofs.convert_ty.Lts as lts
-use Rattle.conv.proofs.common.Reads as common-reads
 
 returns : tie.Need-returns
 returns c = sym (common-from _ _ (c .if1 .taken))

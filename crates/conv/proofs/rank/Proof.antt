@@ -3,9 +3,6 @@ use mathlib.Core.Path.{sym}
 use borrow.Author.Needs.{needs}
 use Rattle.conv.proofs.rank.Statement.{statement}
 use Rattle.conv.proofs.rank.Tie as tie
-use Rattle.conv.proofs.rank.Reads as reads
-use Rattle.conv.proofs.rank.Lts as lts
-use Rattle.conv.proofs.board.Reads as board-reads
 
 returns : tie.Need-returns
 returns c = sym (rank-from _ _ (c .if1 .taken))

@@ -1,6 +1,6 @@
 -- `entering::answer_of` meets its contract: the two cases of entering. Assumes nothing.
 use borrow.Author.Needs.{needs}
-use mathlib.Core.Path.{_≡_, sym, _∙_, ap}
+use mathlib.Core.Path.{sym, _∙_, ap}
 use Rattle.table.specs.Enter.{entryAnswer}
 use Rattle.table.specs.declared.Entered.{Entered}
 use Rattle.entering.proofs.answer_of.Statement.{statement}

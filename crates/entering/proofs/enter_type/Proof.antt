@@ -1,8 +1,6 @@
 -- `entering::enter_type` meets its contract: unsound, not allowed, no room, or entered. Assumes nothing.
-use mathlib.Core.Path.{_≡_, sym, _∙_}
-use mathlib.Core.Bool.{true, false}
+use mathlib.Core.Path.{sym, _∙_}
 use borrow.Author.Tests.{not-true, not-false}
-use Rattle.table.specs.Table.{soundb, allowedb}
 use Rattle.table.proofs.SoundLaws.{sound-of}
 use Rattle.table.proofs.EnterCases.{host-unsound, host-forbidden, host-entered}
 use borrow.Author.Needs.{needs}

@@ -1,5 +1,4 @@
 -- `entering::free_of` meets its contract: the least of the two, less the count. Assumes nothing.
-use native.Mathlib.Omega.{arith}
 use borrow.Author.Tests.{le-leb, lt-leb}
 use Rattle.table.specs.Enter.{free}
 use borrow.Author.Needs.{needs}

@@ -6,11 +6,6 @@ use mathlib.Core.Logic.{inl}
 use borrow.Author.Needs.{needs}
 use Rattle.memo.proofs.asked.Statement.{statement}
 use Rattle.memo.proofs.asked.Tie as tie
-use Rattle.memo.proofs.asked.Reads as reads
-use Rattle.memo.proofs.asked.Lts as lts
-use Rattle.memo.proofs.asked_call.Reads as asked-call-reads
-use Rattle.memo.proofs.asked_short.Reads as asked-short-reads
-use Rattle.memo.proofs.wide32.Reads as wide32-reads
 
 enum-known-item : tie.Need-enum-known-item
 enum-known-item c = search needs

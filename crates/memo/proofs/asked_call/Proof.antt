@@ -8,13 +8,6 @@ use mathlib.Core.Logic.{inl}
 use borrow.Author.Needs.{needs}
 use Rattle.memo.proofs.asked_call.Statement.{statement}
 use Rattle.memo.proofs.asked_call.Tie as tie
-use Rattle.memo.proofs.asked_call.Reads as reads
-use Rattle.memo.proofs.asked_call.Lts as lts
-use Rattle.frame.proofs.part_of.Reads as part-of-reads
-use Rattle.memo.proofs.wide.Reads as wide-reads
-use Rattle.memo.proofs.wide32.Reads as wide32-reads
-use Rattle.memo.proofs.wide64.Reads as wide64-reads
-use Rattle.names.proofs.rule_of.Reads as rule-of-reads
 
 returns : tie.Need-returns
 returns c = record { asks = inl refl }

@@ -3,9 +3,6 @@ use Rattle.memo.proofs.QuickLaws.{short-none, short-binary, short-unary
 use borrow.Author.Needs.{needs}
 use Rattle.memo.proofs.asked_short.Statement.{statement}
 use Rattle.memo.proofs.asked_short.Tie as tie
-use Rattle.memo.proofs.asked_short.Reads as reads
-use Rattle.memo.proofs.asked_short.Lts as lts
-use Rattle.memo.proofs.wide64.Reads as wide64-reads
 
 returns : tie.Need-returns
 returns c = short-none _

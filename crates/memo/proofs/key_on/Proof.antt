@@ -8,9 +8,6 @@ use Prim.Native.Nat.{_<_}
 use borrow.Author.Needs.{needs}
 use Rattle.memo.proofs.key_on.Statement.{statement}
 use Rattle.memo.proofs.key_on.Tie as tie
-use Rattle.memo.proofs.key_on.Reads as reads
-use Rattle.memo.proofs.key_on.Lts as lts
-use Rattle.memo.proofs.wide64.Reads as wide64-reads
 
 mul-one : tie.Need-mul-one
 mul-one c = search needs

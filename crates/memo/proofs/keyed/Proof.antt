@@ -8,9 +8,6 @@ use mathlib.Core.Path.{refl}
 use borrow.Author.Needs.{needs}
 use Rattle.memo.proofs.keyed.Statement.{statement}
 use Rattle.memo.proofs.keyed.Tie as tie
-use Rattle.memo.proofs.keyed.Reads as reads
-use Rattle.memo.proofs.keyed.Lts as lts
-use Rattle.memo.proofs.key_on.Reads as key-on-reads
 
 returns : tie.Need-returns
 returns c = record { keyed = inl refl }

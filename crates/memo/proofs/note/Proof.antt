@@ -5,10 +5,6 @@ use Prim.Native.Nat.{ℕ, _+_, _*_}
 use borrow.Author.Needs.{needs}
 use Rattle.memo.proofs.note.Statement.{statement}
 use Rattle.memo.proofs.note.Tie as tie
-use Rattle.memo.proofs.note.Reads as reads
-use Rattle.memo.proofs.note.Lts as lts
-use Rattle.memo.proofs.slot_of.Reads as slot-of-reads
-use Rattle.memo.proofs.wide64.Reads as wide64-reads
 
 slot-of-requires : tie.Need-slot-of-requires
 slot-of-requires c κs = search needs

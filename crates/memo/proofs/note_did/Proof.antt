@@ -5,9 +5,6 @@ use Rattle.memo.proofs.Asking.{unnoted}
 use borrow.Author.Needs.{needs}
 use Rattle.memo.proofs.note_did.Statement.{statement}
 use Rattle.memo.proofs.note_did.Tie as tie
-use Rattle.memo.proofs.note_did.Reads as reads
-use Rattle.memo.proofs.note_did.Lts as lts
-use Rattle.memo.proofs.note.Reads as note-reads
 
 enum-known-d : tie.Need-enum-known-d
 enum-known-d c = search needs

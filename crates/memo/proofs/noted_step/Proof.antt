@@ -6,13 +6,6 @@ use mathlib.Core.Path.{_∙_}
 use borrow.Author.Needs.{needs}
 use Rattle.memo.proofs.noted_step.Statement.{statement}
 use Rattle.memo.proofs.noted_step.Tie as tie
-use Rattle.memo.proofs.noted_step.Reads as reads
-use Rattle.memo.proofs.noted_step.Lts as lts
-use Rattle.memo.proofs.asked.Reads as asked-reads
-use Rattle.memo.proofs.keyed.Reads as keyed-reads
-use Rattle.memo.proofs.note_did.Reads as note-did-reads
-use Rattle.memo.proofs.recall.Reads as recall-reads
-use Rattle.step.proofs.step.Reads as step-reads
 
 asked-requires : tie.Need-asked-requires
 asked-requires c κs = search needs

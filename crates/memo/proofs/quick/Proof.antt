@@ -9,12 +9,6 @@ use mathlib.Core.List.{[]}
 use borrow.Author.Needs.{needs}
 use Rattle.memo.proofs.quick.Statement.{statement}
 use Rattle.memo.proofs.quick.Tie as tie
-use Rattle.memo.proofs.quick.Reads as reads
-use Rattle.memo.proofs.quick.Lts as lts
-use Rattle.memo.proofs.asked_short.Reads as asked-short-reads
-use Rattle.memo.proofs.keyed.Reads as keyed-reads
-use Rattle.memo.proofs.quick_push.Reads as quick-push-reads
-use Rattle.memo.proofs.recall.Reads as recall-reads
 
 quick-push-requires : tie.Need-quick-push-requires
 quick-push-requires c κs = search needs

@@ -3,10 +3,6 @@ use Rattle.memo.proofs.QuickLaws.{quick-there}
 use borrow.Author.Needs.{needs}
 use Rattle.memo.proofs.quick_at.Statement.{statement}
 use Rattle.memo.proofs.quick_at.Tie as tie
-use Rattle.memo.proofs.quick_at.Reads as reads
-use Rattle.memo.proofs.quick_at.Lts as lts
-use Rattle.memo.proofs.quick.Reads as quick-reads
-use Rattle.memo.proofs.short_at.Reads as short-at-reads
 
 short-at-requires : tie.Need-short-at-requires
 short-at-requires c κs = search needs

@@ -10,9 +10,6 @@ use Rattle.memo.proofs.QuickLaws.{quick-push}
 use borrow.Author.Needs.{needs}
 use Rattle.memo.proofs.quick_push.Statement.{statement}
 use Rattle.memo.proofs.quick_push.Tie as tie
-use Rattle.memo.proofs.quick_push.Reads as reads
-use Rattle.memo.proofs.quick_push.Lts as lts
-use Rattle.held.proofs.value.Reads as value-reads
 
 cast-stack : tie.Need-cast-stack
 cast-stack c = search needs

@@ -6,9 +6,6 @@ use mathlib.Core.Logic.{inl, inr}
 use borrow.Author.Needs.{needs}
 use Rattle.memo.proofs.recall.Statement.{statement}
 use Rattle.memo.proofs.recall.Tie as tie
-use Rattle.memo.proofs.recall.Reads as reads
-use Rattle.memo.proofs.recall.Lts as lts
-use Rattle.memo.proofs.slot_of.Reads as slot-of-reads
 
 slot-of-requires : tie.Need-slot-of-requires
 slot-of-requires c κs = search needs

@@ -11,9 +11,6 @@ use Rattle.memo.proofs.Asking.{neither}
 use borrow.Author.Needs.{needs}
 use Rattle.memo.proofs.short_at.Statement.{statement}
 use Rattle.memo.proofs.short_at.Tie as tie
-use Rattle.memo.proofs.short_at.Reads as reads
-use Rattle.memo.proofs.short_at.Lts as lts
-use Rattle.memo.proofs.wide32.Reads as wide32-reads
 
 returns : tie.Need-returns
 returns c = record { found = inl refl }

@@ -1,11 +1,10 @@
 -- `names::has_eight` meets its contract. The loop's invariant: at every place passed the name has the letter. Assumes nothing.
 use Prim.Native.Nat.{ℕ, _+_, _-_, _≤_, _<_}
 use mathlib.Core.Path.{_≡_, sym, _∙_}
-use mathlib.Core.Bool.{true, false}
 use borrow.Author.Needs.{needs}
 use borrow.Author.Count.{below-more}
 use native.Mathlib.Omega.{arith}
-use lib.ListN.{length, getD}
+use lib.ListN.{getD}
 use Rattle.names.specs.Search.{letterOf, HasEight}
 use Rattle.names.proofs.has_eight.Statement.{statement}
 use Rattle.names.proofs.has_eight.Tie as tie

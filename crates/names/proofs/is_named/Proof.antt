@@ -2,12 +2,12 @@
 use mathlib.Core.Path.{_≡_, refl, sym, _∙_, ap}
 use mathlib.Core.Bool.{Bool, true, false}
 use mathlib.Core.List.{List}
-use Prim.Native.Nat.{ℕ, _<_, _≤_}
+use Prim.Native.Nat.{ℕ}
 use borrow.Author.Needs.{needs}
 use borrow.Author.Tests.{not-true, not-false}
 use native.Mathlib.Omega.{arith}
 use lib.ListN.{length}
-use Rattle.names.specs.Names.{nameAt, count, sameBytes}
+use Rattle.names.specs.Names.{nameAt, sameBytes}
 use Rattle.names.specs.Search.{Has, HasEight}
 use Rattle.names.proofs.Bytes.{differ}
 use Rattle.names.proofs.Table.{Eight, first, second, third, has, lacks, agree}

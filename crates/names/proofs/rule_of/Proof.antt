@@ -2,7 +2,6 @@
 -- Assumes nothing.
 use mathlib.Core.Path.{sym, _∙_, ap}
 use borrow.Author.Needs.{needs}
-use native.Mathlib.Omega.{arith}
 use Rattle.names.specs.Names.{ruleOf, said}
 use Rattle.names.specs.Names.Known.{known}
 use Rattle.names.specs.Search.{rowOfSlot}

@@ -1,14 +1,12 @@
 -- `ops_ty::type_binary_op` meets its contract: 1, then 2 from left to right, then the call. Assumes nothing.
 use borrow.Author.Needs.{needs}
 use borrow.Author.Tests.{not-true, not-false}
-use mathlib.Core.Path.{_≡_, sym, _∙_}
+use mathlib.Core.Path.{sym, _∙_}
 use Rattle.table.proofs.SoundLaws.{sound-of}
 use Rattle.ruled.proofs.Outcomes.{gave-as, gave-refused}
 use Rattle.ops_ty.proofs.Ways.{binary-unsound, binary-beyond, binary-beyond-2, binary-call}
 use Rattle.ops_ty.proofs.type_binary_op.Statement.{statement}
 use Rattle.ops_ty.proofs.type_binary_op.Tie as tie
-use Rattle.ops_ty.proofs.type_binary_op.Reads as reads
-use Rattle.ops_ty.proofs.type_binary_op.Lts as lts
 
 sound-requires : tie.Need-sound-requires
 sound-requires c κs = search needs

@@ -1,13 +1,11 @@
 -- `ops_ty::type_deref` meets its contract: by the words of the operand's entry. Assumes nothing.
 use borrow.Author.Needs.{needs}
 use native.Mathlib.Omega.{arith}
-use mathlib.Core.Path.{_≡_, refl, sym, _∙_, ap}
+use mathlib.Core.Path.{refl}
 use Rattle.ruled.proofs.Outcomes.{gave-as, gave-from, gave-refused}
 use Rattle.ops_ty.proofs.Pointers.{ptr-no, ptr-enter}
 use Rattle.ops_ty.proofs.type_deref.Statement.{statement}
 use Rattle.ops_ty.proofs.type_deref.Tie as tie
-use Rattle.ops_ty.proofs.type_deref.Reads as reads
-use Rattle.ops_ty.proofs.type_deref.Lts as lts
 
 entry-at-requires : tie.Need-entry-at-requires
 entry-at-requires c κs = let s = c .before .before in let r = s .pre .0 .room in let l = s .pre .1 in omega arith

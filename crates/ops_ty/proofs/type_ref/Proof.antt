@@ -1,13 +1,11 @@
 -- `ops_ty::type_ref` meets its contract: by the words of the operand's entry. Assumes nothing.
 use borrow.Author.Needs.{needs}
 use native.Mathlib.Omega.{arith}
-use mathlib.Core.Path.{_≡_, refl, sym, _∙_, ap}
+use mathlib.Core.Path.{refl}
 use Rattle.ruled.proofs.Outcomes.{gave-as, gave-from, gave-refused}
 use Rattle.ops_ty.proofs.Pointers.{ref-no, ref-handle, ref-enter}
 use Rattle.ops_ty.proofs.type_ref.Statement.{statement}
 use Rattle.ops_ty.proofs.type_ref.Tie as tie
-use Rattle.ops_ty.proofs.type_ref.Reads as reads
-use Rattle.ops_ty.proofs.type_ref.Lts as lts
 
 entry-at-requires : tie.Need-entry-at-requires
 entry-at-requires c κs = let s = c .before .before in let r = s .pre .0 .room in let l = s .pre .1 in omega arith

@@ -1,7 +1,5 @@
 -- `ops_ty::unary_at` meets its contract: each way out is one of the laws of Ways. Assumes nothing.
 use borrow.Author.Needs.{needs}
-use native.Mathlib.Omega.{arith}
-use mathlib.Core.Path.{_≡_, refl, sym, _∙_, ap}
 use Rattle.table.specs.Denote.{typeAt}
 use Rattle.table.proofs.FormedLaws.{formed-at}
 use Rattle.ruled.proofs.Outcomes.{gave-as, gave-refused}
@@ -9,8 +7,6 @@ use Rattle.ruled.proofs.Loaded.{offered, not-offered}
 use Rattle.ops_ty.proofs.Ways.{unary-unknown, unary-address, unary-reference, unary-indirection, unary-row}
 use Rattle.ops_ty.proofs.unary_at.Statement.{statement}
 use Rattle.ops_ty.proofs.unary_at.Tie as tie
-use Rattle.ops_ty.proofs.unary_at.Reads as reads
-use Rattle.ops_ty.proofs.unary_at.Lts as lts
 
 refused-requires : tie.Need-refused-requires
 refused-requires c κs = search needs

@@ -9,10 +9,6 @@ use Rattle.conv.proofs.Ranks.{common-width}
 use Rattle.overload.proofs.Slots.{plain-accepts, common-accepts}
 use Rattle.overload.proofs.common.Statement.{statement}
 use Rattle.overload.proofs.common.Tie as tie
-use Rattle.overload.proofs.common.Reads as reads
-use Rattle.overload.proofs.common.Lts as lts
-use Rattle.conv.proofs.convert_ty.Reads as convert-ty-reads
-use Rattle.overload.proofs.base_of.Reads as base-of-reads
 
 base-of-requires : tie.Need-base-of-requires
 base-of-requires c κs = search needs

@@ -7,10 +7,6 @@ use mathlib.Core.Path.{_≡_}
 use Rattle.overload.specs.Code.{askedOf}
 use Rattle.overload.proofs.component.Statement.{statement}
 use Rattle.overload.proofs.component.Tie as tie
-use Rattle.overload.proofs.component.Reads as reads
-use Rattle.overload.proofs.component.Lts as lts
-use Rattle.overload.proofs.tables.start.Reads as start-reads
-use Rattle.std.proofs.num.wrapping_sub_u8.Reads as wrapping-sub-u8-reads
 
 start-requires : tie.Need-start-requires
 start-requires c κs = search needs

@@ -7,8 +7,6 @@ use Rattle.overload.specs.Code.{shapeOfNo, entry}
 use Rattle.overload.proofs.Lines.{line}
 use Rattle.overload.proofs.form_of.Statement.{statement}
 use Rattle.overload.proofs.form_of.Tie as tie
-use Rattle.overload.proofs.form_of.Reads as reads
-use Rattle.overload.proofs.form_of.Lts as lts
 
 mul-result : tie.Need-mul-result
 mul-result c = search needs

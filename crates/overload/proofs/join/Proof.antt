@@ -13,11 +13,6 @@ use Rattle.overload.proofs.Places.{size-small, size-proper}
 use Rattle.overload.proofs.Joins.{Joining, first-apart, joining-start, joining-next, joining-none, joining-end, count-some, word-below, word-shape}
 use Rattle.overload.proofs.join.Statement.{statement}
 use Rattle.overload.proofs.join.Tie as tie
-use Rattle.overload.proofs.join.Reads as reads
-use Rattle.overload.proofs.join.Lts as lts
-use Rattle.overload.proofs.component.Reads as component-reads
-use Rattle.overload.proofs.join_slot.Reads as join-slot-reads
-use Rattle.overload.proofs.tables.word.Reads as word-reads
 
 abbrev Inv-loop : tie.InvT-loop
 Inv-loop f w n starts xs j₀ i₀ j i = Joining f n xs j i

@@ -13,11 +13,6 @@ use Rattle.overload.specs.Code.{operand, sizeOfNo, patternOfNo, askedOf}
 use Rattle.overload.proofs.Slots.{other-shape, same-shape, slot-apart, slot-T, slot-fixed, both-false, both-true, both-same, none-accepts, plain-accepts}
 use Rattle.overload.proofs.join_slot.Statement.{statement}
 use Rattle.overload.proofs.join_slot.Tie as tie
-use Rattle.overload.proofs.join_slot.Reads as reads
-use Rattle.overload.proofs.join_slot.Lts as lts
-use Rattle.conv.proofs.rank.Reads as rank-reads
-use Rattle.overload.proofs.common.Reads as common-reads
-use Rattle.overload.proofs.component.Reads as component-reads
 
 component-requires : tie.Need-component-requires
 component-requires c κs = search needs

@@ -6,10 +6,6 @@ use Rattle.overload.specs.Code.{outOf, familyOf}
 use Rattle.overload.proofs.Resolving.{wrap-word, wrapped-frexp, wrapped-modf, wrapped-bare}
 use Rattle.overload.proofs.out_of.Statement.{statement}
 use Rattle.overload.proofs.out_of.Tie as tie
-use Rattle.overload.proofs.out_of.Reads as reads
-use Rattle.overload.proofs.out_of.Lts as lts
-use Rattle.overload.proofs.result_of.Reads as result-of-reads
-use Rattle.overload.proofs.tables.word.Reads as word-reads
 
 result-of-requires : tie.Need-result-of-requires
 result-of-requires c κs = search needs

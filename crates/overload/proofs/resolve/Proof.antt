@@ -12,12 +12,6 @@ use Rattle.overload.proofs.Resolving.{not-found, other-form}
 use Rattle.overload.proofs.Judge.{judge-is}
 use Rattle.overload.proofs.resolve.Statement.{statement}
 use Rattle.overload.proofs.resolve.Tie as tie
-use Rattle.overload.proofs.resolve.Reads as reads
-use Rattle.overload.proofs.resolve.Lts as lts
-use Rattle.overload.proofs.form_of.Reads as form-of-reads
-use Rattle.overload.proofs.resolve_family.Reads as resolve-family-reads
-use Rattle.overload.proofs.shape_of.Reads as shape-of-reads
-use Rattle.overload.proofs.tables.family_at.Reads as family-at-reads
 
 returns : tie.Need-returns
 returns c =

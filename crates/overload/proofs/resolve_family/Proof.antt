@@ -11,17 +11,6 @@ use Rattle.overload.proofs.Places.{size-small}
 use Rattle.overload.proofs.Resolving.{family-apart, family-found, in-row, count-word, count-apart, low-apart, high-apart, join-apart, lift-apart, preferred, lifted-small}
 use Rattle.overload.proofs.resolve_family.Statement.{statement}
 use Rattle.overload.proofs.resolve_family.Tie as tie
-use Rattle.overload.proofs.resolve_family.Reads as reads
-use Rattle.overload.proofs.resolve_family.Lts as lts
-use Rattle.overload.proofs.join.Reads as join-reads
-use Rattle.overload.proofs.out_of.Reads as out-of-reads
-use Rattle.overload.proofs.shape_of.Reads as shape-of-reads
-use Rattle.overload.proofs.size_at.Reads as size-at-reads
-use Rattle.overload.proofs.wide.Reads as wide-reads
-use Rattle.overload.proofs.tables.family_word.Reads as family-word-reads
-use Rattle.overload.proofs.tables.lift.Reads as lift-reads
-use Rattle.overload.proofs.tables.starts_at.Reads as starts-at-reads
-use Rattle.overload.proofs.tables.word.Reads as word-reads
 
 family-word-requires : tie.Need-family-word-requires
 family-word-requires c κs = search needs

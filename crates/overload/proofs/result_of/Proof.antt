@@ -8,10 +8,6 @@ use Rattle.overload.specs.Code.{wordOf, askedOf}
 use Rattle.overload.proofs.Resolving.{result-shape, result-below, result-is}
 use Rattle.overload.proofs.result_of.Statement.{statement}
 use Rattle.overload.proofs.result_of.Tie as tie
-use Rattle.overload.proofs.result_of.Reads as reads
-use Rattle.overload.proofs.result_of.Lts as lts
-use Rattle.overload.proofs.tables.start.Reads as start-reads
-use Rattle.overload.proofs.tables.word.Reads as word-reads
 
 word-requires : tie.Need-word-requires
 word-requires c κs = search needs

@@ -1,12 +1,8 @@
 use Rattle.overload.specs.Code.{sizeAt}
-use mathlib.Core.Path.{sym}
 use borrow.Author.Tests.{eq-eqb, ne-eqb}
 use borrow.Author.Needs.{needs}
 use Rattle.overload.proofs.size_at.Statement.{statement}
 use Rattle.overload.proofs.size_at.Tie as tie
-use Rattle.overload.proofs.size_at.Reads as reads
-use Rattle.overload.proofs.size_at.Lts as lts
-use Rattle.overload.proofs.tables.word.Reads as word-reads
 
 word-requires : tie.Need-word-requires
 word-requires c κs = search needs

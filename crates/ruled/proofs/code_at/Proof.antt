@@ -1,13 +1,9 @@
 -- `ruled::code_at` meets its contract: by the kind of the entry, whose words are those of its type. Assumes nothing.
 use borrow.Author.Needs.{needs}
 use native.Mathlib.Omega.{arith}
-use mathlib.Core.Path.{_≡_, sym, _∙_}
 use Rattle.ruled.proofs.Codes.{scalar-code, vec-read, mat-read, ref-read, other-read}
 use Rattle.ruled.proofs.code_at.Statement.{statement}
 use Rattle.ruled.proofs.code_at.Tie as tie
-use Rattle.ruled.proofs.code_at.Reads as reads
-use Rattle.ruled.proofs.code_at.Lts as lts
-use Rattle.table.proofs.entry_at.Reads as entry-at-reads
 
 cast-result : tie.Need-cast-result
 cast-result c = search needs

@@ -1,6 +1,6 @@
 -- `ruled::enter_out` meets its contract: each form of a result is the outcome of its type. Assumes nothing.
 use borrow.Author.Needs.{needs}
-use mathlib.Core.Path.{_≡_, sym, _∙_, ap, subst}
+use mathlib.Core.Path.{sym, _∙_, ap, subst}
 use mathlib.Core.Bool.{not}
 use lib.Dec.{T}
 use Rattle.conv.specs.Types.{formed, isRuntime}
@@ -10,8 +10,6 @@ use Rattle.table.specs.Placing.{entering}
 use Rattle.ruled.proofs.Outcomes.{plain-outcome, frexp-outcome, modf-outcome, gave-from}
 use Rattle.ruled.proofs.enter_out.Statement.{statement}
 use Rattle.ruled.proofs.enter_out.Tie as tie
-use Rattle.ruled.proofs.enter_out.Reads as reads
-use Rattle.ruled.proofs.enter_out.Lts as lts
 
 enum-known-out : tie.Need-enum-known-out
 enum-known-out c = search needs

@@ -1,11 +1,8 @@
 -- `ruled::enter_plain` meets its contract: a scalar has its own number, a vector and a matrix are one entry. Assumes nothing.
 use borrow.Author.Needs.{needs}
-use native.Mathlib.Omega.{arith}
 use Rattle.ruled.proofs.Outcomes.{plain-scalar, plain-vec, plain-mat}
 use Rattle.ruled.proofs.enter_plain.Statement.{statement}
 use Rattle.ruled.proofs.enter_plain.Tie as tie
-use Rattle.ruled.proofs.enter_plain.Reads as reads
-use Rattle.ruled.proofs.enter_plain.Lts as lts
 
 returns : tie.Need-returns
 returns c = let a = c .before .before .args in plain-scalar (a .words .now) (a .n) (a .x) (c .if1 .taken)

@@ -4,8 +4,6 @@ use Rattle.ruled.specs.Result.{vecEntry}
 use Rattle.ruled.proofs.Outcomes.{result-scalar, result-vec}
 use Rattle.ruled.proofs.enter_result.Statement.{statement}
 use Rattle.ruled.proofs.enter_result.Tie as tie
-use Rattle.ruled.proofs.enter_result.Reads as reads
-use Rattle.ruled.proofs.enter_result.Lts as lts
 
 enter-requires : tie.Need-enter-requires
 enter-requires c κs = search needs

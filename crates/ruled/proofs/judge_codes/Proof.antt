@@ -1,23 +1,13 @@
 -- `ruled::judge_codes` meets its contract: the three judgments, each with its outcome. Assumes nothing.
 use borrow.Author.Needs.{needs}
-use mathlib.Core.Path.{_≡_, sym, _∙_, ap}
-use mathlib.Core.Bool.{not}
+use mathlib.Core.Path.{sym, _∙_, ap}
 use mathlib.Core.List.{map}
-use lib.Dec.{T}
-use Rattle.conv.specs.Types.{formed, isRuntime}
-use Rattle.overload.specs.Overload.{Judged}
-use Rattle.overload.specs.Overload.Judged.{gives, noneFits, nonePreferred}
-use Rattle.overload.specs.Rows.{judgeRow}
 use Rattle.overload.specs.Code.{operand, outOf, judgedOf}
-use Rattle.overload.specs.declared.Resolution.{Resolution}
-use Rattle.overload.specs.declared.Resolution.the-variants.{Gives, NoneFits, NonePreferred}
 use Rattle.overload.proofs.Results.{gives-formed}
 use Rattle.ruled.proofs.Outcomes.{gave-as, gave-refused}
 use Rattle.ruled.specs.Call.{judgedOutcome}
 use Rattle.ruled.proofs.judge_codes.Statement.{statement}
 use Rattle.ruled.proofs.judge_codes.Tie as tie
-use Rattle.ruled.proofs.judge_codes.Reads as reads
-use Rattle.ruled.proofs.judge_codes.Lts as lts
 
 resolve-requires : tie.Need-resolve-requires
 resolve-requires c κs = search needs

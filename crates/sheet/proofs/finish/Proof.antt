@@ -7,11 +7,6 @@ use Rattle.step.proofs.StackLaws.{sized, value-in}
 use borrow.Author.Needs.{needs}
 use Rattle.sheet.proofs.finish.Statement.{statement}
 use Rattle.sheet.proofs.finish.Tie as tie
-use Rattle.sheet.proofs.finish.Reads as reads
-use Rattle.sheet.proofs.finish.Lts as lts
-use Rattle.held.proofs.number.Reads as number-reads
-use Rattle.table.proofs.accepted.Reads as accepted-reads
-use Rattle.table.proofs.refused.Reads as refused-reads
 
 shared-slice-read-number : tie.Need-shared-slice-read-number
 shared-slice-read-number c = search needs

@@ -5,10 +5,6 @@ use Rattle.sheet.proofs.Turning.{left-high, left-early, left-last}
 use borrow.Author.Needs.{needs}
 use Rattle.sheet.proofs.leave.Statement.{statement}
 use Rattle.sheet.proofs.leave.Tie as tie
-use Rattle.sheet.proofs.leave.Reads as reads
-use Rattle.sheet.proofs.leave.Lts as lts
-use Rattle.answer.proofs.no_value.Reads as no-value-reads
-use Rattle.answer.proofs.refused.Reads as refused-reads
 
 refused-requires : tie.Need-refused-requires
 refused-requires c κs = search needs

@@ -6,11 +6,6 @@ use Rattle.sheet.proofs.Turning.{turn-at, after-turn}
 use borrow.Author.Needs.{needs}
 use Rattle.sheet.proofs.one_turn.Statement.{statement}
 use Rattle.sheet.proofs.one_turn.Tie as tie
-use Rattle.sheet.proofs.one_turn.Reads as reads
-use Rattle.sheet.proofs.one_turn.Lts as lts
-use Rattle.frame.proofs.item_at.Reads as item-at-reads
-use Rattle.memo.proofs.noted_step.Reads as noted-step-reads
-use Rattle.sheet.proofs.turn_by.Reads as turn-by-reads
 
 item-at-requires : tie.Need-item-at-requires
 item-at-requires c κs = search needs

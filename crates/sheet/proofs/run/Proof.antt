@@ -5,9 +5,6 @@ use Rattle.memo.proofs.MemoLaws.{recalls-none}
 use borrow.Author.Needs.{needs}
 use Rattle.sheet.proofs.run.Statement.{statement}
 use Rattle.sheet.proofs.run.Tie as tie
-use Rattle.sheet.proofs.run.Reads as reads
-use Rattle.sheet.proofs.run.Lts as lts
-use Rattle.sheet.proofs.run_on.Reads as run-on-reads
 
 slice-aggregate-run-on : tie.Need-slice-aggregate-run-on
 slice-aggregate-run-on c = search needs

@@ -9,10 +9,6 @@ use Rattle.sheet.specs.Code.{AfterTurn}
 use Rattle.sheet.proofs.Running.{Left, left-start, left-rushed, left-again, left-less, left-done}
 use Rattle.sheet.proofs.run_on.Statement.{statement}
 use Rattle.sheet.proofs.run_on.Tie as tie
-use Rattle.sheet.proofs.run_on.Reads as reads
-use Rattle.sheet.proofs.run_on.Lts as lts
-use Rattle.sheet.proofs.one_turn.Reads as one-turn-reads
-use Rattle.sheet.proofs.rush.Reads as rush-reads
 
 abbrev Inv-loop : tie.InvT-loop
 Inv-loop sheet table₀ used stack₀ memo₀ count₀ n₀ at₀ table stack memo count n at = Left sheet table₀ used table stack count n at × Recalls memo table n

@@ -9,9 +9,6 @@ use Rattle.sheet.specs.Code.{Rushes}
 use Rattle.sheet.proofs.Running.{quick-stays, quick-went, rush-on}
 use Rattle.sheet.proofs.rush.Statement.{statement}
 use Rattle.sheet.proofs.rush.Tie as tie
-use Rattle.sheet.proofs.rush.Reads as reads
-use Rattle.sheet.proofs.rush.Lts as lts
-use Rattle.memo.proofs.quick_at.Reads as quick-at-reads
 
 abbrev Inv-loop : tie.InvT-loop
 Inv-loop sheet stack₀ high table used memo at₀ count₀ stack at count = Rushes sheet at₀ count₀ stack₀ used table (record { at = record { 0 = at }; count = count }) stack

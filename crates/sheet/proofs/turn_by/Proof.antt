@@ -4,10 +4,6 @@ use Rattle.sheet.proofs.Turning.{turn-goes, turn-silent, counted-end, t
 use borrow.Author.Needs.{needs}
 use Rattle.sheet.proofs.turn_by.Statement.{statement}
 use Rattle.sheet.proofs.turn_by.Tie as tie
-use Rattle.sheet.proofs.turn_by.Reads as reads
-use Rattle.sheet.proofs.turn_by.Lts as lts
-use Rattle.sheet.proofs.finish.Reads as finish-reads
-use Rattle.sheet.proofs.leave.Reads as leave-reads
 
 enum-known-d : tie.Need-enum-known-d
 enum-known-d c = search needs

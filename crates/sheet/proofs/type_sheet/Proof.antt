@@ -2,17 +2,11 @@
 use Rattle.sheet.proofs.Running.{sheet-unsound, sheet-unheaded, sheet-runs}
 use Rattle.ruled.proofs.Outcomes.{gave-as, gave-refused}
 use Rattle.table.proofs.SoundLaws.{sound-of}
-use mathlib.Core.Path.{_≡_, sym, _∙_}
+use mathlib.Core.Path.{sym, _∙_}
 use borrow.Author.Tests.{not-true, not-false}
 use borrow.Author.Needs.{needs}
 use Rattle.sheet.proofs.type_sheet.Statement.{statement}
 use Rattle.sheet.proofs.type_sheet.Tie as tie
-use Rattle.sheet.proofs.type_sheet.Reads as reads
-use Rattle.sheet.proofs.type_sheet.Lts as lts
-use Rattle.frame.proofs.header.Reads as header-reads
-use Rattle.sheet.proofs.run.Reads as run-reads
-use Rattle.table.proofs.refused.Reads as refused-reads
-use Rattle.table.proofs.sound.Reads as sound-reads
 
 sound-requires : tie.Need-sound-requires
 sound-requires c κs = search needs

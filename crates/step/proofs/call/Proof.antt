@@ -5,12 +5,6 @@ use Rattle.step.proofs.Effects.{does-as, refusing, call-short, call-goe
 use borrow.Author.Needs.{needs}
 use Rattle.step.proofs.call.Statement.{statement}
 use Rattle.step.proofs.call.Tie as tie
-use Rattle.step.proofs.call.Reads as reads
-use Rattle.step.proofs.call.Lts as lts
-use Rattle.frame.proofs.part_of.Reads as part-of-reads
-use Rattle.step.proofs.call_on.Reads as call-on-reads
-use Rattle.step.proofs.stopped.Reads as stopped-reads
-use Rattle.step.proofs.wide.Reads as wide-reads
 
 wide-requires : tie.Need-wide-requires
 wide-requires c κs = search needs

@@ -4,10 +4,6 @@ use Rattle.step.proofs.Items.{args-under, call-pushes, call-does}
 use borrow.Author.Needs.{needs}
 use Rattle.step.proofs.call_on.Statement.{statement}
 use Rattle.step.proofs.call_on.Tie as tie
-use Rattle.step.proofs.call_on.Reads as reads
-use Rattle.step.proofs.call_on.Lts as lts
-use Rattle.call_ty.proofs.call_at.Reads as call-at-reads
-use Rattle.step.proofs.settle.Reads as settle-reads
 
 sub-base : tie.Need-sub-base
 sub-base c = search needs

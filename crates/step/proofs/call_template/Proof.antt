@@ -9,12 +9,6 @@ use mathlib.Core.List.{[], _∷_}
 use borrow.Author.Needs.{needs}
 use Rattle.step.proofs.call_template.Statement.{statement}
 use Rattle.step.proofs.call_template.Tie as tie
-use Rattle.step.proofs.call_template.Reads as reads
-use Rattle.step.proofs.call_template.Lts as lts
-use Rattle.frame.proofs.part_of.Reads as part-of-reads
-use Rattle.step.proofs.call_on.Reads as call-on-reads
-use Rattle.step.proofs.stopped.Reads as stopped-reads
-use Rattle.step.proofs.wide.Reads as wide-reads
 
 -- the list of one number below n
 one : (t n : ℕ) → t < n → (i : ℕ) → i < 1 → getD (t ∷ []) i 0 < n

@@ -3,9 +3,6 @@ use mathlib.Core.Path.{refl}
 use borrow.Author.Needs.{needs}
 use Rattle.step.proofs.entry.Statement.{statement}
 use Rattle.step.proofs.entry.Tie as tie
-use Rattle.step.proofs.entry.Reads as reads
-use Rattle.step.proofs.entry.Lts as lts
-use Rattle.step.proofs.wide32.Reads as wide32-reads
 
 wide32-requires : tie.Need-wide32-requires
 wide32-requires c κs = search needs

@@ -1,14 +1,9 @@
 -- `step::push` meets its contract: 2 before 11, else one value more. Assumes nothing.
-use native.Mathlib.Omega.{arith}
 use Rattle.step.proofs.Effects.{refusing, push-unknown, push-full, push-does}
 use Rattle.answer.specs.declared.Reason.the-variants.{NoSuchType, Stack}
 use borrow.Author.Needs.{needs}
 use Rattle.step.proofs.push.Statement.{statement}
 use Rattle.step.proofs.push.Tie as tie
-use Rattle.step.proofs.push.Reads as reads
-use Rattle.step.proofs.push.Lts as lts
-use Rattle.step.proofs.stopped.Reads as stopped-reads
-use Rattle.held.proofs.value.Reads as value-reads
 
 stopped-requires : tie.Need-stopped-requires
 stopped-requires c κs = search needs

@@ -1,17 +1,9 @@
 -- `step::settle` meets its contract: a value becomes the next of the stack. Assumes nothing.
-use Prim.Native.Nat.{ℕ, _<_}
-use lib.ListN.{length}
 use native.Mathlib.Omega.{arith}
 use Rattle.step.proofs.Effects.{settle-value, settle-silent, settle-refused}
-use Rattle.step.specs.Code.{Pushes}
-use Rattle.answer.specs.declared.Answer.the-variants.{Value}
-use Rattle.answer.specs.declared.Answer.{Answer}
 use borrow.Author.Needs.{needs}
 use Rattle.step.proofs.settle.Statement.{statement}
 use Rattle.step.proofs.settle.Tie as tie
-use Rattle.step.proofs.settle.Reads as reads
-use Rattle.step.proofs.settle.Lts as lts
-use Rattle.held.proofs.value.Reads as value-reads
 
 enum-known-a : tie.Need-enum-known-a
 enum-known-a c = search needs

@@ -7,16 +7,6 @@ use mathlib.Core.Path.{refl}
 use borrow.Author.Needs.{needs}
 use Rattle.step.proofs.step.Statement.{statement}
 use Rattle.step.proofs.step.Tie as tie
-use Rattle.step.proofs.step.Reads as reads
-use Rattle.step.proofs.step.Lts as lts
-use Rattle.step.proofs.binary.Reads as binary-reads
-use Rattle.step.proofs.call.Reads as call-reads
-use Rattle.step.proofs.call_template.Reads as call-template-reads
-use Rattle.step.proofs.entry.Reads as entry-reads
-use Rattle.step.proofs.push.Reads as push-reads
-use Rattle.step.proofs.stopped.Reads as stopped-reads
-use Rattle.step.proofs.take_in.Reads as take-in-reads
-use Rattle.step.proofs.unary.Reads as unary-reads
 
 enum-known-item : tie.Need-enum-known-item
 enum-known-item c = search needs

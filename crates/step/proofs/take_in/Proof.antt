@@ -7,13 +7,6 @@ use Rattle.answer.specs.declared.Reason.the-variants.{Template, Stack}
 use borrow.Author.Needs.{needs}
 use Rattle.step.proofs.take_in.Statement.{statement}
 use Rattle.step.proofs.take_in.Tie as tie
-use Rattle.step.proofs.take_in.Reads as reads
-use Rattle.step.proofs.take_in.Lts as lts
-use Rattle.entering.proofs.answer_of.Reads as answer-of-reads
-use Rattle.step.proofs.settle.Reads as settle-reads
-use Rattle.step.proofs.stopped.Reads as stopped-reads
-use Rattle.table.proofs.allowed.Reads as allowed-reads
-use Rattle.entering.proofs.enter.Reads as enter-reads
 
 allowed-requires : tie.Need-allowed-requires
 allowed-requires c κs = search needs

@@ -6,13 +6,6 @@ use Rattle.answer.specs.declared.Reason.the-variants.{Stack}
 use borrow.Author.Needs.{needs}
 use Rattle.step.proofs.unary.Statement.{statement}
 use Rattle.step.proofs.unary.Tie as tie
-use Rattle.step.proofs.unary.Reads as reads
-use Rattle.step.proofs.unary.Lts as lts
-use Rattle.ops_ty.proofs.unary_at.Reads as unary-at-reads
-use Rattle.held.proofs.number.Reads as number-reads
-use Rattle.step.proofs.settle.Reads as settle-reads
-use Rattle.step.proofs.stopped.Reads as stopped-reads
-use Rattle.step.proofs.wide.Reads as wide-reads
 
 stopped-requires : tie.Need-stopped-requires
 stopped-requires c κs = search needs

@@ -1,12 +1,12 @@
 -- `table::find` meets its contract. The loop has found nothing yet. Assumes nothing.
 use mathlib.Core.Path.{_≡_, sym, _∙_, ap}
 use mathlib.Core.Bool.{true, false}
-use Prim.Native.Nat.{ℕ, _≤_, _-_}
+use Prim.Native.Nat.{_≤_, _-_}
 use native.Mathlib.Omega.{arith}
 use borrow.Author.Needs.{needs}
 use Rattle.table.specs.Table.{entryAt, sameb, findIn}
 use Rattle.table.specs.declared.Entry.{Entry}
-use Rattle.table.specs.declared.Found.the-variants.{At, Nothing}
+use Rattle.table.specs.declared.Found.the-variants.{Nothing}
 use Rattle.table.proofs.TableLaws.{find-none, find-more, find-stop}
 use Rattle.table.proofs.find.Statement.{statement}
 use Rattle.table.proofs.find.Tie as tie

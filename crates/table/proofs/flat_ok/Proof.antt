@@ -1,6 +1,4 @@
 -- `table::flat_ok` meets its contract: each return is the row of the kind that its tests tell. Assumes nothing.
-use mathlib.Core.Path.{_≡_}
-use Prim.Native.Nat.{ℕ}
 use native.Mathlib.Omega.{arith}
 use borrow.Author.Tests.{eq-eqb, ne-eqb}
 use Rattle.table.specs.Table.{rowOk}

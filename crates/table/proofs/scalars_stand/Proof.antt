@@ -1,5 +1,5 @@
 -- `table::scalars_stand` meets its contract. The loop has passed scalars alone. Assumes nothing.
-use Prim.Native.Nat.{ℕ, _≤_, _-_}
+use Prim.Native.Nat.{_≤_, _-_}
 use mathlib.Core.Path.{_≡_, sym, _∙_, ap}
 use mathlib.Core.Bool.{true, false}
 use native.Mathlib.Omega.{arith}
@@ -8,7 +8,6 @@ use borrow.Author.Tests.{not-true, not-false}
 use Rattle.table.specs.Tools.{allBelow}
 use Rattle.table.specs.Table.{scalars, scalarOk}
 use Rattle.table.specs.Slots.{scalarAt}
-use Rattle.table.specs.declared.Entry.{Entry}
 use Rattle.table.proofs.TableLaws.{all-none, all-more, all-stop}
 use Rattle.table.proofs.scalars_stand.Statement.{statement}
 use Rattle.table.proofs.scalars_stand.Tie as tie

@@ -1,7 +1,6 @@
 -- `table::sound` meets its contract: the scalars, then the entries above them. Assumes nothing.
 use Prim.Native.Nat.{ℕ, _≤_, _*_}
 use mathlib.Core.Path.{_≡_, sym, _∙_, ap}
-use mathlib.Core.Bool.{true, false}
 use mathlib.Core.List.{List}
 use lib.ListN.{length}
 use native.Mathlib.Omega.{arith}

@@ -2,7 +2,7 @@
 use Rattle.tplt.proofs.OutcomeLaws.{unsound-outcome, unknown-outcome, refusal-done, list-below, call-fit, call-done}
 use Rattle.table.proofs.SoundLaws.{sound-of}
 use borrow.Author.Tests.{not-true, not-false}
-use mathlib.Core.Path.{_≡_, refl, sym, _∙_, ap}
+use mathlib.Core.Path.{refl, sym, _∙_}
 use borrow.Author.Needs.{needs}
 use Rattle.tplt.proofs.type_template.Statement.{statement}
 use Rattle.tplt.proofs.type_template.Tie as tie

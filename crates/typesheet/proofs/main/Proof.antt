@@ -7,12 +7,6 @@ use Rattle.text.proofs.Puts.{put-long}
 use borrow.Author.Needs.{needs}
 use Rattle.typesheet.proofs.main.Statement.{statement}
 use Rattle.typesheet.proofs.main.Tie as tie
-use Rattle.typesheet.proofs.main.Reads as reads
-use Rattle.typesheet.proofs.main.Lts as lts
-use Rattle.io.proofs.large_buffer.Reads as large-buffer-reads
-use Rattle.io.proofs.read_full.Reads as read-full-reads
-use Rattle.io.proofs.write_all.Reads as write-all-reads
-use Rattle.lines.proofs.answer_sheet.Reads as answer-sheet-reads
 
 large-buffer-requires : tie.Need-large-buffer-requires
 large-buffer-requires c κs = search needs

@@ -8,8 +8,6 @@ use Rattle.conv.proofs.Finite.{above}
 use Rattle.overload.proofs.Lines.{families-line}
 use Rattle.overload.proofs.tables.families_of.Statement.{statement}
 use Rattle.overload.proofs.tables.families_of.Tie as tie
-use Rattle.overload.proofs.tables.families_of.Reads as reads
-use Rattle.overload.proofs.tables.families_of.Lts as lts
 
 pub families-of-spec : {M : Type 1} → statement M
 unfolding both or operators builtins formAt code.joined code.startOf code.anySize code.findFamily code.familyAt

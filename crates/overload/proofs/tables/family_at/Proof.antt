@@ -2,9 +2,6 @@
 use borrow.Author.Needs.{needs}
 use Rattle.overload.proofs.tables.family_at.Statement.{statement}
 use Rattle.overload.proofs.tables.family_at.Tie as tie
-use Rattle.overload.proofs.tables.family_at.Reads as reads
-use Rattle.overload.proofs.tables.family_at.Lts as lts
-use Rattle.overload.proofs.tables.families_of.Reads as families-of-reads
 
 families-of-requires : tie.Need-families-of-requires
 families-of-requires c κs = search needs

@@ -8,8 +8,6 @@ use Rattle.conv.proofs.Finite.{above}
 use Rattle.overload.proofs.Lines.{word-of, word-line, no-family}
 use Rattle.overload.proofs.tables.family_word.Statement.{statement}
 use Rattle.overload.proofs.tables.family_word.Tie as tie
-use Rattle.overload.proofs.tables.family_word.Reads as reads
-use Rattle.overload.proofs.tables.family_word.Lts as lts
 
 pub family-word-spec : {M : Type 1} → statement M
 unfolding both or operators builtins formAt code.joined code.families code.familyOf code.shapeNo code.sizeNo code.formNo code.componentNo code.wrapNo code.pivotNo code.encode

@@ -9,9 +9,6 @@ use Rattle.overload.proofs.Joins.{lift-scalar}
 use borrow.Author.Needs.{needs}
 use Rattle.overload.proofs.tables.lift.Statement.{statement}
 use Rattle.overload.proofs.tables.lift.Tie as tie
-use Rattle.overload.proofs.tables.lift.Reads as reads
-use Rattle.overload.proofs.tables.lift.Lts as lts
-use Rattle.overload.proofs.tables.lifts_of.Reads as lifts-of-reads
 
 lifts-of-requires : tie.Need-lifts-of-requires
 lifts-of-requires c κs = search needs

@@ -7,8 +7,6 @@ use Rattle.conv.proofs.Finite.{above}
 use Rattle.overload.proofs.Lines.{lifts-of, lifts-line, no-set}
 use Rattle.overload.proofs.tables.lifts_of.Statement.{statement}
 use Rattle.overload.proofs.tables.lifts_of.Tie as tie
-use Rattle.overload.proofs.tables.lifts_of.Reads as reads
-use Rattle.overload.proofs.tables.lifts_of.Lts as lts
 
 pub lifts-of-spec : {M : Type 1} → statement M
 unfolding both or rankOf code.member code.firstOf code.liftOf

@@ -4,8 +4,6 @@ use Prim.Native.Nat.{_/_}
 use borrow.Author.Needs.{needs}
 use Rattle.overload.proofs.tables.start.Statement.{statement}
 use Rattle.overload.proofs.tables.start.Tie as tie
-use Rattle.overload.proofs.tables.start.Reads as reads
-use Rattle.overload.proofs.tables.start.Lts as lts
 
 mul-result : tie.Need-mul-result
 mul-result c = search needs

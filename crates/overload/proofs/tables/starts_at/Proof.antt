@@ -7,8 +7,6 @@ use Rattle.overload.specs.Code as code
 use Rattle.overload.proofs.Lines.{starts-line}
 use Rattle.overload.proofs.tables.starts_at.Statement.{statement}
 use Rattle.overload.proofs.tables.starts_at.Tie as tie
-use Rattle.overload.proofs.tables.starts_at.Reads as reads
-use Rattle.overload.proofs.tables.starts_at.Lts as lts
 
 pub starts-at-spec : {M : Type 1} → statement M
 unfolding both implies formAt code.shapeOfNo code.shapeNo code.sizeOfNo code.formOfNo code.askedOf

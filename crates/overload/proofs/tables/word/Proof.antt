@@ -2,8 +2,6 @@
 use borrow.Author.Needs.{needs}
 use Rattle.overload.proofs.tables.word.Statement.{statement}
 use Rattle.overload.proofs.tables.word.Tie as tie
-use Rattle.overload.proofs.tables.word.Reads as reads
-use Rattle.overload.proofs.tables.word.Lts as lts
 
 mul-result : tie.Need-mul-result
 mul-result c = search needs

@@ -3,8 +3,8 @@ use Rattle.tplt.proofs.SignedLaws.{count-under, count-over, count-in, c
 use Rattle.tplt.specs.Params.{countZ}
 use mir.ValLaws.{toZ-ofZ}
 use mir.Val.{toZ, ofZ}
-use mir.Syntax.{w32, w64}
-use mathlib.Core.Path.{_≡_, sym, _∙_, ap}
+use mir.Syntax.{w64}
+use mathlib.Core.Path.{_∙_, ap}
 use Rattle.tplt.proofs.param.abstract_count.Statement.{statement}
 use Rattle.tplt.proofs.param.abstract_count.Tie as tie
 

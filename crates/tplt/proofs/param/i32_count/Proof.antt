@@ -4,9 +4,9 @@ use Rattle.tplt.specs.Params.{countZ}
 use mir.Facts.{fits-natAbs, sfits-toZ, fits-ofZ}
 use mir.ValLaws.{toZ-ofZ}
 use mir.Val.{toZ, ofZ}
-use mir.Syntax.{w32, w64}
+use mir.Syntax.{w32}
 use native.Mathlib.Omega.{arith}
-use mathlib.Core.Path.{_≡_, sym, _∙_, ap}
+use mathlib.Core.Path.{_∙_, ap}
 use Rattle.tplt.proofs.param.i32_count.Statement.{statement}
 use Rattle.tplt.proofs.param.i32_count.Tie as tie
 

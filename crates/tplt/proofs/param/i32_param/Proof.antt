@@ -5,7 +5,7 @@ use Rattle.tplt.specs.Params.{i32Param}
 use mir.ValLaws.{toZ-ofZ}
 use mir.Val.{toZ, ofZ}
 use mir.Syntax.{w32, w64}
-use mathlib.Core.Path.{_≡_, sym, _∙_, ap}
+use mathlib.Core.Path.{_∙_, ap}
 use Rattle.tplt.proofs.param.i32_param.Statement.{statement}
 use Rattle.tplt.proofs.param.i32_param.Tie as tie
 

@@ -2,12 +2,9 @@
 use Rattle.tplt.specs.Params.{typeParam, i32Param, u32Param}
 use Rattle.tplt.proofs.SignedLaws.{tag-type, tag-abstract, tag-i32, tag-u32, tag-other}
 use Rattle.tplt.specs.declared.param.TpltParam.the-variants.{AbstractInt}
-use Rattle.tplt.specs.Params.{paramOf}
 use mir.ValLaws.{toZ-ofZ}
-use mir.Val.{toZ, ofZ}
-use mir.Syntax.{w32, w64}
-use lib.IntN.{ℤ}
-use mathlib.Core.Path.{_≡_, sym, _∙_, ap}
+use mir.Syntax.{w64}
+use mathlib.Core.Path.{_∙_, ap}
 use borrow.Author.Needs.{needs}
 use Rattle.tplt.proofs.param.param_of.Statement.{statement}
 use Rattle.tplt.proofs.param.param_of.Tie as tie

@@ -4,10 +4,8 @@ use Rattle.tplt.specs.Params.{typeParam}
 use mir.Facts.{fits-natAbs, sfits-toZ, fits-ofZ}
 use mir.ValLaws.{toZ-ofZ}
 use mir.Val.{toZ, ofZ}
-use mir.Syntax.{w32, w64}
-use lib.IntN.{ℤ}
-use Prim.Native.Nat.{ℕ}
-use mathlib.Core.Path.{_≡_, sym, _∙_, ap}
+use mir.Syntax.{w64}
+use mathlib.Core.Path.{_∙_, ap}
 use Rattle.tplt.proofs.param.type_param.Statement.{statement}
 use Rattle.tplt.proofs.param.type_param.Tie as tie
 

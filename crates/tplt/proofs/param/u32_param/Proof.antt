@@ -3,8 +3,8 @@ use Rattle.tplt.proofs.SignedLaws.{u32-under, u32-over, u32-in, not-neg
 use Rattle.tplt.specs.Params.{u32Param}
 use mir.ValLaws.{toZ-ofZ}
 use mir.Val.{toZ, ofZ}
-use mir.Syntax.{w32, w64}
-use mathlib.Core.Path.{_≡_, sym, _∙_, ap}
+use mir.Syntax.{w64}
+use mathlib.Core.Path.{_∙_, ap}
 use Rattle.tplt.proofs.param.u32_param.Statement.{statement}
 use Rattle.tplt.proofs.param.u32_param.Tie as tie
 
