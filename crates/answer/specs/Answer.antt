@@ -42,6 +42,9 @@ numbersOf (Value t used) = record { refusal = 0; value = t .0 ∷ []; place = 0;
 numbersOf (NoValue used) = record { refusal = 0; value = []; place = 0; used = used }
 numbersOf (Refused r) = record { refusal = reasonNo (r .reason); value = []; place = r .place .0; used = r .used }
 
+abbrev pub usedOf : Answer → ℕ
+usedOf a = numbersOf a .used
+
 -- the answers, made of numbers
 abbrev pub accept : ℕ → ℕ → Answer
 accept t used = Value (record { 0 = t }) used

@@ -1,6 +1,6 @@
 // The one answer that every call gives, built and numbered here alone.
 ghost use mathlib.Core.Path.{_≡_};
-ghost use Rattle.answer.specs.Answer.{reasonNo, numbersOf, Accepted, WithoutValue, RefusedWith};
+ghost use Rattle.answer.specs.Answer.{reasonNo, usedOf, Accepted, WithoutValue, RefusedWith};
 
 // The number of a table entry.
 pub struct TypeNo(pub usize);
@@ -84,7 +84,7 @@ pub fn reason_no(r: Reason) -> u8
 
 // The used count that an answer tells.
 pub fn used_of(a: Answer) -> usize
-    ensures { λ r. ⌜ r ≡ numbersOf a .used ⌝ }
+    ensures { λ r. ⌜ r ≡ usedOf a ⌝ }
 {
     match a {
         Answer::Value(_, n) => n,

@@ -7,7 +7,7 @@ use native.Mathlib.Omega.{arith}
 use lib.Dec.{eqb}
 use lib.ListN.{length, getD}
 use borrow.Author.Tests.{eqb-true}
-use Rattle.answer.specs.Answer.{accept, refuse}
+use Rattle.answer.specs.Answer.{usedOf, accept, refuse}
 use Rattle.table.specs.Tools.{allBelow}
 use Rattle.table.specs.Table.{scalars, entryOk, findIn, soundb, Sound}
 use Rattle.table.specs.Placing.{Outcome}
@@ -22,7 +22,6 @@ use Rattle.frame.specs.declared.Placed.{Placed}
 use Rattle.step.specs.Effect.{State, height, Effect, goes, silent, ends, stops, effectOf}
 use Rattle.sheet.specs.Machine.{endAnswer, leftAnswer, after, Turned, more, done, turnOf, onward, runItems, begun, typeSheet}
 use Rattle.step.specs.Code.{Good}
-use Rattle.sheet.specs.Kept.{countOf}
 use Rattle.step.proofs.Keeping.{EffectKept, item-kept}
 use Rattle.sheet.proofs.Running.{turn-kept, sheet-unheaded, sheet-runs}
 use Rattle.sheet.proofs.Demand1.{sheet-keeps}
@@ -95,7 +94,7 @@ start-sound = refl
 pub spellable : (s : List ℕ) → Spellable (outcome s .words) (outcome s .answer)
 spellable s = go (outcome s .answer) refl (sheet-keeps start scalars s start-sound .0)
   where
-    go : (a : Answer) → outcome s .answer ≡ a → Sound (outcome s .words) (countOf (outcome s .answer)) → Spellable (outcome s .words) a
+    go : (a : Answer) → outcome s .answer ≡ a → Sound (outcome s .words) (usedOf (outcome s .answer)) → Spellable (outcome s .words) a
     go (Value t m) e h = (rw e at h, sheet-valued t m start scalars s start-sound e)
     go (NoValue m) e h = tt
     go (Refused r) e h = tt

@@ -2,7 +2,7 @@
 use Prim.Native.Nat.{ℕ, _<_}
 use mathlib.Core.List.{List, [], _∷_, _++_}
 use lib.ListN.{replicate}
-use Rattle.answer.specs.Answer.{reasonNo, numbersOf}
+use Rattle.answer.specs.Answer.{reasonNo, usedOf}
 use Rattle.table.specs.Table.{scalars, Sound}
 use Rattle.table.specs.Denote.{typeAt}
 use Rattle.table.specs.Placing.{Outcome}
@@ -28,9 +28,6 @@ firstLine w (NoValue used) = ascii "none"
 firstLine w (Refused r) = refusedLine r
 
 -- `entries 7`: the used count
-abbrev pub usedOf : Answer → ℕ
-usedOf a = numbersOf a .used
-
 unfoldable pub secondLine : Answer → List ℕ
 secondLine a = ascii "entries " ++ decimal (usedOf a)
 

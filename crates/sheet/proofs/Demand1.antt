@@ -7,7 +7,7 @@ use mathlib.Core.List.{List, [], _∷_}
 use native.Mathlib.Omega.{arith}
 use lib.Dec.{eqb}
 use lib.ListN.{length, getD}
-use Rattle.answer.specs.Answer.{accept, refuse}
+use Rattle.answer.specs.Answer.{usedOf, accept, refuse}
 use Rattle.table.specs.Table.{soundb, Sound}
 use Rattle.table.specs.Denote.{typeAt}
 use Rattle.table.specs.Placing.{Outcome, turnedDown}
@@ -22,7 +22,7 @@ use Rattle.step.specs.Effect.{State, height, Effect, goes, silent, ends, stops,
 use Rattle.sheet.specs.Machine.{endAnswer, leftAnswer, after, Turned, more, done, turnOf, onward, runItems, begun, typeSheet}
 use Rattle.step.specs.Code.{Good}
 use Rattle.step.specs.Kept.{Grew}
-use Rattle.sheet.specs.Kept.{countOf, further, reached}
+use Rattle.sheet.specs.Kept.{further, reached}
 use Rattle.step.proofs.Keeping.{EffectKept, grew-none, item-kept}
 use Rattle.sheet.proofs.Running.{turn-kept, sheet-unsound, sheet-unheaded, sheet-runs}
 
@@ -42,19 +42,19 @@ grew-twice {w} {v} {u} {n} {m} {l} a b =
 
 abbrev Closes : State → Turned → Type 0
 Closes st (more st') = Unit {0}
-Closes st (done o) = (o .words ≡ st .words) × (countOf (o .answer) ≡ st .used)
+Closes st (done o) = (o .words ≡ st .words) × (usedOf (o .answer) ≡ st .used)
 
-count-left : (size place next high used : ℕ) → countOf (leftAnswer size place next high used) ≡ used
+count-left : (size place next high used : ℕ) → usedOf (leftAnswer size place next high used) ≡ used
 count-left size place next high used = go (eqb high 0 && eqb next size)
   where
-    go : (b : Bool) → countOf (cond b (NoValue used) (refuse Stack place used)) ≡ used
+    go : (b : Bool) → usedOf (cond b (NoValue used) (refuse Stack place used)) ≡ used
     go true = refl
     go false = refl
 
-count-end : (size : ℕ) (vs : List ℕ) (used : ℕ) → countOf (endAnswer size vs used) ≡ used
+count-end : (size : ℕ) (vs : List ℕ) (used : ℕ) → usedOf (endAnswer size vs used) ≡ used
 count-end size vs used = go (eqb (length vs) 1)
   where
-    go : (b : Bool) → countOf (cond b (accept (getD vs 0 0) used) (refuse Stack size used)) ≡ used
+    go : (b : Bool) → usedOf (cond b (accept (getD vs 0 0) used) (refuse Stack size used)) ≡ used
     go true = refl
     go false = refl
 
@@ -73,7 +73,7 @@ turn-closes s x st g = closes s (x .at .0) (x .next .0) st (effectOf (x .at .0) 
 
 pub record Ran (s : List ℕ) (xs : List Placed) (st : State) : Type 0 where
   pub words : runItems s xs st .words ≡ reached s xs st .words
-  pub count : countOf (runItems s xs st .answer) ≡ reached s xs st .used
+  pub count : usedOf (runItems s xs st .answer) ≡ reached s xs st .used
   pub good : Good (reached s xs st)
   pub grew : Grew (st .words) (st .used) (reached s xs st .words) (reached s xs st .used)
 
@@ -99,7 +99,7 @@ ran s (x ∷ xs) st g = go (turnOf s x st) refl (turn-closes s x st g) (λ st' h
         let q = run-on s x xs st st' e in
         record {
           words = ap (λ (o : Outcome). o .words) (q .0) ∙ r .words ∙ ap (λ (t : State). t .words) (sym (q .1));
-          count = ap (λ (o : Outcome). countOf (o .answer)) (q .0) ∙ r .count ∙ ap (λ (t : State). t .used) (sym (q .1));
+          count = ap (λ (o : Outcome). usedOf (o .answer)) (q .0) ∙ r .count ∙ ap (λ (t : State). t .used) (sym (q .1));
           good = rw (q .1) (r .good);
           grew = rw (q .1) (grew-twice (kept .1) (r .grew));
         }
@@ -107,7 +107,7 @@ ran s (x ∷ xs) st g = go (turnOf s x st) refl (turn-closes s x st g) (λ st' h
         let q = run-over s x xs st o e in
         record {
           words = ap (λ (p : Outcome). p .words) (q .0) ∙ k .0 ∙ ap (λ (t : State). t .words) (sym (q .1));
-          count = ap (λ (p : Outcome). countOf (p .answer)) (q .0) ∙ k .1 ∙ ap (λ (t : State). t .used) (sym (q .1));
+          count = ap (λ (p : Outcome). usedOf (p .answer)) (q .0) ∙ k .1 ∙ ap (λ (t : State). t .used) (sym (q .1));
           good = rw (q .1) g;
           grew = rw (q .1) (grew-none (st .words) (st .used));
         }
@@ -126,14 +126,14 @@ module _ (w : List ℕ) (n : ℕ) (s : List ℕ) where
   begun-good h = record { sound = h; under = λ i k. absurd (omega arith); high = omega arith }
 
   -- over a sound table and under a right header, the words and the count afterwards are those of the accepted items, whatever is answered
-  pub sheet-reached : soundb w n ≡ true → headerOk version s ≡ true → (o .words ≡ last .words) × (countOf (o .answer) ≡ last .used)
+  pub sheet-reached : soundb w n ≡ true → headerOk version s ≡ true → (o .words ≡ last .words) × (usedOf (o .answer) ≡ last .used)
   sheet-reached h k =
       let r = ran s (itemsFrom s headerSize) (begun w n) (begun-good (sound-of w n h)) in
       let q = sheet-runs w n s h k in
-      (ap (λ (p : Outcome). p .words) (sym q) ∙ r .words, ap (λ (p : Outcome). countOf (p .answer)) (sym q) ∙ r .count)
+      (ap (λ (p : Outcome). p .words) (sym q) ∙ r .words, ap (λ (p : Outcome). usedOf (p .answer)) (sym q) ∙ r .count)
 
   -- the table stays sound, the count is that of the entries really there, and the earlier entries stay at their numbers with their words
-  pub sheet-keeps : soundb w n ≡ true → Sound (o .words) (countOf (o .answer)) × Grew w n (o .words) (countOf (o .answer))
+  pub sheet-keeps : soundb w n ≡ true → Sound (o .words) (usedOf (o .answer)) × Grew w n (o .words) (usedOf (o .answer))
   sheet-keeps h =
       split (headerOk version s)
       (λ k.

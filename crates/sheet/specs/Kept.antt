@@ -1,17 +1,9 @@
--- The count that a sheet's answer gives, the state that its accepted items reach, and the items that a run looks at. Assumes nothing.
+-- The state that a sheet's accepted items reach, and the items that a run looks at. Assumes nothing.
 use Prim.Native.Nat.{ℕ}
 use mathlib.Core.List.{List, [], _∷_}
-use Rattle.answer.specs.declared.Answer.{Answer}
-use Rattle.answer.specs.declared.Answer.the-variants.{Value, NoValue, Refused}
 use Rattle.frame.specs.declared.Placed.{Placed}
 use Rattle.step.specs.Effect.{State}
 use Rattle.sheet.specs.Machine.{Turned, more, done, turnOf}
-
--- the count that an answer gives
-abbrev pub countOf : Answer → ℕ
-countOf (Value t m) = m
-countOf (NoValue m) = m
-countOf (Refused r) = r .used
 
 -- the state after the items that are accepted, one after the other
 unfoldable pub further : Turned → State → (State → State) → State

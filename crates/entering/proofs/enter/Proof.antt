@@ -31,7 +31,8 @@ returns c =
 put-entry-requires : tie.Need-put-entry-requires
 put-entry-requires c κs =
     let a = c .before .before .before .before .before .before .before .before .before .args in
-    free-room (a .words .now) (a .n) 1 (omega arith) (omega (arith, c .before .before .free-of .ensures)) .1
+    let room = free-room (a .words .now) (a .n) 1 (omega arith) (omega (arith, c .before .before .free-of .ensures)) .1 in
+    omega (arith, room)
 
 add-t9 : tie.Need-add-t9
 add-t9 c = search needs
