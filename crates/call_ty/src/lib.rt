@@ -1,4 +1,6 @@
 // The result types of builtins, as wgsl-types' `call_ty.rs` has them, by the standard and by the crate's rules.
+use conv::PLAINS;
+use conv::SCALARS;
 use names::Rule;
 use ruled::REFERENCE;
 use table::Answer;
@@ -23,10 +25,6 @@ ghost use Rattle.call_ty.specs.Codes.{Under, Loaded, numericCode, ldexpC
 const ROWS: u8 = 47;
 // The most operands of a rule.
 const MOST: usize = 4;
-// An operand's number is below this where it is a scalar, and below the second where it is a scalar or a vector.
-const SCALARS: u8 = 7;
-
-const PLAINS: u8 = 28;
 // The scalars, as an operand's number has them.
 const ABSTRACT_INT: u8 = 1;
 
@@ -39,12 +37,6 @@ const U32: u8 = 4;
 const F32: u8 = 5;
 
 const F16: u8 = 6;
-
-fn wide(x: u8) -> usize
-    ensures { λ r. ⌜ r ≡ x ⌝ }
-{
-    x as usize
-}
 
 fn is_float(s: u8) -> bool
     ensures { λ r. ⌜ r ≡ isFloat s ⌝ }
@@ -127,7 +119,7 @@ fn all_under(list: &[u32], n: usize) -> bool
 {
     let mut i = 0;
     while i < list.len() {
-        if n <= table::wide(list[i]) {
+        if n <= cast::word(list[i]) {
             return false;
         }
         i += 1;
@@ -146,7 +138,7 @@ fn template_right(words: &[u32], n: usize, rule: u8, tplt: &[u32]) -> bool
     if tplt.len() != 1 {
         return false;
     }
-    numeric_code(ruled::code_at(words, n, table::wide(tplt[0])))
+    numeric_code(ruled::code_at(words, n, cast::word(tplt[0])))
 }
 
 // The numbers of the operands, in their order; and whether none of them is a reference.
@@ -156,7 +148,7 @@ fn load(words: &[u32], n: usize, args: &[u32], codes: &mut [u8]) -> bool
 {
     let mut i = 0;
     while i < args.len() {
-        let x = ruled::code_at(words, n, table::wide(args[i]));
+        let x = ruled::code_at(words, n, cast::word(args[i]));
         if x == REFERENCE {
             return false;
         }
@@ -185,13 +177,13 @@ fn crate_rule(words: &[u32], n: usize, place: Place, rule: u8, tplt: &[u32], arg
     ensures { λ r. ⌜ Gave (givenOutcome (place .0) (now (words .entry)) n (givenBy rule (map (typeAt (now (words .entry))) (now (tplt .entry))) (map (typeAt (now (words .entry))) (now (args .entry))))) r (now (words .entry)) ⌝ }
 {
     if rule == names::RULE_BITCAST {
-        return table::accepted(TypeNo(table::wide(tplt[0])), n);
+        return table::accepted(TypeNo(cast::word(tplt[0])), n);
     }
     if rule == names::RULE_ARRAY_LENGTH {
         return table::accepted(TypeNo(table::U32), n);
     }
     if rule == names::RULE_LDEXP {
-        return ldexp_at(words, n, place, table::wide(args[0]), table::wide(args[1]));
+        return ldexp_at(words, n, place, cast::word(args[0]), cast::word(args[1]));
     }
     table::no_value(n)
 }
@@ -220,7 +212,7 @@ fn by_rule(
         return table::refused(Reason::Reference, place, n);
     }
     if rule < ROWS {
-        return ruled::judge_codes(words, n, place, wide(rule), &codes[0..k]);
+        return ruled::judge_codes(words, n, place, cast::wide(rule), &codes[0..k]);
     }
     crate_rule(words, n, place, rule, tplt, args)
 }

@@ -6,10 +6,10 @@ ghost use Rattle.conv.specs.Rank.{rankOf, plainRank, commonOf};
 
 // Where there is no conversion, in place of a rank or of a common type.
 pub const NONE: u8 = 255;
-// How many scalars there are, and how many plain numbers.
-const SCALARS: u8 = 7;
+// How many scalars there are, and how many plain numbers: below the first a number is a scalar, below the second a scalar or a vector.
+pub const SCALARS: u8 = 7;
 
-const PLAINS: u8 = 28;
+pub const PLAINS: u8 = 28;
 
 // The rank of a conversion, by the scalar it goes from and the scalar it goes to.
 const RANK: [[u8; 7]; 7] = [

@@ -5,6 +5,8 @@ ghost use lib.ListN.{length};
 ghost use Rattle.frame.specs.Frame.{version, headerOk, be32, payloadItem, itemAt, namePart, Within, IsPart};
 use answer::Place;
 use answer::TypeNo;
+use cast::wide;
+use cast::wide32;
 
 // The version that is read, the bytes of the header, and the most bytes that may follow it.
 pub const VERSION: u8 = 1;
@@ -73,18 +75,6 @@ pub struct Placed {
     pub item: Item,
     pub at: Place,
     pub next: Place,
-}
-
-fn wide(x: u8) -> usize
-    ensures { λ r. ⌜ r ≡ x ⌝ }
-{
-    x as usize
-}
-
-fn wide32(x: u8) -> u32
-    ensures { λ r. ⌜ r ≡ x ⌝ }
-{
-    x as u32
 }
 
 // Whether the header is right: the version, a length that is not too large, and as many bytes after the header.

@@ -1,5 +1,8 @@
 // What a run has met before: an operator or a call of a builtin that was typed on the same values gives the same value, which is recalled, and not typed again.
 // The memo is lent as a slice.
+use cast::wide;
+use cast::wide32;
+use cast::word64;
 use frame::HEADER;
 use frame::ITEM_BINARY;
 use frame::ITEM_PUSH;
@@ -67,24 +70,6 @@ pub struct Key {
     pub base: usize,
 }
 
-fn wide(x: u8) -> usize
-    ensures { λ r. ⌜ r ≡ x ⌝ }
-{
-    x as usize
-}
-
-fn wide32(x: u8) -> u32
-    ensures { λ r. ⌜ r ≡ x ⌝ }
-{
-    x as u32
-}
-
-fn wide64(x: u32) -> u64
-    ensures { λ r. ⌜ r ≡ x ⌝ }
-{
-    x as u64
-}
-
 // THE MEMO
 
 // The slot of a key. Any would do: a slot says itself what it holds.
@@ -113,7 +98,7 @@ fn note(memo: &mut [u64], key: u64, t: u32)
     ensures { λ _. ⌜ Noted (now (memo .entry)) key t (now (memo .exit)) ⌝ }
 {
     let i = slot_of(key);
-    memo[i] = key * 256 + wide64(t);
+    memo[i] = key * 256 + word64(t);
 }
 
 // What an item left, noted where it went.
@@ -143,7 +128,7 @@ fn asked_short(x: u32) -> Ask
             };
         }
         return Ask {
-            code: wide64(BINARY_CODES + op),
+            code: word64(BINARY_CODES + op),
             operands: 2,
         };
     }
@@ -155,7 +140,7 @@ fn asked_short(x: u32) -> Ask
             };
         }
         return Ask {
-            code: wide64(UNARY_CODES + op),
+            code: word64(UNARY_CODES + op),
             operands: 1,
         };
     }
@@ -185,7 +170,7 @@ fn asked_call(sheet: &[u8], name: Part, k: u8) -> Ask
                 };
             }
             Ask {
-                code: wide64(BUILTIN_CODES + wide32(rule)),
+                code: word64(BUILTIN_CODES + wide32(rule)),
                 operands: wide(k),
             }
         }
@@ -216,15 +201,15 @@ fn key_on(code: u64, args: &[u32]) -> u64
     requires { ⌜ (code < 256) × Under 256 (now args) × (1 ≤ length (now args)) × (length (now args) ≤ 3) ⌝ }
     ensures { λ r. ⌜ (r ≡ keyOf code (now (args .entry))) × (r < 2 ^ 32) ⌝ }
 {
-    let one = code * 256 + wide64(args[0]);
+    let one = code * 256 + word64(args[0]);
     if args.len() == 1 {
         return one;
     }
-    let two = one * 256 + wide64(args[1]);
+    let two = one * 256 + word64(args[1]);
     if args.len() == 2 {
         return two;
     }
-    two * 256 + wide64(args[2])
+    two * 256 + word64(args[2])
 }
 
 fn keyed(a: Ask, stack: &[u32], count: usize) -> Key

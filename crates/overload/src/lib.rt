@@ -3,6 +3,7 @@
 mod tables;
 
 use conv::NONE;
+use conv::SCALARS;
 ghost use mathlib.Core.Path.{_≡_};
 ghost use mathlib.Core.List.{map};
 ghost use mathlib.Core.Logic.{_⊎_, _≢_};
@@ -32,10 +33,9 @@ const FIRST_SIZE: usize = 8;
 const LAST_SIZE: usize = 9;
 // The component of a pattern that stands for T.
 const OF_T: u8 = 7;
-// How many shapes there are, and how many components.
+// How many shapes there are.
 const SHAPES: u8 = 13;
 
-const SCALARS: u8 = 7;
 // By shape: its form. An octal digit each, from the right.
 const FORMS: u64 = 0o2222222221110;
 

@@ -8,7 +8,7 @@
 // How many types there are, and how many are plain.
 const TYPES: u32 = 55;
 
-const PLAINS: u32 = 28;
+const PLAINS: u32 = conv::PLAINS as u32;
 
 const GROUP: u8 = b'#';
 

@@ -1,4 +1,6 @@
 // A ruled call in a table: the numbers of operands, the judgment of a row, and the result entered.
+use conv::PLAINS;
+use conv::SCALARS;
 use overload::Out;
 use overload::Resolution;
 use table::Answer;
@@ -26,10 +28,6 @@ ghost use Rattle.ruled.specs.Result.{ResultDone, PlainDone};
 pub const REFERENCE: u8 = 98;
 
 pub const OTHER: u8 = 91;
-// Below these numbers stand the scalars, the vectors and the matrices.
-const SCALARS: u8 = 7;
-
-const PLAINS: u8 = 28;
 
 // The operand's number of the type at t.
 pub fn code_at(words: &[u32], n: usize, t: usize) -> u8

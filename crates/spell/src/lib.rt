@@ -92,7 +92,7 @@ fn put_dec(out: &mut [u8], at: usize, n: u32) -> usize
     requires { ⌜ at + n < far * 2 ⌝ }
     ensures { λ r. ⌜ Put (now (out .entry)) at (decimal n) r (now (out .exit)) ⌝ }
 {
-    text::put_number(out, at, table::wide(n))
+    text::put_number(out, at, cast::word(n))
 }
 
 // A head: its name, then a vector's width or a matrix's columns and rows.
@@ -100,7 +100,7 @@ fn put_head(out: &mut [u8], at: usize, e: Entry) -> usize
     requires { ⌜ at < far + half ⌝ }
     ensures { λ r. ⌜ Put (now (out .entry)) at (headText e) r (now (out .exit)) ⌝ }
 {
-    let a = put_text(out, at, table::wide(e.kind));
+    let a = put_text(out, at, cast::word(e.kind));
     if e.kind == table::KIND_VEC {
         return put_dec(out, a, e.p);
     }
@@ -119,7 +119,7 @@ fn put_opening(out: &mut [u8], at: usize, e: Entry) -> usize
 {
     let a = text::put_byte(out, at, b'<');
     if (e.kind == table::KIND_PTR) | (e.kind == table::KIND_REF) {
-        let b = put_text(out, a, TEXT_SPACES + table::wide(e.p));
+        let b = put_text(out, a, TEXT_SPACES + cast::word(e.p));
         return text::put_byte(out, b, b',');
     }
     a
@@ -137,7 +137,7 @@ fn put_last(out: &mut [u8], at: usize, e: Entry) -> usize
     }
     if (e.kind == table::KIND_PTR) | (e.kind == table::KIND_REF) {
         let access = text::put_byte(out, at, b',');
-        return put_text(out, access, TEXT_ACCESSES + table::wide(e.q));
+        return put_text(out, access, TEXT_ACCESSES + cast::word(e.q));
     }
     at
 }
@@ -170,9 +170,9 @@ fn put_fract(out: &mut [u8], at: usize, e: Entry) -> usize
     if e.kind == table::KIND_VEC {
         let a = put_head(out, at, e);
         let b = text::put_byte(out, a, b'_');
-        return put_fract_scalar(out, b, table::wide(e.elem));
+        return put_fract_scalar(out, b, cast::word(e.elem));
     }
-    put_fract_scalar(out, at, table::wide(e.kind))
+    put_fract_scalar(out, at, cast::word(e.kind))
 }
 
 // A type: its head, then its arguments. A scalar and a result type have none: their names are whole.
@@ -189,7 +189,7 @@ pub fn spell_type(words: &[u32], n: usize, i: usize, out: &mut [u8], at: usize) 
         return mid;
     }
     if table::KIND_FREXP <= e.kind {
-        return put_fract(out, mid, table::entry_at(words, table::wide(e.elem)));
+        return put_fract(out, mid, table::entry_at(words, cast::word(e.elem)));
     }
     spell_args(words, n, i, out, mid)
 }
@@ -204,7 +204,7 @@ fn spell_args(words: &[u32], n: usize, i: usize, out: &mut [u8], at: usize) -> u
 {
     let e = table::entry_at(words, i);
     let a = put_opening(out, at, e);
-    let b = spell_type(words, n, table::wide(e.elem), out, a);
+    let b = spell_type(words, n, cast::word(e.elem), out, a);
     put_closing(out, b, e)
 }
 

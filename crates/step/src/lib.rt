@@ -1,5 +1,7 @@
 // What one item does to the stack and the table. The stack is lent as a slice of which the first values count; an item is typed by the single call that it
 // stands for.
+use cast::wide;
+use cast::wide32;
 use frame::Item;
 use frame::Part;
 use table::Answer;
@@ -27,18 +29,6 @@ pub enum Did {
     Silent { count: usize, used: usize },
     Ended { count: usize, used: usize },
     Refused(Refusal),
-}
-
-fn wide(x: u8) -> usize
-    ensures { λ r. ⌜ r ≡ x ⌝ }
-{
-    x as usize
-}
-
-fn wide32(x: u8) -> u32
-    ensures { λ r. ⌜ r ≡ x ⌝ }
-{
-    x as u32
 }
 
 // A refusal of the item at a place.

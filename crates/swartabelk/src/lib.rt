@@ -43,12 +43,6 @@ pub struct NamePart {
     pub length: usize,
 }
 
-fn wide(x: u8) -> u32
-    ensures { λ r. ⌜ r ≡ x ⌝ }
-{
-    x as u32
-}
-
 // A number that fits, as it is.
 fn narrow(x: usize) -> u32
     requires { ⌜ x < 2 ^ 32 ⌝ }
@@ -81,7 +75,12 @@ fn reply_of(a: Answer) -> Reply
         Answer::Refused(r) => {
             let reason = r.reason;
             let place = r.place;
-            told(wide(table::reason_no(reason)), NO_VALUE, place.0, r.used)
+            told(
+                cast::wide32(table::reason_no(reason)),
+                NO_VALUE,
+                place.0,
+                r.used,
+            )
         }
     }
 }
@@ -102,7 +101,7 @@ fn spelled_of(n: u32, s: Spelled) -> SpelledReply
             let reason = r.reason;
             let place = r.place;
             SpelledReply {
-                refusal: wide(table::reason_no(reason)),
+                refusal: cast::wide32(table::reason_no(reason)),
                 length: 0,
                 place: narrow(place.0),
                 used: narrow(r.used),
@@ -116,7 +115,7 @@ fn spelled_of(n: u32, s: Spelled) -> SpelledReply
 pub extern "C" fn swartabelk_check(words: &[u32], used: u32) -> Reply
     ensures { λ r. ⌜ r ≡ replyOf (checkAnswer (now (words .entry)) used) ⌝ }
 {
-    let n = table::wide(used);
+    let n = cast::word(used);
     if table::sound(words, n) {
         return reply_of(table::no_value(n));
     }
@@ -128,9 +127,9 @@ pub extern "C" fn swartabelk_check(words: &[u32], used: u32) -> Reply
 pub extern "C" fn swartabelk_unary(words: &mut [u32], used: u32, op: u32, a: u32) -> Reply
     ensures { λ r. ⌜ Replied (typeUnaryOp (now (words .entry)) used op a) r (now (words .exit)) ⌝ }
 {
-    let n = table::wide(used);
-    let o = table::wide(op);
-    let t = TypeNo(table::wide(a));
+    let n = cast::word(used);
+    let o = cast::word(op);
+    let t = TypeNo(cast::word(a));
     let answer = ops_ty::type_unary_op(words, n, o, t);
     reply_of(answer)
 }
@@ -140,10 +139,10 @@ pub extern "C" fn swartabelk_unary(words: &mut [u32], used: u32, op: u32, a: u32
 pub extern "C" fn swartabelk_binary(words: &mut [u32], used: u32, op: u32, a: u32, b: u32) -> Reply
     ensures { λ r. ⌜ Replied (typeBinaryOp (now (words .entry)) used op a b) r (now (words .exit)) ⌝ }
 {
-    let n = table::wide(used);
-    let o = table::wide(op);
-    let t = TypeNo(table::wide(a));
-    let u = TypeNo(table::wide(b));
+    let n = cast::word(used);
+    let o = cast::word(op);
+    let t = TypeNo(cast::word(a));
+    let u = TypeNo(cast::word(b));
     let answer = ops_ty::type_binary_op(words, n, o, t, u);
     reply_of(answer)
 }
@@ -159,7 +158,7 @@ pub extern "C" fn swartabelk_call(
 ) -> Reply
     ensures { λ r. ⌜ Replied (typeBuiltinFn (now (words .entry)) used (now (name .entry)) (now (tplt .entry)) (now (args .entry))) r (now (words .exit)) ⌝ }
 {
-    let n = table::wide(used);
+    let n = cast::word(used);
     let answer = call_ty::type_builtin_fn(words, n, name, tplt, args);
     reply_of(answer)
 }
@@ -174,7 +173,7 @@ pub extern "C" fn swartabelk_template(
 ) -> Reply
     ensures { λ r. ⌜ Replied (templateOutcome (now (words .entry)) used (now (head .entry)) (now (args .entry))) r (now (words .exit)) ⌝ }
 {
-    let n = table::wide(used);
+    let n = cast::word(used);
     let answer = tplt::type_template(words, n, head, args);
     reply_of(answer)
 }
@@ -184,7 +183,7 @@ pub extern "C" fn swartabelk_template(
 pub extern "C" fn swartabelk_sheet(words: &mut [u32], used: u32, sheet: &[u8]) -> Reply
     ensures { λ r. ⌜ Replied (typeSheet (now (words .entry)) used (now (sheet .entry))) r (now (words .exit)) ⌝ }
 {
-    let n = table::wide(used);
+    let n = cast::word(used);
     let answer = sheet::type_sheet(words, n, sheet);
     reply_of(answer)
 }
@@ -199,8 +198,8 @@ pub extern "C" fn swartabelk_spell(
 ) -> SpelledReply
     ensures { λ r. ⌜ SpelledOut (now (words .entry)) used ty (now (out .entry)) r (now (out .exit)) ⌝ }
 {
-    let n = table::wide(used);
-    let t = TypeNo(table::wide(ty));
+    let n = cast::word(used);
+    let t = TypeNo(cast::word(ty));
     let s = spell::spell(words, n, t, out);
     spelled_of(used, s)
 }

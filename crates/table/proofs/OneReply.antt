@@ -15,9 +15,6 @@ use Rattle.answer.specs.declared.Answer.{Answer}
 one : {A : Type 0} {x a b : A} → a ≡ x → b ≡ x → a ≡ b
 one p q = p ∙ sym q
 
-pub wide-one : (x : ℕ) {a b : ℕ} → a ≡ x → b ≡ x → a ≡ b
-wide-one x p q = one p q
-
 pub entry-at-one : (w : List ℕ) (i : ℕ) {a b : Entry} → a ≡ entryAt w i → b ≡ entryAt w i → a ≡ b
 entry-at-one w i x y = one x y
 

@@ -27,7 +27,7 @@ pub const CEILING: usize = 256;
 const SLOTS: usize = 256;
 
 // The scalars are the entries below this number, each by its own.
-pub const SCALARS: usize = 7;
+pub const SCALARS: usize = conv::SCALARS as usize;
 
 pub const BOOL: usize = 0;
 
@@ -102,18 +102,6 @@ pub enum Entered {
     Full,
 }
 
-pub fn wide(x: u32) -> usize
-    ensures { λ r. ⌜ r ≡ x ⌝ }
-{
-    x as usize
-}
-
-fn long(link: u16) -> usize
-    ensures { λ r. ⌜ r ≡ link ⌝ }
-{
-    link as usize
-}
-
 // Entry i. This and `entering::put_entry` are the only two that know how an entry lies in the words.
 pub fn entry_at(words: &[u32], i: usize) -> Entry
     requires { ⌜ (i + 1) * stride ≤ length (now words) ⌝ }
@@ -179,7 +167,7 @@ fn flat_ok(e: Entry, ek: u32) -> bool
     ensures { λ r. ⌜ ((eb : ℕ) → r ≡ rowOk e ek eb) ⌝ }
 {
     let k = e.kind;
-    let el = wide(e.elem);
+    let el = cast::word(e.elem);
     if k == KIND_VEC {
         return is_width(e.p) & (e.q == 0) & (el < SCALARS);
     }
@@ -204,7 +192,7 @@ fn deep_ok(e: Entry, ek: u32, eb: usize) -> bool
     ensures { λ r. ⌜ r ≡ rowOk e ek eb ⌝ }
 {
     let k = e.kind;
-    let el = wide(e.elem);
+    let el = cast::word(e.elem);
     if k == KIND_PTR {
         return (e.p <= SPACE_STORAGE)
             & (e.q <= ACCESS_READ_WRITE)
@@ -231,7 +219,7 @@ fn base_of(words: &[u32], j: usize) -> usize
     let mut at = j;
     while SCALARS <= at {
         let e = entry_at(words, at);
-        let next = wide(e.elem);
+        let next = cast::word(e.elem);
         if at <= next {
             return at;
         }
@@ -244,7 +232,7 @@ fn base_of(words: &[u32], j: usize) -> usize
 fn scalar_ok(k: usize, e: Entry) -> bool
     ensures { λ r. ⌜ r ≡ scalarOk k e ⌝ }
 {
-    (wide(e.kind) == k) & (e.p == 0) & (e.q == 0) & (e.elem == 0)
+    (cast::word(e.kind) == k) & (e.p == 0) & (e.q == 0) & (e.elem == 0)
 }
 
 // An entry above the scalars, standing at number i.
@@ -252,7 +240,7 @@ fn made_ok(words: &[u32], i: usize, e: Entry) -> bool
     requires { ⌜ i * stride ≤ length (now words) ⌝ }
     ensures { λ r. ⌜ r ≡ madeOk (now (words .entry)) i e ⌝ }
 {
-    let el = wide(e.elem);
+    let el = cast::word(e.elem);
     if i <= el {
         return false;
     }
@@ -297,7 +285,7 @@ fn scalars_stand(words: &[u32]) -> bool
 fn slot_of(e: Entry) -> usize
     ensures { λ r. ⌜ r ≡ slotOf e ⌝ }
 {
-    wide((e.kind % 256 * 37 + e.p % 256 * 11 + e.q % 256 * 101 + e.elem % 256) % 256)
+    cast::word((e.kind % 256 * 37 + e.p % 256 * 11 + e.q % 256 * 101 + e.elem % 256) % 256)
 }
 
 // Whether none of the first i entries has e's key, for an e that is no scalar. Only the entries of e's slot are looked at, from the last one back.
@@ -311,7 +299,7 @@ fn is_new(words: &[u32], before: &[u16], i: usize, last: usize, e: Entry) -> boo
         if same(entry_at(words, k), e) {
             return false;
         }
-        at = long(before[k]);
+        at = cast::half(before[k]);
     }
     true
 }
@@ -326,7 +314,7 @@ fn good_next(words: &[u32], i: usize, last: &mut [u16], before: &mut [u16]) -> b
     let t = last[s];
     before[i] = t;
     last[s] = (i + 1) as u16;
-    made_ok(words, i, e) & is_new(words, before, i, long(t), e)
+    made_ok(words, i, e) & is_new(words, before, i, cast::half(t), e)
 }
 
 // Whether the first n entries are good, where the scalars stand and the slots are empty.
@@ -383,7 +371,7 @@ pub fn allowed(words: &[u32], n: usize, e: Entry) -> bool
     requires { ⌜ Sound (now words) n ⌝ }
     ensures { λ r. ⌜ r ≡ allowedb (now (words .entry)) n e ⌝ }
 {
-    let k = wide(e.kind);
+    let k = cast::word(e.kind);
     if k < SCALARS {
         return scalar_ok(k, e);
     }

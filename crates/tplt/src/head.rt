@@ -46,12 +46,6 @@ const MAT4X4: u64 = 0x1_34_78_34_74_61_6d;
 // The longest name of a head.
 const LONGEST: usize = 6;
 
-fn wide(x: u8) -> u64
-    ensures { λ r. ⌜ r ≡ x ⌝ }
-{
-    x as u64
-}
-
 // A name as one number, as above.
 fn key_of(name: &[u8]) -> u64
     requires { ⌜ length (now name) ≤ longest ⌝ }
@@ -61,7 +55,7 @@ fn key_of(name: &[u8]) -> u64
     let mut left = name.len();
     while 0 < left {
         let at = left - 1;
-        key = key * 256 + wide(name[at]);
+        key = key * 256 + cast::wide64(name[at]);
         left = at;
     }
     key

@@ -18,7 +18,7 @@ const FIRST_MAT: u32 = 28;
 
 const END: u32 = 55;
 
-const SCALARS: u32 = 7;
+const SCALARS: u32 = conv::SCALARS as u32;
 // The three floats.
 const ABSTRACT_FLOAT: u32 = 2;
 

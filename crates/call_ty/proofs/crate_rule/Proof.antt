@@ -12,11 +12,11 @@ use Rattle.call_ty.proofs.Ways.{gave-accepted, gave-none, template-some
 use Rattle.call_ty.proofs.crate_rule.Statement.{statement}
 use Rattle.call_ty.proofs.crate_rule.Tie as tie
 
-shared-slice-read-wide : tie.Need-shared-slice-read-wide
-shared-slice-read-wide c = let s = c .before .before .before .before .before in let k = template-some (s .args .words .now) (s .args .rule) (s .args .tplt .now) (c .before .if1 .taken) (s .pre .4) in omega arith
+shared-slice-read-word : tie.Need-shared-slice-read-word
+shared-slice-read-word c = let s = c .before .before .before .before .before in let k = template-some (s .args .words .now) (s .args .rule) (s .args .tplt .now) (c .before .if1 .taken) (s .pre .4) in omega arith
 
-wide-requires : tie.Need-wide-requires
-wide-requires c κs = search needs
+word-requires : tie.Need-word-requires
+word-requires c κs = search needs
 
 accepted-requires : tie.Need-accepted-requires
 accepted-requires c κs = search needs
@@ -25,7 +25,7 @@ returns : tie.Need-returns
 returns c = let s = c .before .before .before .before .before .before .before in
     let a = s .args in
     gave-as
-    (ap (λ (k : ℕ). record { answer = accept k (a .n); words = a .words .now }) (c .before .wide .ensures)
+    (ap (λ (k : ℕ). record { answer = accept k (a .n); words = a .words .now }) (c .before .word .ensures)
     ∙ rule-bitcast (a .place .0) (a .words .now) (a .n) (s .pre .0) (a .rule) (a .tplt .now) (a .args .now) (s .pre .3) (c .before .before .before .if1 .taken) (s .pre .1) (template-some (a .words .now) (a .rule) (a .tplt .now) (c .before .before .before .if1 .taken) (s .pre .4)))
     (gave-accepted _ (a .words .now) (a .n) (c .accepted .ensures))
 
@@ -39,23 +39,23 @@ returns-2 c = let s = c .before .before .before .before .before .before in
     (rule-length (a .place .0) (a .words .now) (a .n) (s .pre .0) (a .rule) (a .tplt .now) (a .args .now) (s .pre .3) (c .before .before .if1 .left) (c .before .if2 .taken))
     (gave-accepted _ (a .words .now) (a .n) (c .accepted2 .ensures))
 
-shared-slice-read-wide-2 : tie.Need-shared-slice-read-wide-2
-shared-slice-read-wide-2 c = let s = c .before .before .before .before .before .before .before in let k = s .pre .5 ∙ ldexp-two (s .args .rule) (c .before .if3 .taken) in omega arith
+shared-slice-read-word-2 : tie.Need-shared-slice-read-word-2
+shared-slice-read-word-2 c = let s = c .before .before .before .before .before .before .before in let k = s .pre .5 ∙ ldexp-two (s .args .rule) (c .before .if3 .taken) in omega arith
 
-wide-requires-2 : tie.Need-wide-requires-2
-wide-requires-2 c κs = search needs
+word-requires-2 : tie.Need-word-requires-2
+word-requires-2 c κs = search needs
 
-shared-slice-read-wide-3 : tie.Need-shared-slice-read-wide-3
-shared-slice-read-wide-3 c = let s = c .before .before .before .before .before .before .before .before .before in let k = s .pre .5 ∙ ldexp-two (s .args .rule) (c .before .before .before .if3 .taken) in omega arith
+shared-slice-read-word-3 : tie.Need-shared-slice-read-word-3
+shared-slice-read-word-3 c = let s = c .before .before .before .before .before .before .before .before .before in let k = s .pre .5 ∙ ldexp-two (s .args .rule) (c .before .before .before .if3 .taken) in omega arith
 
-wide-requires-3 : tie.Need-wide-requires-3
-wide-requires-3 c κs = search needs
+word-requires-3 : tie.Need-word-requires-3
+word-requires-3 c κs = search needs
 
 ldexp-at-requires : tie.Need-ldexp-at-requires
 ldexp-at-requires c κs = let s = c .before .before .before .before .before .before .before .before .before .before in
     let k = s .pre .5 ∙ ldexp-two (s .args .rule) (c .before .before .before .before .if3 .taken) in
-    let d = c .before .before .wide2 .ensures in
-    let e = c .wide3 .ensures in
+    let d = c .before .before .word2 .ensures in
+    let e = c .word3 .ensures in
     let l = s .pre .2 0 (omega arith) in
     let m = s .pre .2 1 (omega arith) in
     (s .pre .0, omega arith, omega arith)
@@ -63,8 +63,8 @@ ldexp-at-requires c κs = let s = c .before .before .before .before .before .bef
 returns-3 : tie.Need-returns-3
 returns-3 c = let s = c .before .before .before .before .before .before .before .before .before .before .before in
     let a = s .args in
-    let d = c .before .before .before .wide2 .ensures in
-    let e = c .before .wide3 .ensures in
+    let d = c .before .before .before .word2 .ensures in
+    let e = c .before .word3 .ensures in
     gave-as
     ((λ i. judgedOutcome (a .place .0) (a .words .now) (a .n) (judgeLdexp (typeAt (a .words .now) (d i)) (typeAt (a .words .now) (e i))))
     ∙ rule-ldexp (a .place .0) (a .words .now) (a .n) (s .pre .0) (a .rule) (a .tplt .now) (a .args .now) (s .pre .3) (c .before .before .before .before .before .before .before .if1 .left) (c .before .before .before .before .before .before .if2 .left) (c .before .before .before .before .before .if3 .taken) (s .pre .5 ∙ ldexp-two (a .rule) (c .before .before .before .before .before .if3 .taken)))
@@ -84,16 +84,16 @@ pub crate-rule-spec : {M : Type 1} → statement M
 crate-rule-spec =
     tie.close
     (tie.spec
-    shared-slice-read-wide
-    wide-requires
+    shared-slice-read-word
+    word-requires
     accepted-requires
     returns
     accepted-requires-2
     returns-2
-    shared-slice-read-wide-2
-    wide-requires-2
-    shared-slice-read-wide-3
-    wide-requires-3
+    shared-slice-read-word-2
+    word-requires-2
+    shared-slice-read-word-3
+    word-requires-3
     ldexp-at-requires
     returns-3
     no-value-requires

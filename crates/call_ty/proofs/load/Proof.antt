@@ -25,17 +25,17 @@ abbrev μ-loop : tie.MeasureT-loop
 loop-holds : tie.Need-loop-holds Inv-loop μ-loop
 loop-holds c = (search needs, refl, (λ k h. absurd (omega arith)), (λ k h. absurd (omega arith)))
 
-mul-wide : tie.Need-mul-wide Inv-loop μ-loop
-mul-wide c = search needs
+mul-word : tie.Need-mul-word Inv-loop μ-loop
+mul-word c = search needs
 
-shared-slice-read-wide : tie.Need-shared-slice-read-wide Inv-loop μ-loop
-shared-slice-read-wide c = search needs
+shared-slice-read-word : tie.Need-shared-slice-read-word Inv-loop μ-loop
+shared-slice-read-word c = search needs
 
-wide-requires : tie.Need-wide-requires Inv-loop μ-loop
-wide-requires c κs = search needs
+word-requires : tie.Need-word-requires Inv-loop μ-loop
+word-requires c κs = search needs
 
 code-at-requires : tie.Need-code-at-requires Inv-loop μ-loop
-code-at-requires c κs = let s = c .before .before .before .before .before .before .before in let e = c .wide .ensures in let l = s .pre .1 (c .before .before .before .loop .i) (c .before .before .loop-test .taken) in (s .pre .0, omega arith)
+code-at-requires c κs = let s = c .before .before .before .before .before .before .before in let e = c .word .ensures in let l = s .pre .1 (c .before .before .before .loop .i) (c .before .before .loop-test .taken) in (s .pre .0, omega arith)
 
 same-length : tie.Need-same-length Inv-loop μ-loop
 same-length c = c .before .before .before .before .before .loop .inv .1
@@ -45,7 +45,7 @@ returns c = let s = c .before .before .before .before .before .before .before .b
     let a = s .args in
     let i = c .before .before .before .before .before .loop .i in
     let l = c .before .before .before .before .loop-test .taken in
-    let e = c .before .code-at .ensures ∙ ap (λ (k : ℕ). codeOf (typeAt (a .words .now) k)) (c .before .before .wide .ensures) in
+    let e = c .before .code-at .ensures ∙ ap (λ (k : ℕ). codeOf (typeAt (a .words .now) k)) (c .before .before .word .ensures) in
     record {
       reply = sym (ap not (some-reference (a .words .now) (a .args .now) i l (offered (a .words .now) (a .n) (s .pre .0) (getD (a .args .now) i 0) (s .pre .1 i l) _ e (c .if1 .taken))));
       numbers = λ h. clash h refl;
@@ -68,7 +68,7 @@ loop-again c = let s = c .before .before .before .before .before .before .before
     let cs = c .before .before .before .before .before .loop .codes in
     let v = c .before .before .before .before .before .loop .inv in
     let x = c .before .code-at .result in
-    let e = c .before .code-at .ensures ∙ ap (λ (k : ℕ). codeOf (typeAt (a .words .now) k)) (c .before .before .wide .ensures) in
+    let e = c .before .code-at .ensures ∙ ap (λ (k : ℕ). codeOf (typeAt (a .words .now) k)) (c .before .before .word .ensures) in
     let q = v .1 in
     let p = s .pre .2 in (
       search needs,
@@ -98,9 +98,9 @@ load-spec =
     Inv-loop
     μ-loop
     loop-holds
-    mul-wide
-    shared-slice-read-wide
-    wide-requires
+    mul-word
+    shared-slice-read-word
+    word-requires
     code-at-requires
     same-length
     returns

@@ -15,14 +15,14 @@ returns c = let a = c .before .before .before .args in template-none (a .words .
 returns-2 : tie.Need-returns-2
 returns-2 c = let a = c .before .before .before .before .args in template-count (a .words .now) (a .rule) (a .tplt .now) (c .before .if1 .left) (c .if2 .taken)
 
-shared-slice-read-wide : tie.Need-shared-slice-read-wide
-shared-slice-read-wide c = search needs
+shared-slice-read-word : tie.Need-shared-slice-read-word
+shared-slice-read-word c = search needs
 
-wide-requires : tie.Need-wide-requires
-wide-requires c κs = search needs
+word-requires : tie.Need-word-requires
+word-requires c κs = search needs
 
 code-at-requires : tie.Need-code-at-requires
-code-at-requires c κs = let s = c .before .before .before .before .before .before in let e = c .wide .ensures in let k = c .before .before .if2 .left in let l = s .pre .1 0 (omega arith) in (s .pre .0, omega arith)
+code-at-requires c κs = let s = c .before .before .before .before .before .before in let e = c .word .ensures in let k = c .before .before .if2 .left in let l = s .pre .1 0 (omega arith) in (s .pre .0, omega arith)
 
 numeric-code-requires : tie.Need-numeric-code-requires
 numeric-code-requires c κs = search needs
@@ -32,7 +32,7 @@ returns-3 c = let s = c .before .before .before .before .before .before .before 
     let a = s .args in
     c .numeric-code .ensures
     ∙ template-one (a .words .now) (a .rule) (a .tplt .now) (c .before .before .before .before .before .if1 .left) (a .n) (s .pre .0) (s .pre .1) (c .before .before .before .before .if2 .left) _
-    (c .before .code-at .ensures ∙ ap (λ (k : ℕ). codeOf (typeAt (a .words .now) k)) (c .before .before .wide .ensures))
+    (c .before .code-at .ensures ∙ ap (λ (k : ℕ). codeOf (typeAt (a .words .now) k)) (c .before .before .word .ensures))
 
 pub template-right-spec : {M : Type 1} → statement M
 template-right-spec =
@@ -40,8 +40,8 @@ template-right-spec =
     (tie.spec
     returns
     returns-2
-    shared-slice-read-wide
-    wide-requires
+    shared-slice-read-word
+    word-requires
     code-at-requires
     numeric-code-requires
     returns-3)

@@ -27,11 +27,11 @@ returns-2 c = record { asks = inl refl }
 wide32-requires : tie.Need-wide32-requires
 wide32-requires c κs = search needs
 
-add-wide64 : tie.Need-add-wide64
-add-wide64 c = search needs
+add-word64 : tie.Need-add-word64
+add-word64 c = search needs
 
-wide64-requires : tie.Need-wide64-requires
-wide64-requires c κs = search needs
+word64-requires : tie.Need-word64-requires
+word64-requires c κs = search needs
 
 wide-requires : tie.Need-wide-requires
 wide-requires c κs = search needs
@@ -45,7 +45,7 @@ returns-3 c = let a = c .before .before .before .before .before .before .before 
     let n = neither _ _ (c .before .before .before .before .before .before .before .before .before .if1 .left) in
     let g = c .before .before .before .before .before .rule .given in
     let e = ap ruleOf (sym (c .before .before .before .before .before .before .before .before .part-of .ensures .bytes)) ∙ sym (c .before .before .before .before .before .before .before .rule-of .ensures) ∙ ap said (g .1) in
-    call-asked (a .sheet .now) (a .name) (a .k) (g .0 .0) (c .before .wide64 .result) (c .wide .result) (ltb-false _ _ (n .0)) (ltb-false _ _ (n .1)) (c .before .before .before .if2 .left) e (c .before .wide64 .ensures ∙ ap (λ (x : ℕ). 24 + x) (c .before .before .wide32 .ensures)) (c .wide .ensures)
+    call-asked (a .sheet .now) (a .name) (a .k) (g .0 .0) (c .before .word64 .result) (c .wide .result) (ltb-false _ _ (n .0)) (ltb-false _ _ (n .1)) (c .before .before .before .if2 .left) e (c .before .word64 .ensures ∙ ap (λ (x : ℕ). 24 + x) (c .before .before .wide32 .ensures)) (c .wide .ensures)
 
 returns-4 : tie.Need-returns-4
 returns-4 c = record { asks = inl refl }
@@ -60,8 +60,8 @@ asked-call-spec =
     enum-known-rule
     returns-2
     wide32-requires
-    add-wide64
-    wide64-requires
+    add-word64
+    word64-requires
     wide-requires
     enum-told
     returns-3

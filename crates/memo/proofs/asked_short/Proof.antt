@@ -7,26 +7,26 @@ use Rattle.memo.proofs.asked_short.Tie as tie
 returns : tie.Need-returns
 returns c = short-none _
 
-add-wide64 : tie.Need-add-wide64
-add-wide64 c = search needs
+add-word64 : tie.Need-add-word64
+add-word64 c = search needs
 
-wide64-requires : tie.Need-wide64-requires
-wide64-requires c κs = search needs
+word64-requires : tie.Need-word64-requires
+word64-requires c κs = search needs
 
 returns-2 : tie.Need-returns-2
-returns-2 c = let a = c .before .before .before .args in short-binary (a .x) (c .wide64 .result) (c .before .before .if1 .taken) (c .before .if2 .left) (c .wide64 .ensures)
+returns-2 c = let a = c .before .before .before .args in short-binary (a .x) (c .word64 .result) (c .before .before .if1 .taken) (c .before .if2 .left) (c .word64 .ensures)
 
 returns-3 : tie.Need-returns-3
 returns-3 c = short-none _
 
-add-wide64-2 : tie.Need-add-wide64-2
-add-wide64-2 c = search needs
+add-word64-2 : tie.Need-add-word64-2
+add-word64-2 c = search needs
 
-wide64-requires-2 : tie.Need-wide64-requires-2
-wide64-requires-2 c κs = search needs
+word64-requires-2 : tie.Need-word64-requires-2
+word64-requires-2 c κs = search needs
 
 returns-4 : tie.Need-returns-4
-returns-4 c = let a = c .before .before .before .before .args in short-unary (a .x) (c .wide642 .result) (c .before .before .if3 .taken) (c .before .if4 .left) (c .wide642 .ensures)
+returns-4 c = let a = c .before .before .before .before .args in short-unary (a .x) (c .word642 .result) (c .before .before .if3 .taken) (c .before .if4 .left) (c .word642 .ensures)
 
 returns-5 : tie.Need-returns-5
 returns-5 c = short-none _
@@ -36,11 +36,11 @@ asked-short-spec =
     tie.close
     (tie.spec
     returns
-    add-wide64
-    wide64-requires
+    add-word64
+    word64-requires
     returns-2
     returns-3
-    add-wide64-2
-    wide64-requires-2
+    add-word64-2
+    word64-requires-2
     returns-4
     returns-5)

@@ -12,8 +12,8 @@ slot-of-requires c κs = search needs
 mul-memo : tie.Need-mul-memo
 mul-memo c = search needs
 
-wide64-requires : tie.Need-wide64-requires
-wide64-requires c κs = search needs
+word64-requires : tie.Need-word64-requires
+word64-requires c κs = search needs
 
 add-memo : tie.Need-add-memo
 add-memo c = search needs
@@ -32,7 +32,7 @@ returns c = let a = c .before .before .before .args in
     record {
       slot = c .before .slot-of .result;
       below = c .before .slot-of .ensures;
-      words = ap (λ (x : ℕ). set (a .memo .now) (c .before .slot-of .result) (a .key * 256 + x)) (c .wide64 .ensures);
+      words = ap (λ (x : ℕ). set (a .memo .now) (c .before .slot-of .result) (a .key * 256 + x)) (c .word64 .ensures);
     }
 
 pub note-spec : {M : Type 1} → statement M
@@ -41,7 +41,7 @@ note-spec =
     (tie.spec
     slot-of-requires
     mul-memo
-    wide64-requires
+    word64-requires
     add-memo
     mul-memo-2
     slice-write-memo

@@ -11,7 +11,7 @@ use Rattle.table.proofs.TypeLaws.{row-at}
 use Rattle.table.specs.declared.Entry.{Entry}
 use Rattle.table.specs.Table.{entryAt}
 use Rattle.table.proofs.entry_at.Reads as entry-at-reads
-use Rattle.table.proofs.wide.Reads as wide-reads
+use Rattle.cast.proofs.word.Reads as word-reads
 use Rattle.spell.proofs.Entries.{under, alone, with-args, with-result}
 use Rattle.spell.proofs.Heads.{head-long, opening-long, closing-long, fract-long}
 use Rattle.spell.specs.Parts.{half}
@@ -53,19 +53,19 @@ spell-type-below t =
 
 abbrev spell-args-claims : ℕ → spell-args-lts.Claims
 spell-args-claims t =
-    (entry-at-reads.Asked, entry-at-reads.Learnt, put-opening-reads.Asked, put-opening-reads.Learnt, wide-reads.Asked, wide-reads.Learnt, spell-type-below t, spell-type.Post, put-closing-reads.Asked, put-closing-reads.Learnt)
+    (entry-at-reads.Asked, entry-at-reads.Learnt, put-opening-reads.Asked, put-opening-reads.Learnt, word-reads.Asked, word-reads.Learnt, spell-type-below t, spell-type.Post, put-closing-reads.Asked, put-closing-reads.Learnt)
 
 -- what opens the arguments is short
 args-near : (t : ℕ) (c : spell-args-lts.After-put-opening (spell-args-claims t) (spell-args-at t) spell-args.Post) → c .put-opening .result ≤ c .before .before .before .before .before .args .at + 20
 args-near t c = omega (arith, c .put-opening .ensures .place, opening-long (c .before .before .entry-at .result))
 
 -- the number of the elem, and that it is smaller
-args-elem : (t : ℕ) (c : spell-args-lts.After-wide (spell-args-claims t) (spell-args-at t) spell-args.Post) →
-    (c .wide .result ≡ entryAt (c .before .before .before .before .before .before .before .before .args .words .now) (c .before .before .before .before .before .before .before .before .args .i) .elem) × (c .wide .result < c .before .before .before .before .before .before .before .before .args .i)
+args-elem : (t : ℕ) (c : spell-args-lts.After-word (spell-args-claims t) (spell-args-at t) spell-args.Post) →
+    (c .word .result ≡ entryAt (c .before .before .before .before .before .before .before .before .args .words .now) (c .before .before .before .before .before .before .before .before .args .i) .elem) × (c .word .result < c .before .before .before .before .before .before .before .before .args .i)
 args-elem t c =
     let a = c .before .before .before .before .before .before .before .before .args in
     let p = c .before .before .before .before .before .before .before .before .pre .1 in
-    let e = c .wide .ensures ∙ ap (λ (x : Entry). x .elem) (c .before .before .before .before .before .entry-at .ensures) in
+    let e = c .word .ensures ∙ ap (λ (x : Entry). x .elem) (c .before .before .before .before .before .entry-at .ensures) in
     (e, rw e (row-at (a .words .now) (a .n) (p .0) (a .i) (p .1 .0 .0) (p .1 .0 .1) .0))
 
 spell-args-entry-at-requires : (t : ℕ) → spell-args-lts.Need-entry-at-requires (spell-args-claims t) (spell-args-at t) spell-args.Post
@@ -74,8 +74,8 @@ spell-args-entry-at-requires t c κs = omega arith
 spell-args-put-opening-requires : (t : ℕ) → spell-args-lts.Need-put-opening-requires (spell-args-claims t) (spell-args-at t) spell-args.Post
 spell-args-put-opening-requires t c κs = omega arith
 
-spell-args-wide-requires : (t : ℕ) → spell-args-lts.Need-wide-requires (spell-args-claims t) (spell-args-at t) spell-args.Post
-spell-args-wide-requires t c κs = search needs
+spell-args-word-requires : (t : ℕ) → spell-args-lts.Need-word-requires (spell-args-claims t) (spell-args-at t) spell-args.Post
+spell-args-word-requires t c κs = search needs
 
 spell-args-spell-type-requires : (t : ℕ) → spell-args-lts.Need-spell-type-requires (spell-args-claims t) (spell-args-at t) spell-args.Post
 spell-args-spell-type-requires t c κs =
@@ -97,7 +97,7 @@ spell-args-returns t c =
 
 abbrev spell-type-claims : ℕ → spell-type-lts.Claims
 spell-type-claims t =
-    (entry-at-reads.Asked, entry-at-reads.Learnt, put-head-reads.Asked, put-head-reads.Learnt, wide-reads.Asked, wide-reads.Learnt, put-fract-reads.Asked, put-fract-reads.Learnt, spell-args-below t, spell-args.Post)
+    (entry-at-reads.Asked, entry-at-reads.Learnt, put-head-reads.Asked, put-head-reads.Learnt, word-reads.Asked, word-reads.Learnt, put-fract-reads.Asked, put-fract-reads.Learnt, spell-args-below t, spell-args.Post)
 
 -- a head is not long
 type-near : (t : ℕ) (c : spell-type-lts.After-put-head (spell-type-claims t) (spell-type-at t) spell-type.Post) → c .put-head .result ≤ c .before .before .before .before .before .args .at + half
@@ -123,8 +123,8 @@ spell-type-returns t c =
     let k : entryAt (a .words .now) (a .i) .kind < 7 = omega (arith, c .if1 .taken, ap (λ (x : Entry). x .kind) e) in
     (rw (alone (a .words .now) (a .n) (p .0) (a .i) (p .1 .0) k) (rw e at (c .before .before .before .before .put-head .ensures)), omega (arith, type-near t (c .before .before .before .before)))
 
-spell-type-wide-requires : (t : ℕ) → spell-type-lts.Need-wide-requires (spell-type-claims t) (spell-type-at t) spell-type.Post
-spell-type-wide-requires t c κs = search needs
+spell-type-word-requires : (t : ℕ) → spell-type-lts.Need-word-requires (spell-type-claims t) (spell-type-at t) spell-type.Post
+spell-type-word-requires t c κs = search needs
 
 spell-type-entry-at-requires-2 : (t : ℕ) → spell-type-lts.Need-entry-at-requires-2 (spell-type-claims t) (spell-type-at t) spell-type.Post
 spell-type-entry-at-requires-2 t c κs =
@@ -132,7 +132,7 @@ spell-type-entry-at-requires-2 t c κs =
     let p = c .before .before .before .before .before .before .before .before .before .before .before .before .before .pre .1 in
     let e = c .before .before .before .before .before .before .before .before .before .before .entry-at .ensures in
     let k : 7 ≤ entryAt (a .words .now) (a .i) .kind = omega (arith, c .before .before .if2 .taken, ap (λ (x : Entry). x .kind) e) in
-    omega (arith, c .wide .ensures, ap (λ (x : Entry). x .elem) e, under (a .words .now) (a .n) (p .0) (a .i) (p .1 .0) k .1)
+    omega (arith, c .word .ensures, ap (λ (x : Entry). x .elem) e, under (a .words .now) (a .n) (p .0) (a .i) (p .1 .0) k .1)
 
 spell-type-put-fract-requires : (t : ℕ) → spell-type-lts.Need-put-fract-requires (spell-type-claims t) (spell-type-at t) spell-type.Post
 spell-type-put-fract-requires t c κs = omega (arith, type-near t (c .before .before .before .before .before .before .before .before .before))
@@ -146,7 +146,7 @@ spell-type-returns-2 t c =
     let p = c .before .before .before .before .before .before .before .before .before .before .before .before .before .before .before .before .before .pre .1 in
     let e = c .before .before .before .before .before .before .before .before .before .before .before .before .before .before .entry-at .ensures in
     let k : 14 ≤ entryAt (a .words .now) (a .i) .kind = omega (arith, c .before .before .before .before .before .before .if2 .taken, ap (λ (x : Entry). x .kind) e) in
-    let f = rw (c .before .before .before .before .wide .ensures ∙ ap (λ (x : Entry). x .elem) e) at (c .before .before .before .entry-at2 .ensures) in
+    let f = rw (c .before .before .before .before .word .ensures ∙ ap (λ (x : Entry). x .elem) e) at (c .before .before .before .entry-at2 .ensures) in
     let m = entryAt (a .words .now) (a .i) .elem in (
       rw (with-result (a .words .now) (a .n) (p .0) (a .i) (p .1 .0) k) (put-put (rw e at (c .before .before .before .before .before .before .before .before .before .before .before .before .put-head .ensures)) (rw f at (c .before .before .put-fract .ensures))),
       omega (arith, type-near t (c .before .before .before .before .before .before .before .before .before .before .before .before), c .before .before .put-fract .ensures .place, fract-long (c .before .before .before .entry-at2 .result), ap (λ (x : Entry). x .p) f, ap (λ (x : Entry). x .q) f, c .before .before .before .before .before .before .before .before .before .before .before .before .before .before .before .before .shared-slice-known .given (m * 4 + 1), c .before .before .before .before .before .before .before .before .before .before .before .before .before .before .before .before .shared-slice-known .given (m * 4 + 2)),
@@ -179,7 +179,7 @@ pub +spell-args+spell-type-spec : {M : Type 1} → statement M
     spell-args.Post
     (spell-args-entry-at-requires t)
     (spell-args-put-opening-requires t)
-    (spell-args-wide-requires t)
+    (spell-args-word-requires t)
     (spell-args-spell-type-requires t)
     (spell-args-put-closing-requires t)
     (spell-args-same-length t)
@@ -191,7 +191,7 @@ pub +spell-args+spell-type-spec : {M : Type 1} → statement M
     (spell-type-put-head-requires t)
     (spell-type-same-length t)
     (spell-type-returns t)
-    (spell-type-wide-requires t)
+    (spell-type-word-requires t)
     (spell-type-entry-at-requires-2 t)
     (spell-type-put-fract-requires t)
     (spell-type-same-length-2 t)

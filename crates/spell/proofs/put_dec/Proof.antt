@@ -3,8 +3,8 @@ use borrow.Author.Needs.{needs}
 use Rattle.spell.proofs.put_dec.Statement.{statement}
 use Rattle.spell.proofs.put_dec.Tie as tie
 
-wide-requires : tie.Need-wide-requires
-wide-requires c κs = search needs
+word-requires : tie.Need-word-requires
+word-requires c κs = search needs
 
 put-number-requires : tie.Need-put-number-requires
 put-number-requires c κs = search needs
@@ -13,7 +13,7 @@ same-length : tie.Need-same-length
 same-length c = search needs
 
 returns : tie.Need-returns
-returns c = rw (c .before .before .before .wide .ensures) at (c .before .before .put-number .ensures)
+returns c = rw (c .before .before .before .word .ensures) at (c .before .before .put-number .ensures)
 
 pub put-dec-spec : {M : Type 1} → statement M
-put-dec-spec = tie.close (tie.spec wide-requires put-number-requires same-length returns)
+put-dec-spec = tie.close (tie.spec word-requires put-number-requires same-length returns)

@@ -12,8 +12,8 @@ put-head-requires c κs = search needs
 put-byte-requires : tie.Need-put-byte-requires
 put-byte-requires c κs = omega (arith, c .before .before .before .put-head .ensures .place, head-long (c .before .before .before .before .before .before .before .before .args .e))
 
-wide-requires : tie.Need-wide-requires
-wide-requires c κs = search needs
+word-requires : tie.Need-word-requires
+word-requires c κs = search needs
 
 put-fract-scalar-requires : tie.Need-put-fract-scalar-requires
 put-fract-scalar-requires c κs = omega (arith, c .before .before .before .before .before .before .before .before .put-head .ensures .place, head-long (c .before .before .before .before .before .before .before .before .before .before .before .before .before .args .e), c .before .before .before .before .put-byte .ensures .place)
@@ -24,10 +24,10 @@ same-length c = search needs
 returns : tie.Need-returns
 returns c =
     rw (fract-vec (c .before .before .before .before .before .before .before .before .before .before .before .before .before .before .before .before .args .e) (c .before .before .before .before .before .before .before .before .before .before .before .before .before .if1 .taken))
-    (put-put (put-put (c .before .before .before .before .before .before .before .before .before .before .before .put-head .ensures) (c .before .before .before .before .before .before .before .put-byte .ensures)) (rw (c .before .before .before .wide .ensures) at (c .before .before .put-fract-scalar .ensures)))
+    (put-put (put-put (c .before .before .before .before .before .before .before .before .before .before .before .put-head .ensures) (c .before .before .before .before .before .before .before .put-byte .ensures)) (rw (c .before .before .before .word .ensures) at (c .before .before .put-fract-scalar .ensures)))
 
-wide-requires-2 : tie.Need-wide-requires-2
-wide-requires-2 c κs = search needs
+word-requires-2 : tie.Need-word-requires-2
+word-requires-2 c κs = search needs
 
 put-fract-scalar-requires-2 : tie.Need-put-fract-scalar-requires-2
 put-fract-scalar-requires-2 c κs = search needs
@@ -36,7 +36,7 @@ same-length-2 : tie.Need-same-length-2
 same-length-2 c = search needs
 
 returns-2 : tie.Need-returns-2
-returns-2 c = rw (fract-scalar (c .before .before .before .before .before .before .before .before .args .e) (c .before .before .before .before .before .if1 .left)) (rw (c .before .before .before .wide2 .ensures) at (c .before .before .put-fract-scalar2 .ensures))
+returns-2 c = rw (fract-scalar (c .before .before .before .before .before .before .before .before .args .e) (c .before .before .before .before .before .if1 .left)) (rw (c .before .before .before .word2 .ensures) at (c .before .before .put-fract-scalar2 .ensures))
 
 pub put-fract-spec : {M : Type 1} → statement M
 put-fract-spec =
@@ -44,11 +44,11 @@ put-fract-spec =
     (tie.spec
     put-head-requires
     put-byte-requires
-    wide-requires
+    word-requires
     put-fract-scalar-requires
     same-length
     returns
-    wide-requires-2
+    word-requires-2
     put-fract-scalar-requires-2
     same-length-2
     returns-2)

@@ -27,8 +27,8 @@ returns c = let e = c .before .before .before .before .before .before .before .b
 put-byte-requires-2 : tie.Need-put-byte-requires-2
 put-byte-requires-2 c κs = search needs
 
-wide-requires : tie.Need-wide-requires
-wide-requires c κs = search needs
+word-requires : tie.Need-word-requires
+word-requires c κs = search needs
 
 add-put-text : tie.Need-add-put-text
 add-put-text c = search needs
@@ -41,8 +41,8 @@ same-length-2 c = search needs
 
 returns-2 : tie.Need-returns-2
 returns-2 c = let e = c .before .before .before .before .before .before .before .before .before .before .before .before .before .before .before .args .e in (
-  rw (last-space e (c .before .before .before .before .before .before .before .before .before .before .before .before .if1 .left) (c .before .before .before .before .before .before .before .before .before .if2 .taken)) (put-put (c .before .before .before .before .before .before .before .put-byte2 .ensures) (rw (c .before .before .before .wide .ensures) at (c .before .before .put-text .ensures))),
-  omega (arith, c .before .before .before .before .before .before .before .put-byte2 .ensures .place, c .before .before .put-text .ensures .place, text-long (_+_ 22 (c .before .before .before .wide .result))),
+  rw (last-space e (c .before .before .before .before .before .before .before .before .before .before .before .before .if1 .left) (c .before .before .before .before .before .before .before .before .before .if2 .taken)) (put-put (c .before .before .before .before .before .before .before .put-byte2 .ensures) (rw (c .before .before .before .word .ensures) at (c .before .before .put-text .ensures))),
+  omega (arith, c .before .before .before .before .before .before .before .put-byte2 .ensures .place, c .before .before .put-text .ensures .place, text-long (_+_ 22 (c .before .before .before .word .result))),
 )
 
 returns-3 : tie.Need-returns-3
@@ -57,7 +57,7 @@ put-last-spec =
     same-length
     returns
     put-byte-requires-2
-    wide-requires
+    word-requires
     add-put-text
     put-text-requires
     same-length-2

@@ -11,8 +11,8 @@ use Rattle.spell.proofs.put_opening.Tie as tie
 put-byte-requires : tie.Need-put-byte-requires
 put-byte-requires c κs = search needs
 
-wide-requires : tie.Need-wide-requires
-wide-requires c κs = search needs
+word-requires : tie.Need-word-requires
+word-requires c κs = search needs
 
 add-put-text : tie.Need-add-put-text
 add-put-text c = search needs
@@ -21,7 +21,7 @@ put-text-requires : tie.Need-put-text-requires
 put-text-requires c κs = search needs
 
 put-byte-requires-2 : tie.Need-put-byte-requires-2
-put-byte-requires-2 c κs = omega (arith, c .before .before .before .before .before .before .before .before .before .before .before .put-byte .ensures .place, c .before .before .before .put-text .ensures .place, text-long (_+_ 16 (c .before .before .before .before .wide .result)))
+put-byte-requires-2 c κs = omega (arith, c .before .before .before .before .before .before .before .before .before .before .before .put-byte .ensures .place, c .before .before .before .put-text .ensures .place, text-long (_+_ 16 (c .before .before .before .before .word .result)))
 
 same-length : tie.Need-same-length
 same-length c = search needs
@@ -30,7 +30,7 @@ returns : tie.Need-returns
 returns c =
     let e = c .before .before .before .before .before .before .before .before .before .before .before .before .before .before .before .before .before .args .e in
     rw (opening-space e (c .before .before .before .before .before .before .before .before .before .if1 .taken))
-    (put-put (put-put (c .before .before .before .before .before .before .before .before .before .before .before .before .before .before .put-byte .ensures) (rw (c .before .before .before .before .before .before .before .wide .ensures) at (c .before .before .before .before .before .before .put-text .ensures))) (c .before .before .put-byte2 .ensures))
+    (put-put (put-put (c .before .before .before .before .before .before .before .before .before .before .before .before .before .before .put-byte .ensures) (rw (c .before .before .before .before .before .before .before .word .ensures) at (c .before .before .before .before .before .before .put-text .ensures))) (c .before .before .put-byte2 .ensures))
 
 same-length-2 : tie.Need-same-length-2
 same-length-2 c = search needs
@@ -43,7 +43,7 @@ put-opening-spec =
     tie.close
     (tie.spec
     put-byte-requires
-    wide-requires
+    word-requires
     add-put-text
     put-text-requires
     put-byte-requires-2

@@ -27,8 +27,8 @@ enum-known-a-3 c = search needs
 reason-no-requires : tie.Need-reason-no-requires
 reason-no-requires c κs = search needs
 
-wide-requires : tie.Need-wide-requires
-wide-requires c κs = search needs
+wide32-requires : tie.Need-wide32-requires
+wide32-requires c κs = search needs
 
 told-requires-3 : tie.Need-told-requires-3
 told-requires-3 c κs = refused-fits _ (c .before .before .before .before .before .before .pre) (c .before .before .before .before .a3 .given .0 .0) (c .before .before .before .before .a3 .given .1)
@@ -40,7 +40,7 @@ returns-2 : tie.Need-returns-2
 returns-2 c = none-told (c .before .before .before .before .args .a) _ (c .before .before .a2 .given .0 .0) (c .before .before .a2 .given .1) (c .told2 .ensures)
 
 returns-3 : tie.Need-returns-3
-returns-3 c = refused-told (c .before .before .before .before .before .before .before .args .a) _ (c .before .before .before .before .before .a3 .given .0 .0) _ (c .before .before .before .before .before .a3 .given .1) (c .before .wide .ensures ∙ c .before .before .reason-no .ensures) (c .told3 .ensures)
+returns-3 c = refused-told (c .before .before .before .before .before .before .before .args .a) _ (c .before .before .before .before .before .a3 .given .0 .0) _ (c .before .before .before .before .before .a3 .given .1) (c .before .wide32 .ensures ∙ c .before .before .reason-no .ensures) (c .told3 .ensures)
 
 pub reply-of-spec : {M : Type 1} → statement M
 reply-of-spec =
@@ -53,7 +53,7 @@ reply-of-spec =
     told-requires-2
     enum-known-a-3
     reason-no-requires
-    wide-requires
+    wide32-requires
     told-requires-3
     returns
     returns-2

@@ -6,40 +6,40 @@ use borrow.Author.Needs.{needs}
 use Rattle.swartabelk.proofs.swartabelk_binary.Statement.{statement}
 use Rattle.swartabelk.proofs.swartabelk_binary.Tie as tie
 
-wide-requires : tie.Need-wide-requires
-wide-requires c κs = search needs
+word-requires : tie.Need-word-requires
+word-requires c κs = search needs
 
-wide-requires-2 : tie.Need-wide-requires-2
-wide-requires-2 c κs = search needs
+word-requires-2 : tie.Need-word-requires-2
+word-requires-2 c κs = search needs
 
-wide-requires-3 : tie.Need-wide-requires-3
-wide-requires-3 c κs = search needs
+word-requires-3 : tie.Need-word-requires-3
+word-requires-3 c κs = search needs
 
-wide-requires-4 : tie.Need-wide-requires-4
-wide-requires-4 c κs = search needs
+word-requires-4 : tie.Need-word-requires-4
+word-requires-4 c κs = search needs
 
 type-binary-op-requires : tie.Need-type-binary-op-requires
 type-binary-op-requires c κs = search needs
 
 reply-of-requires : tie.Need-reply-of-requires
-reply-of-requires c κs = binary-fits _ (c .before .before .before .before .before .before .before .wide .result) (omega (arith, c .before .before .before .before .before .before .before .wide .ensures, c .before .before .before .before .before .before .before .before .before .fits .used)) _ _ _ _ _ (c .before .before .type-binary-op .ensures)
+reply-of-requires c κs = binary-fits _ (c .before .before .before .before .before .before .before .word .result) (omega (arith, c .before .before .before .before .before .before .before .word .ensures, c .before .before .before .before .before .before .before .before .before .fits .used)) _ _ _ _ _ (c .before .before .type-binary-op .ensures)
 
 same-length : tie.Need-same-length
 same-length c = search needs
 
 returns : tie.Need-returns
 returns c = let a = c .before .before .before .before .before .before .before .before .before .before .args in
-    replied (λ i. typeBinaryOp (a .words .now) (c .before .before .before .before .before .before .before .before .wide .ensures i) (c .before .before .before .before .before .before .before .wide2 .ensures i) (c .before .before .before .before .before .before .wide3 .ensures i) (c .before .before .before .before .before .wide4 .ensures i))
+    replied (λ i. typeBinaryOp (a .words .now) (c .before .before .before .before .before .before .before .before .word .ensures i) (c .before .before .before .before .before .before .before .word2 .ensures i) (c .before .before .before .before .before .before .word3 .ensures i) (c .before .before .before .before .before .word4 .ensures i))
     (c .before .before .before .type-binary-op .ensures) (c .reply-of .ensures)
 
 pub swartabelk-binary-spec : {M : Type 1} → statement M
 swartabelk-binary-spec =
     tie.close
     (tie.spec
-    wide-requires
-    wide-requires-2
-    wide-requires-3
-    wide-requires-4
+    word-requires
+    word-requires-2
+    word-requires-3
+    word-requires-4
     type-binary-op-requires
     reply-of-requires
     same-length

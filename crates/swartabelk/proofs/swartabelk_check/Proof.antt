@@ -7,8 +7,8 @@ use borrow.Author.Needs.{needs}
 use Rattle.swartabelk.proofs.swartabelk_check.Statement.{statement}
 use Rattle.swartabelk.proofs.swartabelk_check.Tie as tie
 
-wide-requires : tie.Need-wide-requires
-wide-requires c κs = search needs
+word-requires : tie.Need-word-requires
+word-requires c κs = search needs
 
 sound-requires : tie.Need-sound-requires
 sound-requires c κs = search needs
@@ -17,25 +17,25 @@ no-value-requires : tie.Need-no-value-requires
 no-value-requires c κs = search needs
 
 reply-of-requires : tie.Need-reply-of-requires
-reply-of-requires c κs = let a = c .before .before .before .before .before .args in sound-fits (a .words .now) (a .used) _ (c .before .before .before .wide .ensures) _ (omega (arith, c .before .before .before .before .before .fits .used)) (c .no-value .ensures .made)
+reply-of-requires c κs = let a = c .before .before .before .before .before .args in sound-fits (a .words .now) (a .used) _ (c .before .before .before .word .ensures) _ (omega (arith, c .before .before .before .before .before .fits .used)) (c .no-value .ensures .made)
 
 returns : tie.Need-returns
-returns c = let a = c .before .before .before .before .before .before .args in c .reply-of .ensures ∙ ap replyOf (sound-check (a .words .now) (a .used) _ (c .before .before .before .before .wide .ensures) _ (sym (c .before .before .before .sound .ensures) ∙ c .before .before .if1 .taken) (c .before .no-value .ensures .made))
+returns c = let a = c .before .before .before .before .before .before .args in c .reply-of .ensures ∙ ap replyOf (sound-check (a .words .now) (a .used) _ (c .before .before .before .before .word .ensures) _ (sym (c .before .before .before .sound .ensures) ∙ c .before .before .if1 .taken) (c .before .no-value .ensures .made))
 
 refused-requires : tie.Need-refused-requires
 refused-requires c κs = search needs
 
 reply-of-requires-2 : tie.Need-reply-of-requires-2
-reply-of-requires-2 c κs = let a = c .before .before .before .before .before .args in unsound-fits (a .words .now) (a .used) _ (c .before .before .before .wide .ensures) _ (omega (arith, c .before .before .before .before .before .fits .used)) (c .refused .ensures .made)
+reply-of-requires-2 c κs = let a = c .before .before .before .before .before .args in unsound-fits (a .words .now) (a .used) _ (c .before .before .before .word .ensures) _ (omega (arith, c .before .before .before .before .before .fits .used)) (c .refused .ensures .made)
 
 returns-2 : tie.Need-returns-2
-returns-2 c = let a = c .before .before .before .before .before .before .args in c .reply-of2 .ensures ∙ ap replyOf (unsound-check (a .words .now) (a .used) _ (c .before .before .before .before .wide .ensures) _ (sym (c .before .before .before .sound .ensures) ∙ c .before .before .if1 .left) (c .before .refused .ensures .made))
+returns-2 c = let a = c .before .before .before .before .before .before .args in c .reply-of2 .ensures ∙ ap replyOf (unsound-check (a .words .now) (a .used) _ (c .before .before .before .before .word .ensures) _ (sym (c .before .before .before .sound .ensures) ∙ c .before .before .if1 .left) (c .before .refused .ensures .made))
 
 pub swartabelk-check-spec : {M : Type 1} → statement M
 swartabelk-check-spec =
     tie.close
     (tie.spec
-    wide-requires
+    word-requires
     sound-requires
     no-value-requires
     reply-of-requires

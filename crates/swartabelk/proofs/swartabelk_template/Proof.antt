@@ -6,22 +6,22 @@ use borrow.Author.Needs.{needs}
 use Rattle.swartabelk.proofs.swartabelk_template.Statement.{statement}
 use Rattle.swartabelk.proofs.swartabelk_template.Tie as tie
 
-wide-requires : tie.Need-wide-requires
-wide-requires c κs = search needs
+word-requires : tie.Need-word-requires
+word-requires c κs = search needs
 
 type-template-requires : tie.Need-type-template-requires
 type-template-requires c κs = search needs
 
 reply-of-requires : tie.Need-reply-of-requires
-reply-of-requires c κs = template-fits _ (c .before .before .before .before .wide .result) (omega (arith, c .before .before .before .before .wide .ensures, c .before .before .before .before .before .before .before .fits .used)) _ _ _ _ (c .before .before .type-template .ensures)
+reply-of-requires c κs = template-fits _ (c .before .before .before .before .word .result) (omega (arith, c .before .before .before .before .word .ensures, c .before .before .before .before .before .before .before .fits .used)) _ _ _ _ (c .before .before .type-template .ensures)
 
 same-length : tie.Need-same-length
 same-length c = search needs
 
 returns : tie.Need-returns
 returns c = let a = c .before .before .before .before .before .before .before .before .args in
-    replied (λ i. templateOutcome (a .words .now) (c .before .before .before .before .before .wide .ensures i) (a .head .now) (a .args .now)) (c .before .before .before .type-template .ensures) (c .reply-of .ensures)
+    replied (λ i. templateOutcome (a .words .now) (c .before .before .before .before .before .word .ensures i) (a .head .now) (a .args .now)) (c .before .before .before .type-template .ensures) (c .reply-of .ensures)
 
 pub swartabelk-template-spec : {M : Type 1} → statement M
 swartabelk-template-spec =
-    tie.close (tie.spec wide-requires type-template-requires reply-of-requires same-length returns)
+    tie.close (tie.spec word-requires type-template-requires reply-of-requires same-length returns)

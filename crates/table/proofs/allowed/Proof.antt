@@ -6,15 +6,15 @@ use borrow.Author.Needs.{needs}
 use Rattle.table.proofs.allowed.Statement.{statement}
 use Rattle.table.proofs.allowed.Tie as tie
 
-wide-requires : tie.Need-wide-requires
-wide-requires c κs = search needs
+word-requires : tie.Need-word-requires
+word-requires c κs = search needs
 
 scalar-ok-requires : tie.Need-scalar-ok-requires
 scalar-ok-requires c κs = search needs
 
 returns : tie.Need-returns
 unfolding allowedb
-returns c = rw (lt-ltb (c .before .before .before .before .args .e .kind) 7 (omega arith), c .scalar-ok .ensures, c .before .before .wide .ensures)
+returns c = rw (lt-ltb (c .before .before .before .before .args .e .kind) 7 (omega arith), c .scalar-ok .ensures, c .before .before .word .ensures)
 
 made-ok-requires : tie.Need-made-ok-requires
 made-ok-requires c κs = search needs
@@ -25,4 +25,4 @@ returns-2 c = rw (le-ltb (c .before .before .before .before .args .e .kind) 7 (o
 
 pub allowed-spec : {M : Type 1} → statement M
 allowed-spec =
-    tie.close (tie.spec wide-requires scalar-ok-requires returns made-ok-requires returns-2)
+    tie.close (tie.spec word-requires scalar-ok-requires returns made-ok-requires returns-2)

@@ -21,14 +21,14 @@ loop-holds c = (omega arith, refl)
 entry-at-requires : tie.Need-entry-at-requires Inv-loop μ-loop
 entry-at-requires c κs = omega arith
 
-wide-requires : tie.Need-wide-requires Inv-loop μ-loop
-wide-requires c κs = search needs
+word-requires : tie.Need-word-requires Inv-loop μ-loop
+word-requires c κs = search needs
 
 returns : tie.Need-returns Inv-loop μ-loop
 returns c =
     let l = c .before .before .before .before in
     let a = l .before .before .args in
-    let m : c .before .wide .result ≡ elemOf (a .words .now) (l .loop .at) = c .before .wide .ensures ∙ ap (λ (e : Entry). e .elem) (c .before .before .entry-at .ensures) in
+    let m : c .before .word .result ≡ elemOf (a .words .now) (l .loop .at) = c .before .word .ensures ∙ ap (λ (e : Entry). e .elem) (c .before .before .entry-at .ensures) in
     sym (base-stop (a .words .now) (l .loop .at) (omega arith) (omega arith)) ∙ l .loop .inv .1
 
 loop-less : tie.Need-loop-less Inv-loop μ-loop
@@ -38,7 +38,7 @@ loop-again : tie.Need-loop-again Inv-loop μ-loop
 loop-again c =
     let l = c .before .before .before .before in
     let a = l .before .before .args in
-    let m : c .before .wide .result ≡ elemOf (a .words .now) (l .loop .at) = c .before .wide .ensures ∙ ap (λ (e : Entry). e .elem) (c .before .before .entry-at .ensures) in
+    let m : c .before .word .result ≡ elemOf (a .words .now) (l .loop .at) = c .before .word .ensures ∙ ap (λ (e : Entry). e .elem) (c .before .before .entry-at .ensures) in
     (omega arith, ap (baseOf (a .words .now)) m ∙ sym (base-step (a .words .now) (l .loop .at) (omega arith) (omega arith)) ∙ l .loop .inv .1)
 
 returns-2 : tie.Need-returns-2 Inv-loop μ-loop
@@ -54,7 +54,7 @@ base-of-spec =
     μ-loop
     loop-holds
     entry-at-requires
-    wide-requires
+    word-requires
     returns
     loop-less
     loop-again

@@ -6,8 +6,8 @@ use borrow.Author.Needs.{needs}
 use Rattle.table.proofs.deep_ok.Statement.{statement}
 use Rattle.table.proofs.deep_ok.Tie as tie
 
-wide-requires : tie.Need-wide-requires
-wide-requires c κs = search needs
+word-requires : tie.Need-word-requires
+word-requires c κs = search needs
 
 is-stored-requires : tie.Need-is-stored-requires
 is-stored-requires c κs = search needs
@@ -46,7 +46,7 @@ unfolding rowOk
 returns-3 c =
     let k = c .before .before .before .before .before .before .args .e .kind in
     let l = c .before .before .before .before .before .before .pre in
-    rw (ne-eqb k 7 (omega arith), ne-eqb k 8 (omega arith), ne-eqb k 9 (omega arith), ne-eqb k 10 (omega arith), ne-eqb k 11 (omega arith), ne-eqb k 12 (c .before .before .before .before .if1 .left), ne-eqb k 13 (c .before .before .before .if2 .left), c .before .before .if3 .taken, c .is-float .ensures, c .before .is-plain .ensures, c .before .before .before .before .before .wide .ensures)
+    rw (ne-eqb k 7 (omega arith), ne-eqb k 8 (omega arith), ne-eqb k 9 (omega arith), ne-eqb k 10 (omega arith), ne-eqb k 11 (omega arith), ne-eqb k 12 (c .before .before .before .before .if1 .left), ne-eqb k 13 (c .before .before .before .if2 .left), c .before .before .if3 .taken, c .is-float .ensures, c .before .is-plain .ensures, c .before .before .before .before .before .word .ensures)
 
 returns-4 : tie.Need-returns-4
 unfolding rowOk
@@ -59,7 +59,7 @@ pub deep-ok-spec : {M : Type 1} → statement M
 deep-ok-spec =
     tie.close
     (tie.spec
-    wide-requires
+    word-requires
     is-stored-requires
     is-abstract-requires
     returns

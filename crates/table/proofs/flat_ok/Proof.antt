@@ -6,15 +6,15 @@ use borrow.Author.Needs.{needs}
 use Rattle.table.proofs.flat_ok.Statement.{statement}
 use Rattle.table.proofs.flat_ok.Tie as tie
 
-wide-requires : tie.Need-wide-requires
-wide-requires c κs = search needs
+word-requires : tie.Need-word-requires
+word-requires c κs = search needs
 
 is-width-requires : tie.Need-is-width-requires
 is-width-requires c κs = search needs
 
 returns : tie.Need-returns
 unfolding rowOk
-returns c = let k = c .before .before .before .before .args .e .kind in λ eb. rw (eq-eqb k 7 (c .before .before .if1 .taken), c .before .before .before .wide .ensures, c .before .is-width .ensures)
+returns c = let k = c .before .before .before .before .args .e .kind in λ eb. rw (eq-eqb k 7 (c .before .before .if1 .taken), c .before .before .before .word .ensures, c .before .is-width .ensures)
 
 is-width-requires-2 : tie.Need-is-width-requires-2
 is-width-requires-2 c κs = search needs
@@ -27,7 +27,7 @@ is-float-requires c κs = search needs
 
 returns-2 : tie.Need-returns-2
 unfolding rowOk
-returns-2 c = let k = c .before .before .before .before .before .before .args .e .kind in λ eb. rw (ne-eqb k 7 (c .before .before .before .before .if1 .left), eq-eqb k 8 (c .before .before .before .if2 .taken), c .is-float .ensures, c .before .is-width3 .ensures, c .before .before .is-width2 .ensures, c .before .before .before .before .before .wide .ensures)
+returns-2 c = let k = c .before .before .before .before .before .before .args .e .kind in λ eb. rw (ne-eqb k 7 (c .before .before .before .before .if1 .left), eq-eqb k 8 (c .before .before .before .if2 .taken), c .is-float .ensures, c .before .is-width3 .ensures, c .before .before .is-width2 .ensures, c .before .before .before .before .before .word .ensures)
 
 is-sized-requires : tie.Need-is-sized-requires
 is-sized-requires c κs = search needs
@@ -51,7 +51,7 @@ is-plain-requires-2 c κs = search needs
 
 returns-5 : tie.Need-returns-5
 unfolding rowOk
-returns-5 c = let k = c .before .before .before .before .before .before .before .args .e .kind in λ eb. rw (ne-eqb k 7 (c .before .before .before .before .before .if1 .left), ne-eqb k 8 (c .before .before .before .before .if2 .left), ne-eqb k 9 (c .before .before .before .if3 .left), ne-eqb k 10 (c .before .before .if4 .left), eq-eqb k 11 (c .before .if5 .taken), c .is-plain2 .ensures, c .before .before .before .before .before .before .wide .ensures)
+returns-5 c = let k = c .before .before .before .before .before .before .before .args .e .kind in λ eb. rw (ne-eqb k 7 (c .before .before .before .before .before .if1 .left), ne-eqb k 8 (c .before .before .before .before .if2 .left), ne-eqb k 9 (c .before .before .before .if3 .left), ne-eqb k 10 (c .before .before .if4 .left), eq-eqb k 11 (c .before .if5 .taken), c .is-plain2 .ensures, c .before .before .before .before .before .before .word .ensures)
 
 returns-6 : tie.Need-returns-6
 unfolding rowOk
@@ -64,7 +64,7 @@ pub flat-ok-spec : {M : Type 1} → statement M
 flat-ok-spec =
     tie.close
     (tie.spec
-    wide-requires
+    word-requires
     is-width-requires
     returns
     is-width-requires-2

@@ -49,8 +49,8 @@ slice-write-last c = let b = inside (c .before) in let l = c .before .before .be
 made-ok-requires : tie.Need-made-ok-requires
 made-ok-requires c κs = omega arith
 
-long-requires : tie.Need-long-requires
-long-requires c κs = search needs
+half-requires : tie.Need-half-requires
+half-requires c κs = search needs
 
 next : (c : tie.After-slot-of) →
     Slotted (c .before .before .before .before .before .args .words .now) (c .before .before .before .before .before .args .i + 1) (set (c .before .before .before .before .before .args .last .now) (c .slot-of .result) (c .before .before .before .before .before .args .i + 1)) (set (c .before .before .before .before .before .args .before .now) (c .before .before .before .before .before .args .i) (getD (c .before .before .before .before .before .args .last .now) (c .slot-of .result) 0))
@@ -66,7 +66,7 @@ is-new-requires c κs =
     let p = c .before .before .before .before .before .before .before .before .before .pre in
     let high = p .2 in
     let room = p .0 in
-    (omega arith, omega arith, λ j h. n .linked j (omega arith), c .long .ensures ∙ p .4 .ends (c .before .before .before .before .slot-of .result) (inside (c .before .before .before .before)) ∙ ap (λ x. lastIn (c .before .before .before .before .before .before .before .before .before .args .words .now) (c .before .before .before .before .before .before .before .before .before .args .i) x) (c .before .before .before .before .slot-of .ensures))
+    (omega arith, omega arith, λ j h. n .linked j (omega arith), c .half .ensures ∙ p .4 .ends (c .before .before .before .before .slot-of .result) (inside (c .before .before .before .before)) ∙ ap (λ x. lastIn (c .before .before .before .before .before .before .before .before .before .args .words .now) (c .before .before .before .before .before .before .before .before .before .args .i) x) (c .before .before .before .before .slot-of .ensures))
 
 same-length : tie.Need-same-length
 same-length c = search needs
@@ -95,7 +95,7 @@ good-next-spec =
     mul-last
     slice-write-last
     made-ok-requires
-    long-requires
+    half-requires
     is-new-requires
     same-length
     same-length-2

@@ -35,21 +35,21 @@ returns c =
     let s : sameb (entryAt (a .words .now) (l .at - 1)) (a .e) ≡ true = ap (λ (x : Entry). sameb x (a .e)) (sym (c .before .before .entry-at .ensures)) ∙ sym (c .before .same .ensures) ∙ c .if1 .taken in
     walk-hit (a .words .now) (a .i) (a .e) (l .at) (l .at - 1) (omega arith) (l .inv) s
 
-mul-long : tie.Need-mul-long Inv-loop μ-loop
-mul-long c = omega arith
+mul-half : tie.Need-mul-half Inv-loop μ-loop
+mul-half c = omega arith
 
-shared-slice-read-long : tie.Need-shared-slice-read-long Inv-loop μ-loop
-shared-slice-read-long c = let l = c .before .before .before .before .before .loop .inv .low in let p = c .before .before .before .before .before .before .before .before .pre .1 in omega arith
+shared-slice-read-half : tie.Need-shared-slice-read-half Inv-loop μ-loop
+shared-slice-read-half c = let l = c .before .before .before .before .before .loop .inv .low in let p = c .before .before .before .before .before .before .before .before .pre .1 in omega arith
 
-long-requires : tie.Need-long-requires Inv-loop μ-loop
-long-requires c κs = search needs
+half-requires : tie.Need-half-requires Inv-loop μ-loop
+half-requires c κs = search needs
 
-step : (c : tie.After-long Inv-loop μ-loop) → Walk (c .before .before .before .before .before .before .before .before .before .args .words .now) (c .before .before .before .before .before .before .before .before .before .args .i) (c .before .before .before .before .before .before .before .before .before .args .e) (c .long .result) × (c .long .result < c .before .before .before .before .before .before .loop .at)
+step : (c : tie.After-half Inv-loop μ-loop) → Walk (c .before .before .before .before .before .before .before .before .before .args .words .now) (c .before .before .before .before .before .before .before .before .before .args .i) (c .before .before .before .before .before .before .before .before .before .args .e) (c .half .result) × (c .half .result < c .before .before .before .before .before .before .loop .at)
 step c =
     let a = c .before .before .before .before .before .before .before .before .before .args in
     let l = c .before .before .before .before .before .before .loop in
     let s : sameb (entryAt (a .words .now) (l .at - 1)) (a .e) ≡ false = ap (λ (x : Entry). sameb x (a .e)) (sym (c .before .before .before .before .entry-at .ensures)) ∙ sym (c .before .before .before .same .ensures) ∙ c .before .before .if1 .left in
-    walk-step (a .words .now) (a .i) (a .e) (l .at) (l .at - 1) (omega arith) (l .inv) (a .before .now) (c .before .before .before .before .before .before .before .before .before .pre .2) s (c .long .result) (c .long .ensures)
+    walk-step (a .words .now) (a .i) (a .e) (l .at) (l .at - 1) (omega arith) (l .inv) (a .before .now) (c .before .before .before .before .before .before .before .before .before .pre .2) s (c .half .result) (c .half .ensures)
 
 loop-less : tie.Need-loop-less Inv-loop μ-loop
 loop-less c = step c .1
@@ -73,9 +73,9 @@ is-new-spec =
     entry-at-requires
     same-requires
     returns
-    mul-long
-    shared-slice-read-long
-    long-requires
+    mul-half
+    shared-slice-read-half
+    half-requires
     loop-less
     loop-again
     returns-2)

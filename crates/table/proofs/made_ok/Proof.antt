@@ -6,8 +6,8 @@ use borrow.Author.Needs.{needs}
 use Rattle.table.proofs.made_ok.Statement.{statement}
 use Rattle.table.proofs.made_ok.Tie as tie
 
-wide-requires : tie.Need-wide-requires
-wide-requires c κs = search needs
+word-requires : tie.Need-word-requires
+word-requires c κs = search needs
 
 returns : tie.Need-returns
 unfolding madeOk
@@ -21,7 +21,7 @@ flat-ok-requires c κs = c .if2 .taken
 
 returns-2 : tie.Need-returns-2
 unfolding madeOk
-returns-2 c = let a = c .before .before .before .before .before .before .before .args in rw (lt-ltb (a .e .elem) (a .i) (omega arith), c .flat-ok .ensures (baseOf (a .words .now) (a .e .elem)), c .before .before .before .entry-at .ensures, c .before .before .before .before .before .wide .ensures)
+returns-2 c = let a = c .before .before .before .before .before .before .before .args in rw (lt-ltb (a .e .elem) (a .i) (omega arith), c .flat-ok .ensures (baseOf (a .words .now) (a .e .elem)), c .before .before .before .entry-at .ensures, c .before .before .before .before .before .word .ensures)
 
 base-of-requires : tie.Need-base-of-requires
 base-of-requires c κs = omega arith
@@ -31,13 +31,13 @@ deep-ok-requires c κs = c .before .if2 .left
 
 returns-3 : tie.Need-returns-3
 unfolding madeOk
-returns-3 c = let a = c .before .before .before .before .before .before .before .before .args in rw (lt-ltb (a .e .elem) (a .i) (omega arith), c .deep-ok .ensures, c .before .base-of .ensures, c .before .before .before .before .entry-at .ensures, c .before .before .before .before .before .before .wide .ensures)
+returns-3 c = let a = c .before .before .before .before .before .before .before .before .args in rw (lt-ltb (a .e .elem) (a .i) (omega arith), c .deep-ok .ensures, c .before .base-of .ensures, c .before .before .before .before .entry-at .ensures, c .before .before .before .before .before .before .word .ensures)
 
 pub made-ok-spec : {M : Type 1} → statement M
 made-ok-spec =
     tie.close
     (tie.spec
-    wide-requires
+    word-requires
     returns
     entry-at-requires
     flat-ok-requires

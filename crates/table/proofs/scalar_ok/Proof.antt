@@ -3,11 +3,11 @@ use borrow.Author.Needs.{needs}
 use Rattle.table.proofs.scalar_ok.Statement.{statement}
 use Rattle.table.proofs.scalar_ok.Tie as tie
 
-wide-requires : tie.Need-wide-requires
-wide-requires c κs = search needs
+word-requires : tie.Need-word-requires
+word-requires c κs = search needs
 
 returns : tie.Need-returns
-returns c = rw (c .before .before .before .wide .ensures)
+returns c = rw (c .before .before .before .word .ensures)
 
 pub scalar-ok-spec : {M : Type 1} → statement M
-scalar-ok-spec = tie.close (tie.spec wide-requires returns)
+scalar-ok-spec = tie.close (tie.spec word-requires returns)

@@ -32,16 +32,16 @@ small c = let i = c .before .loop .inv .1 in
 mul-key : tie.Need-mul-key Inv-loop μ-loop
 mul-key c = let l = small c in record { fits = omega arith }
 
-shared-slice-read-wide : tie.Need-shared-slice-read-wide Inv-loop μ-loop
-shared-slice-read-wide c = omega (arith, c .before .before .loop .inv .0, c .before .loop-test .taken)
+shared-slice-read-wide64 : tie.Need-shared-slice-read-wide64 Inv-loop μ-loop
+shared-slice-read-wide64 c = omega (arith, c .before .before .loop .inv .0, c .before .loop-test .taken)
 
-wide-requires : tie.Need-wide-requires Inv-loop μ-loop
-wide-requires c κs = search needs
+wide64-requires : tie.Need-wide64-requires Inv-loop μ-loop
+wide64-requires c κs = search needs
 
 add-key : tie.Need-add-key Inv-loop μ-loop
 add-key c = let l = small (c .before .before) in
     let b = c .before .before .before .before .shared-slice-known .given (c .before .before .before .loop .left - 1) .fits in
-    let e = c .wide .ensures in
+    let e = c .wide64 .ensures in
     record { fits = omega arith }
 
 loop-less : tie.Need-loop-less Inv-loop μ-loop
@@ -50,7 +50,7 @@ loop-less c = omega (arith, c .before .before .loop-test .taken)
 loop-again : tie.Need-loop-again Inv-loop μ-loop
 loop-again c = let l = c .before .before .before .loop in (
   omega (arith, l .inv .0),
-  (λ i. l .inv .1 i * 256 + c .wide .ensures i) ∙ key-next (c .before .before .before .before .before .args .name .now) (c .before .before .before .before .shared-slice-known .given) (l .left) (c .before .before .loop-test .taken) (l .inv .0),
+  (λ i. l .inv .1 i * 256 + c .wide64 .ensures i) ∙ key-next (c .before .before .before .before .before .args .name .now) (c .before .before .before .before .shared-slice-known .given) (l .left) (c .before .before .loop-test .taken) (l .inv .0),
 )
 
 returns : tie.Need-returns Inv-loop μ-loop
@@ -65,8 +65,8 @@ key-of-spec =
     loop-holds
     sub-at
     mul-key
-    shared-slice-read-wide
-    wide-requires
+    shared-slice-read-wide64
+    wide64-requires
     add-key
     loop-less
     loop-again
