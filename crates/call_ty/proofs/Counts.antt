@@ -8,7 +8,7 @@ use lib.ListN.{length, getD}
 use borrow.Author.Tests.{leb-true}
 use Rattle.conv.specs.Rank.{both}
 use Rattle.conv.proofs.Finite.{all, below}
-use Rattle.overload.specs.Rows.{Family, rows, operators, builtins}
+use Rattle.overload.specs.Rows.{Family, rows, rowAt}
 use Rattle.names.specs.Names.{overloadRows}
 use Rattle.call_ty.specs.Calls.{operandsIn, operandsOf}
 
@@ -36,7 +36,7 @@ agree : ℕ → Bool
 agree x = both (eqb (counted x) (operandsOf x)) (leb (operandsOf x) 4)
 
 computed : T (all bytes agree)
-unfolding agree both operandsOf operandsIn operators builtins
+unfolding agree both operandsOf operandsIn rows rowAt
 computed = tt
 
 unfold-left : (a b : Bool) → T (both a b) → T a
@@ -64,7 +64,7 @@ module _ (x : ℕ) (h : x < bytes) where
 
 -- names' number of rows is the overloads'
 pub row-count : length rows ≡ overloadRows
-unfolding operators builtins
+unfolding rows rowAt
 row-count = refl
 
 -- all families of a row have one count of parameters
@@ -72,8 +72,8 @@ unfoldable pub alike : ℕ → List Family → Bool
 alike k [] = true
 alike k (f ∷ fs) = both (eqb (length (f .params)) k) (alike k fs)
 
-pub one-count : T (all overloadRows (λ row. alike (operandsOf row) (getD rows row [])))
-unfolding alike both operandsOf operandsIn operators builtins
+pub one-count : T (all overloadRows (λ row. alike (operandsOf row) (rowAt row .families)))
+unfolding alike both operandsOf operandsIn rows rowAt
 one-count = tt
 
 -- the count at each of the code's ways out

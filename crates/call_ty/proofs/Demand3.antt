@@ -12,7 +12,7 @@ use borrow.Author.Tests.{lt-ltb, eq-eqb}
 use Rattle.conv.specs.Types.{Ty}
 use Rattle.overload.specs.Overload.{Overload, fits, Preferred, Judged, Resolved}
 use Rattle.overload.specs.Overload.Judged.{gives, noneFits, nonePreferred}
-use Rattle.overload.specs.Rows.{overloadsOf, ofRow, judgeRow}
+use Rattle.overload.specs.Rows.{overloadsOf, ofRow, judgeRow, rowAt}
 use Rattle.overload.proofs.Operands.{allFormed, never-thirteen}
 use Rattle.overload.proofs.Judge.{judge-resolved}
 use Rattle.overload.proofs.Results.{gives-formed}
@@ -39,44 +39,44 @@ use Rattle.table.proofs.Giving.{whole}
 module _ (place : ℕ) (w : List ℕ) (n : ℕ) (s : Sound w n) (name : List ℕ) (row : ℕ) (ts us : List Ty)
     (ruled : ruleOf name ≡ known row) (listed : row < overloadRows) (fu : allFormed us ≡ true)
     (right : templateRight row ts ≡ true) (count : length us ≡ operandsOf row) (loaded : anyReference us ≡ false) where
-  given : givenOutcome place w n (givenBy row ts us) ≡ judgedOutcome place w n (judgeRow row us)
+  given : givenOutcome place w n (givenBy row ts us) ≡ judgedOutcome place w n (judgeRow (rowAt row) us)
   unfolding givenOutcome givenBy
   given = rw (lt-ltb row overloadRows listed)
 
   -- such a call is judged by the overloads of its row
-  pub judged : callOutcome place w n name ts us ≡ judgedOutcome place w n (judgeRow row us)
+  pub judged : callOutcome place w n name ts us ≡ judgedOutcome place w n (judgeRow (rowAt row) us)
   judged = ap (λ (k : Known). byRule place w n k ts us) ruled ∙ sym (by-call place w n row ts us right count loaded) ∙ given
 
-  by : (j : Judged) → judgeRow row us ≡ j → Resolved (ofRow row) us j
-  by j e = subst (Resolved (ofRow row) us) e (judge-resolved (overloadsOf row) us)
+  by : (j : Judged) → judgeRow (rowAt row) us ≡ j → Resolved (ofRow (rowAt row)) us j
+  by j e = subst (Resolved (ofRow (rowAt row)) us) e (judge-resolved (overloadsOf (rowAt row)) us)
 
   -- an overload fits: one is preferred, and its result is accepted
-  pub fitting : (p : Overload) → ofRow row p → T (fits (p .params) us)
-      → (o : Overload) × Preferred (ofRow row) us o × (callOutcome place w n name ts us ≡ entering place w n (o .result))
+  pub fitting : (p : Overload) → ofRow (rowAt row) p → T (fits (p .params) us)
+      → (o : Overload) × Preferred (ofRow (rowAt row)) us o × (callOutcome place w n name ts us ≡ entering place w n (o .result))
   unfolding Resolved judgedOutcome
-  fitting p m h = go (judgeRow row us) refl
+  fitting p m h = go (judgeRow (rowAt row) us) refl
     where
-      go : (j : Judged) → judgeRow row us ≡ j → (o : Overload) × Preferred (ofRow row) us o × (callOutcome place w n name ts us ≡ entering place w n (o .result))
+      go : (j : Judged) → judgeRow (rowAt row) us ≡ j → (o : Overload) × Preferred (ofRow (rowAt row)) us o × (callOutcome place w n name ts us ≡ entering place w n (o .result))
       go (gives R) e = let q = by (gives R) e in (q .0, q .1, judged ∙ ap (judgedOutcome place w n) e ∙ ap (entering place w n) (q .2))
       go noneFits e = absurd (by noneFits e p m h)
       go nonePreferred e = absurd (never-thirteen us fu row (by nonePreferred e))
 
   -- none fits: refusal 8
-  pub none-fitting : ((p : Overload) → ofRow row p → T (fits (p .params) us) → ⊥) → callOutcome place w n name ts us ≡ turnedDown NoOverload place w n
+  pub none-fitting : ((p : Overload) → ofRow (rowAt row) p → T (fits (p .params) us) → ⊥) → callOutcome place w n name ts us ≡ turnedDown NoOverload place w n
   unfolding Resolved judgedOutcome
-  none-fitting h = go (judgeRow row us) refl
+  none-fitting h = go (judgeRow (rowAt row) us) refl
     where
-      go : (j : Judged) → judgeRow row us ≡ j → callOutcome place w n name ts us ≡ turnedDown NoOverload place w n
+      go : (j : Judged) → judgeRow (rowAt row) us ≡ j → callOutcome place w n name ts us ≡ turnedDown NoOverload place w n
       go (gives R) e = let q = by (gives R) e in absurd (h (q .0) (q .1 .among) (q .1 .fitting))
       go noneFits e = judged ∙ ap (judgedOutcome place w n) e
       go nonePreferred e = absurd (never-thirteen us fu row (by nonePreferred e))
 
   -- and refusal 8 only then
-  pub eight-only : callOutcome place w n name ts us ≡ turnedDown NoOverload place w n → (p : Overload) → ofRow row p → T (fits (p .params) us) → ⊥
+  pub eight-only : callOutcome place w n name ts us ≡ turnedDown NoOverload place w n → (p : Overload) → ofRow (rowAt row) p → T (fits (p .params) us) → ⊥
   unfolding Resolved judgedOutcome
-  eight-only h p m f = go (judgeRow row us) refl
+  eight-only h p m f = go (judgeRow (rowAt row) us) refl
     where
-      go : (j : Judged) → judgeRow row us ≡ j → ⊥
+      go : (j : Judged) → judgeRow (rowAt row) us ≡ j → ⊥
       go (gives R) e =
           let r = entering-refused place w n s R (gives-formed row us R e .0) _ w (sym (judged ∙ ap (judgedOutcome place w n) e) ∙ h) .1 in
           let a : reasonNo NoOverload ≡ reasonNo NoRoom = ap (λ (x : Refusal). reasonNo (x .reason)) r in omega arith

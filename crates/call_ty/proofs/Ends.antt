@@ -9,7 +9,7 @@ use Rattle.conv.specs.Types.{Ty, u32, formed}
 use Rattle.conv.specs.Types.Ty.{scalar}
 use Rattle.overload.specs.Overload.{Judged}
 use Rattle.overload.specs.Overload.Judged.{gives, noneFits, nonePreferred}
-use Rattle.overload.specs.Rows.{overloadsOf, judgeRow}
+use Rattle.overload.specs.Rows.{overloadsOf, judgeRow, rowAt}
 use Rattle.overload.proofs.Operands.{and-left, allFormed, never-thirteen}
 use Rattle.overload.proofs.Judge.{judge-resolved}
 use Rattle.overload.proofs.Results.{gives-formed}
@@ -58,8 +58,8 @@ module _ (place : ℕ) (w : List ℕ) (n : ℕ) (ts us : List Ty) (ft : allForme
   judged k noneFits f x g = refused NoOverload refl refl
   judged k nonePreferred f x g = absurd (x refl)
 
-  row-ends : (k : ℕ) → givenBy k ts us ≡ judgment (judgeRow k us) → Ends place w n (known k) ts us (judgedOutcome place w n (judgeRow k us))
-  row-ends k g = judged k (judgeRow k us) (λ R e. gives-formed k us R e .0) (λ e. never-thirteen us fu k (rw e at (judge-resolved (overloadsOf k) us))) g
+  row-ends : (k : ℕ) → givenBy k ts us ≡ judgment (judgeRow (rowAt k) us) → Ends place w n (known k) ts us (judgedOutcome place w n (judgeRow (rowAt k) us))
+  row-ends k g = judged k (judgeRow (rowAt k) us) (λ R e. gives-formed k us R e .0) (λ e. never-thirteen us fu k (rw e at (judge-resolved (overloadsOf (rowAt k)) us))) g
 
   type-ends : (k : ℕ) (R : Ty) → formed R ≡ true → givenBy k ts us ≡ judgment (gives R) → Ends place w n (known k) ts us (judgedOutcome place w n (gives R))
   unfolding judgedOutcome

@@ -1,7 +1,7 @@
 -- Lists of numbers of types, and the types that they stand for. Assumes nothing.
 use Prim.Native.Nat.{ℕ, zero, suc, _-_, _≤_, _<_}
 use mathlib.Core.Path.{_≡_, refl, sym, _∙_, ap}
-use mathlib.Core.Bool.{Bool, true, false, _&&_}
+use mathlib.Core.Bool.{Bool, true, false, _&&_, _||_}
 use mathlib.Core.List.{List, [], _∷_, map}
 use native.Mathlib.Nat.{not-suc-le-zero}
 use native.Mathlib.Omega.{arith}
@@ -11,7 +11,6 @@ use borrow.Author.Tests.{ltb-true, lt-ltb, le-ltb}
 use Rattle.conv.specs.Types.{Ty, bool}
 use Rattle.conv.specs.Types.Ty.{scalar}
 use Rattle.conv.specs.Rank.{isReference}
-use Rattle.overload.specs.Overload.{or}
 use Rattle.overload.specs.Code.{codeOf}
 use Rattle.overload.proofs.Operands.{and-left, and-right, allFormed, codesOf}
 use Rattle.table.specs.Table.{Sound}
@@ -46,8 +45,7 @@ not-under n (t ∷ ts) (suc i) l h = ap (λ (b : Bool). ltb t n && b) (not-under
 
 -- the types of a list
 
-or-true : (b : Bool) → or b true ≡ true
-unfolding or
+or-true : (b : Bool) → (b || true) ≡ true
 or-true true = refl
 or-true false = refl
 
@@ -66,16 +64,16 @@ module _ (w : List ℕ) where
   types-formed n s (t ∷ ts) u = rw (formed-at w n s t (u 0 (omega arith)), types-formed n s ts (under-rest n t ts u))
 
   pub some-reference : (ts : List ℕ) (i : ℕ) → i < length ts → isReference (typeAt w (getD ts i 0)) ≡ true → anyReference (types ts) ≡ true
-  unfolding anyReference or
+  unfolding anyReference
   some-reference [] i l h = absurd (not-suc-le-zero l)
-  some-reference (t ∷ ts) zero l h = ap (λ (b : Bool). or b (anyReference (types ts))) h
-  some-reference (t ∷ ts) (suc i) l h = ap (or (isReference (typeAt w t))) (some-reference ts i (omega arith) h) ∙ or-true (isReference (typeAt w t))
+  some-reference (t ∷ ts) zero l h = ap (λ (b : Bool). b || anyReference (types ts)) h
+  some-reference (t ∷ ts) (suc i) l h = ap (λ (b : Bool). isReference (typeAt w t) || b) (some-reference ts i (omega arith) h) ∙ or-true (isReference (typeAt w t))
 
   pub no-reference : (ts : List ℕ) → ((i : ℕ) → i < length ts → isReference (typeAt w (getD ts i 0)) ≡ false) → anyReference (types ts) ≡ false
-  unfolding anyReference or
+  unfolding anyReference
   no-reference [] h = refl
   no-reference (t ∷ ts) h =
-      ap (λ (b : Bool). or b (anyReference (types ts))) (h 0 (omega arith)) ∙ no-reference ts (λ i l. h (suc i) (omega arith))
+      ap (λ (b : Bool). b || anyReference (types ts)) (h 0 (omega arith)) ∙ no-reference ts (λ i l. h (suc i) (omega arith))
 
   pub codes-in : (ts cs : List ℕ) → length ts ≤ length cs → ((i : ℕ) → i < length ts → getD cs i 0 ≡ codeOf (typeAt w (getD ts i 0))) → take (length (types ts)) cs ≡ codesOf (types ts)
   codes-in [] cs l h = refl

@@ -10,7 +10,7 @@ use lib.ListN.{length, getD, length-map}
 use borrow.Author.Tests.{lt-ltb, le-ltb, eq-eqb, ne-eqb, eqb-true}
 use Rattle.conv.specs.Types.{Ty, u32}
 use Rattle.conv.specs.Types.Ty.{scalar}
-use Rattle.overload.specs.Rows.{judgeRow}
+use Rattle.overload.specs.Rows.{judgeRow, rowAt}
 use Rattle.overload.specs.Code.{operand, codeOf}
 use Rattle.overload.proofs.Operands.{and-left, allFormed, codesOf, judge-types}
 use Rattle.names.specs.Names.{overloadRows, ruleBitcast, ruleArrayLength, ruleLdexp}
@@ -88,10 +88,10 @@ module _ (place : ℕ) (w : List ℕ) (n : ℕ) (s : Sound w n) where
   module _ (rule : ℕ) (tplt args : List ℕ) where
     -- a ruled name, by the numbers of its operands
     pub rule-row : rule < overloadRows → (us : List Ty) → allFormed us ≡ true → (row : ℕ) → row ≡ rule → (codes : List ℕ) → codes ≡ codesOf us
-        → judgedOutcome place w n (judgeRow row (map operand codes)) ≡ givenOutcome place w n (givenBy rule (types w tplt) us)
+        → judgedOutcome place w n (judgeRow (rowAt row) (map operand codes)) ≡ givenOutcome place w n (givenBy rule (types w tplt) us)
     unfolding givenOutcome givenBy judgedOutcome
     rule-row h us f row q codes e =
-        (λ i. judgedOutcome place w n (judgeRow (q i) (map operand (e i)))) ∙ ap (judgedOutcome place w n) (judge-types us f rule) ∙ sym (rw (lt-ltb rule overloadRows h))
+        (λ i. judgedOutcome place w n (judgeRow (rowAt (q i)) (map operand (e i)))) ∙ ap (judgedOutcome place w n) (judge-types us f rule) ∙ sym (rw (lt-ltb rule overloadRows h))
 
     module _ (up : overloadRows ≤ rule) where
       pub rule-bitcast : rule ≡ ruleBitcast → Under n tplt → length tplt ≡ 1

@@ -9,7 +9,7 @@ use Rattle.conv.specs.Types.Ty.{scalar}
 use Rattle.conv.specs.Rank.{tagOf, componentOf}
 use Rattle.overload.specs.Overload.{Judged}
 use Rattle.overload.specs.Overload.Judged.{gives, noneFits}
-use Rattle.overload.specs.Rows.{Family, rows, judgeRow}
+use Rattle.overload.specs.Rows.{Family, rowAt, judgeRow}
 use Rattle.names.specs.Names.{Known, ruleOf, overloadRows, ruleBitcast, ruleArrayLength, ruleLdexp}
 use Rattle.names.specs.Names.Known.{known, unknown}
 use Rattle.table.specs.Table.{soundb}
@@ -54,7 +54,7 @@ operandsIn (f ∷ fs) = length (f .params)
 
 unfoldable pub operandsOf : ℕ → ℕ
 operandsOf rule =
-    cond (ltb rule overloadRows) (operandsIn (getD rows rule []))
+    cond (ltb rule overloadRows) (operandsIn (rowAt rule .families))
     (cond (eqb rule ruleBitcast) 1
     (cond (eqb rule ruleArrayLength) 1
     (cond (eqb rule ruleLdexp) 2 0)))
@@ -82,7 +82,7 @@ pub data Given : Type 0 where
 -- "storageBarrier, textureBarrier, workgroupBarrier: no operand, no value", which are the only names left
 unfoldable pub givenBy : ℕ → List Ty → List Ty → Given
 givenBy rule ts us =
-    cond (ltb rule overloadRows) (judgment (judgeRow rule us))
+    cond (ltb rule overloadRows) (judgment (judgeRow (rowAt rule) us))
     (cond (eqb rule ruleBitcast) (judgment (gives (firstIn ts)))
     (cond (eqb rule ruleArrayLength) (judgment (gives (scalar u32)))
     (cond (eqb rule ruleLdexp) (judgment (judgeLdexp (firstIn us) (secondIn us)))

@@ -10,10 +10,11 @@ use lib.ListN.{length, getD, length-set}
 use lib.Seq.{getD-set-other, getD-set-same, ext-getD}
 use borrow.Author.Tests.{eqb-true, eqb-false, ltb-true, ltb-false}
 use Rattle.conv.specs.Types.{Ty, formed}
-use Rattle.conv.specs.Rank.{isReference}
 use Rattle.overload.specs.Overload.{Judged}
 use Rattle.overload.specs.Overload.Judged.{gives, noneFits, nonePreferred}
-use Rattle.overload.specs.Rows.{judgeRow, judgeAddress, judgeIndirection}
+use Rattle.overload.specs.Rows.{Ruling, judgeBy}
+use Rattle.overload.specs.Rows.Ruling.{byRow}
+use Rattle.overload.proofs.Rulings.{row-formed, ruling-formed}
 use Rattle.overload.proofs.Operands.{allFormed}
 use Rattle.overload.proofs.Results.{gives-formed}
 use Rattle.names.specs.Names.Known.{known}
@@ -28,9 +29,9 @@ use Rattle.table.proofs.TypeLaws.{type-keeps}
 use Rattle.table.proofs.Demand1.{entering-stands}
 use Rattle.table.proofs.KindLaws.{split}
 use Rattle.table.proofs.SlotLaws.{zeros, zero-at}
-use Rattle.ruled.specs.Call.{anyReference, judgedOutcome, ruledOutcome}
-use Rattle.ops_ty.specs.Ops.{unaryOps, addressOp, indirectionOp, binaryOps, binaryRow, unaryOutcome, binaryOutcome}
-use Rattle.ops_ty.proofs.Pointers.{address-formed, indirection-formed}
+use Rattle.ruled.specs.Call.{anyReference, judgedOutcome, offends, ruledOutcome}
+use Rattle.ops_ty.specs.Ops.{unaryOps, unaryRuling, binaryOps, binaryRow, unaryOutcome, binaryOutcome}
+use Rattle.ops_ty.proofs.Ways.{unary-known, binary-known, one-formed}
 use Rattle.call_ty.specs.Calls.{templateRight, operandsOf, givenBy, givenOutcome, byRule}
 use Rattle.call_ty.specs.Calls.Given.{judgment}
 use Rattle.call_ty.specs.Codes.{Under}
@@ -189,33 +190,32 @@ module _ (place : ℕ) (w : List ℕ) (n : ℕ) (t : TypeNo) (m : ℕ) where
       let q = judged-gives place w n j t m (ap (λ (o : Outcome). o .answer) (sym (h place w n)) ∙ e) in
       (q .0, g (q .0) (q .1), λ p v k. h p v k ∙ q .2 p v k)
 
+  -- a ruling that gave a value gives its type
+  gives-ruled : (r : Ruling) (us : List Ty) → ((R : Ty) → judgeBy r us ≡ gives R → formed R ≡ true) → ruledOutcome place w n r us .answer ≡ Value t m
+      → (R : Ty) × (formed R ≡ true) × ((p : ℕ) (v : List ℕ) (k : ℕ) → ruledOutcome p v k r us ≡ entering p v k R)
+  unfolding ruledOutcome
+  gives-ruled r us f e =
+      split (offends r us) (λ a. let q = rw a at e in impossible (cc)) (λ a. by-judgment (λ p v k. ruledOutcome p v k r us) (judgeBy r us) f (λ p v k. rw a) e)
+
   gives-binary : (op : ℕ) (x y : Ty) → binaryOutcome place w n op x y .answer ≡ Value t m
       → (R : Ty) × (formed R ≡ true) × ((p : ℕ) (v : List ℕ) (k : ℕ) → binaryOutcome p v k op x y ≡ entering p v k R)
-  unfolding binaryOutcome ruledOutcome
+  unfolding binaryOutcome
   gives-binary op x y e =
       split (ltb op binaryOps)
       (λ a.
-      split (anyReference (x ∷ y ∷ []))
-      (λ b. let q = rw (a, b) at e in impossible (cc))
-      (λ b. by-judgment (λ p v k. binaryOutcome p v k op x y) (judgeRow (binaryRow op) (x ∷ y ∷ [])) (λ R q. gives-formed (binaryRow op) (x ∷ y ∷ []) R q .0) (λ p v k. rw (a, b)) e))
+      let q = gives-ruled (byRow (binaryRow op)) (x ∷ y ∷ []) (row-formed (binaryRow op) (binary-known op) (x ∷ y ∷ [])) (rw a at e) in
+      (q .0, q .1, λ p v k. rw a (q .2 p v k)))
       (λ a. let q = rw a at e in impossible (cc))
 
   gives-unary : (op : ℕ) → Sound w n → (i : ℕ) → i < n → unaryOutcome place w n op (typeAt w i) .answer ≡ Value t m
       → (R : Ty) × (formed R ≡ true) × ((p : ℕ) (v : List ℕ) (k : ℕ) → unaryOutcome p v k op (typeAt w i) ≡ entering p v k R)
   unfolding unaryOutcome
   gives-unary op s i l e =
-      let x = typeAt w i in
       split (ltb op unaryOps)
       (λ a.
-      split (eqb op addressOp)
-      (λ b. by-judgment (λ p v k. unaryOutcome p v k op x) (judgeAddress x) (address-formed w n s i l) (λ p v k. rw (a, b)) e)
-      (λ b.
-      split (isReference x)
-      (λ c. let q = rw (a, b, c) at e in impossible (cc))
-      (λ c.
-      split (eqb op indirectionOp)
-      (λ d. by-judgment (λ p v k. unaryOutcome p v k op x) (judgeIndirection x) (indirection-formed w n s i l) (λ p v k. rw (a, b, c, d)) e)
-      (λ d. by-judgment (λ p v k. unaryOutcome p v k op x) (judgeRow op (x ∷ [])) (λ R q. gives-formed op (x ∷ []) R q .0) (λ p v k. rw (a, b, c, d)) e))))
+      let us = typeAt w i ∷ [] in
+      let q = gives-ruled (unaryRuling op) us (ruling-formed us (one-formed w n s i l) (unaryRuling op) (unary-known op)) (rw a at e) in
+      (q .0, q .1, λ p v k. rw a (q .2 p v k)))
       (λ a. let q = rw a at e in impossible (cc))
 
   -- the rule of a call that gave a value gives its type

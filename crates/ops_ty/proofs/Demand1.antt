@@ -2,40 +2,31 @@
 -- only the missing entries its result needs." Of any table, count, operator and operands. Assumes nothing.
 use Prim.Native.Nat.{ℕ, _<_}
 use mathlib.Core.List.{List, [], _∷_}
-use lib.Dec.{eqb, ltb}
+use lib.Dec.{ltb}
 use borrow.Author.Tests.{ltb-true}
 use Rattle.conv.specs.Types.{Ty}
-use Rattle.conv.specs.Rank.{isReference}
-use Rattle.overload.specs.Rows.{judgeRow, judgeAddress, judgeIndirection}
-use Rattle.overload.proofs.Results.{gives-formed}
+use Rattle.overload.specs.Rows.Ruling.{byRow}
+use Rattle.overload.proofs.Rulings.{row-formed, ruling-formed}
 use Rattle.table.specs.Table.{soundb, Sound}
 use Rattle.table.specs.Denote.{typeAt}
 use Rattle.table.specs.Kept.{Kept}
 use Rattle.table.proofs.SoundLaws.{sound-of}
 use Rattle.table.proofs.Keeping.{kept-refused, kept-by}
-use Rattle.ruled.proofs.Demands.{kept-judged, kept-ruled}
-use Rattle.ops_ty.specs.Ops.{unaryOps, addressOp, indirectionOp, binaryOps, binaryRow, unaryOutcome, binaryOutcome, typeUnaryOp, typeBinaryOp}
-use Rattle.ops_ty.proofs.Pointers.{address-formed, indirection-formed}
+use Rattle.ruled.proofs.Demands.{kept-ruled}
+use Rattle.ops_ty.specs.Ops.{unaryOps, unaryRuling, binaryOps, binaryRow, unaryOutcome, binaryOutcome, typeUnaryOp, typeBinaryOp}
+use Rattle.ops_ty.proofs.Ways.{unary-known, binary-known, one-formed}
 
 -- on loaded operands, at any place
 module _ (place : ℕ) (w : List ℕ) (n : ℕ) (s : Sound w n) (op : ℕ) where
   pub unary-at-kept : (a : ℕ) → a < n → Kept w n (unaryOutcome place w n op (typeAt w a))
   unfolding unaryOutcome
   unary-at-kept a u =
-      kept-by w n (ltb op unaryOps) _ _
-      (λ k.
-      kept-by w n (eqb op addressOp) _ _ (λ h. kept-judged w n s place (judgeAddress (typeAt w a)) (address-formed w n s a u))
-      (λ h.
-      kept-by w n (isReference (typeAt w a)) _ _ (λ r. kept-refused w n _ place)
-      (λ r.
-      kept-by w n (eqb op indirectionOp) _ _ (λ i. kept-judged w n s place (judgeIndirection (typeAt w a)) (indirection-formed w n s a u))
-      (λ i. kept-judged w n s place (judgeRow op (typeAt w a ∷ [])) (λ R q. gives-formed op (typeAt w a ∷ []) R q .0)))))
-      (λ k. kept-refused w n _ place)
+      kept-by w n (ltb op unaryOps) _ _ (λ k. kept-ruled w n s place (unaryRuling op) (typeAt w a ∷ []) (ruling-formed (typeAt w a ∷ []) (one-formed w n s a u) (unaryRuling op) (unary-known op))) (λ k. kept-refused w n _ place)
 
   pub binary-at-kept : (t u : Ty) → Kept w n (binaryOutcome place w n op t u)
   unfolding binaryOutcome
   binary-at-kept t u =
-      kept-by w n (ltb op binaryOps) _ _ (λ h. kept-ruled w n s place (binaryRow op) (t ∷ u ∷ [])) (λ h. kept-refused w n _ place)
+      kept-by w n (ltb op binaryOps) _ _ (λ h. kept-ruled w n s place (byRow (binaryRow op)) (t ∷ u ∷ []) (row-formed (binaryRow op) (binary-known op) (t ∷ u ∷ []))) (λ h. kept-refused w n _ place)
 
 -- of any table and any numbers, at place 0
 pub unary-kept : (w : List ℕ) (n op a : ℕ) → Kept w n (typeUnaryOp w n op a)

@@ -27,14 +27,14 @@ const BINARY_ROW: [u8; 18] = [3, 3, 4, 4, 5, 6, 6, 7, 7, 8, 8, 8, 8, 9, 9, 10, 1
 
 fn row_byte(op: usize) -> u8
     requires { ⌜ op < 18 ⌝ }
-    ensures { λ r. ⌜ r ≡ binaryRow op ⌝ }
+    ensures { λ r. ⌜ r ≡ binaryRow op .number ⌝ }
 {
     BINARY_ROW[op]
 }
 
 fn binary_row(op: usize) -> usize
     requires { ⌜ op < 18 ⌝ }
-    ensures { λ r. ⌜ r ≡ binaryRow op ⌝ }
+    ensures { λ r. ⌜ r ≡ binaryRow op .number ⌝ }
 {
     row_byte(op) as usize
 }

@@ -15,7 +15,7 @@ use Rattle.conv.proofs.Finite.{both-left, both-right, both-pair, below}
 use Rattle.conv.proofs.Ranks.{order}
 use Rattle.overload.specs.Overload.{Overload, or, fits, Preferred, Resolved}
 use Rattle.overload.specs.Overload.Judged.{noneFits}
-use Rattle.overload.specs.Rows.{Family, formAt, patternTy, overload, rows, overloadsOf, ofRow}
+use Rattle.overload.specs.Rows.{Family, formAt, patternTy, overload, rows, overloadsOf, ofRow, rowAt}
 use Rattle.overload.specs.Code.{shapeOfNo, shapeNo, operand, sizeOfNo, familyOf, noFamily, firstParam, familyAt, pivotNo, sizeAt, wordOf, member, firstOf, preference, fitsAt, firstX, lastX, formsOf}
 use Rattle.overload.proofs.Preference.{Sized, or-cases, Beats, beats}
 use Rattle.overload.proofs.Slots.{sized-no}
@@ -111,7 +111,7 @@ takes f n xs t = both (member t (familyOf f .set)) (fitsAt f n t xs)
 
 module _ (row : ℕ) (xs : List ℕ) (f n : ℕ) (a : At row xs f n) where
   -- every fitting overload of the row is of this family and this size
-  pub of-here : (p : Overload) → List·Memᴰ p (overloadsOf row) → T (fits (p .params) (map operand xs))
+  pub of-here : (p : Overload) → List·Memᴰ p (overloadsOf (rowAt row)) → T (fits (p .params) (map operand xs))
       → (t : ℕ) × T (takes f n xs t) × (t < 7) × (p ≡ overload (familyOf f) t (sizeOfNo n))
   of-here p m h =
       let c = complete row xs p h m in
@@ -124,7 +124,7 @@ module _ (row : ℕ) (xs : List ℕ) (f n : ℕ) (a : At row xs f n) where
       )
 
   -- where no T takes the operands no overload of the row fits
-  pub none-takes : firstOf preference (takes f n xs) ≡ none → Resolved (ofRow row) (map operand xs) noneFits
+  pub none-takes : firstOf preference (takes f n xs) ≡ none → Resolved (ofRow (rowAt row)) (map operand xs) noneFits
   unfolding Resolved
   none-takes e p m h =
       let q = of-here p m h in
@@ -145,12 +145,12 @@ module _ (row : ℕ) (xs : List ℕ) (f n : ℕ) (a : At row xs f n) where
       ∙ sym (ap (λ (k : ℕ). sizeAt k (firstX xs / 7) (lastX xs / 7)) (pivot-word f ∙ e))
       ∙ a .size
 
-  here : (t : ℕ) → T (takes f n xs t) → List·Memᴰ (overload (familyOf f) t (sizeOfNo n)) (overloadsOf row)
+  here : (t : ℕ) → T (takes f n xs t) → List·Memᴰ (overload (familyOf f) t (sizeOfNo n)) (overloadsOf (rowAt row))
   here t h =
       let i = a .inside .i in
-      let e : familyOf f ≡ getD (getD rows row []) i noFamily = ap familyOf (a .inside .is) ∙ row-family row i (a .inside .within) in
-      subst (λ (k : Family). List·Memᴰ (overload k t (sizeOfNo n)) (overloadsOf row)) (sym e)
-      (to-listed (getD rows row []) i t (sizeOfNo n) (a .inside .within)
+      let e : familyOf f ≡ getD (rowAt row .families) i noFamily = ap familyOf (a .inside .is) ∙ row-family row i (a .inside .within) in
+      subst (λ (k : Family). List·Memᴰ (overload k t (sizeOfNo n)) (overloadsOf (rowAt row))) (sym e)
+      (to-listed (rowAt row .families) i t (sizeOfNo n) (a .inside .within)
       (subst (λ (k : Family). T (member t (k .set))) e (both-left _ _ h))
       (subst (λ (k : Family). List·Memᴰ (sizeOfNo n) (k .sizes)) e (size-listed f n hf (a .low) (a .high) (first-shape t h))))
 
@@ -158,7 +158,7 @@ module _ (row : ℕ) (xs : List ℕ) (f n : ℕ) (a : At row xs f n) where
   first-preferred-takes t e h = subst (λ (u : ℕ). T (takes f n xs u)) e (first-some (takes f n xs) preference (λ q. h (sym e ∙ q)))
 
   -- where one does, the overload of the first in the order of preference is preferred
-  pub first-preferred : (t : ℕ) → firstOf preference (takes f n xs) ≡ t → t ≢ none → Preferred (ofRow row) (map operand xs) (overload (familyOf f) t (sizeOfNo n))
+  pub first-preferred : (t : ℕ) → firstOf preference (takes f n xs) ≡ t → t ≢ none → Preferred (ofRow (rowAt row)) (map operand xs) (overload (familyOf f) t (sizeOfNo n))
   first-preferred t e h =
       let g = good f hf in
       let k : T (takes f n xs t) = first-preferred-takes t e h in
@@ -176,7 +176,7 @@ module _ (row : ℕ) (xs : List ℕ) (f n : ℕ) (a : At row xs f n) where
             (first-least (takes f n xs) preference rising-preference (q .0) (in-preference (q .0) (q .2)) (q .1));
       }
 
-pub no-fit : (row : ℕ) (xs : List ℕ) → Resolved (ofRow row) (map operand xs) noneFits → (p : Overload) → List·Memᴰ p (overloadsOf row) → T (fits (p .params) (map operand xs)) → ⊥
+pub no-fit : (row : ℕ) (xs : List ℕ) → Resolved (ofRow (rowAt row)) (map operand xs) noneFits → (p : Overload) → List·Memᴰ p (overloadsOf (rowAt row)) → T (fits (p .params) (map operand xs)) → ⊥
 unfolding Resolved
 no-fit row xs r = r
 
@@ -200,8 +200,8 @@ module _ (row : ℕ) (xs : List ℕ) (p : Overload) (c : Found row xs p) where
       }
 
 -- where an overload of a row fits one is preferred
-pub some-preferred : (row : ℕ) (xs : List ℕ) (p : Overload) → List·Memᴰ p (overloadsOf row) → T (fits (p .params) (map operand xs))
-    → (o : Overload) × Preferred (ofRow row) (map operand xs) o
+pub some-preferred : (row : ℕ) (xs : List ℕ) (p : Overload) → List·Memᴰ p (overloadsOf (rowAt row)) → T (fits (p .params) (map operand xs))
+    → (o : Overload) × Preferred (ofRow (rowAt row)) (map operand xs) o
 some-preferred row xs p m h = go (eqb (firstOf preference (takes (c .f) (c .n) xs)) none) refl
   where
     c : Found row xs p
@@ -210,10 +210,10 @@ some-preferred row xs p m h = go (eqb (firstOf preference (takes (c .f) (c .n) x
     a : At row xs (c .f) (c .n)
     a = found-at row xs p c
 
-    nothing : Resolved (ofRow row) (map operand xs) noneFits → (o : Overload) × Preferred (ofRow row) (map operand xs) o
+    nothing : Resolved (ofRow (rowAt row)) (map operand xs) noneFits → (o : Overload) × Preferred (ofRow (rowAt row)) (map operand xs) o
     nothing r = absurd (no-fit row xs r p m h)
 
-    go : (b : Bool) → eqb (firstOf preference (takes (c .f) (c .n) xs)) none ≡ b → (o : Overload) × Preferred (ofRow row) (map operand xs) o
+    go : (b : Bool) → eqb (firstOf preference (takes (c .f) (c .n) xs)) none ≡ b → (o : Overload) × Preferred (ofRow (rowAt row)) (map operand xs) o
     go true e = nothing (none-takes row xs (c .f) (c .n) a (eqb-true _ none e))
     go false e =
         let t = firstOf preference (takes (c .f) (c .n) xs) in

@@ -4,11 +4,11 @@ use Prim.Native.Nat.{ℕ}
 use native.Mathlib.Omega.{arith}
 use mathlib.Core.Path.{_≡_, refl, sym, _∙_, ap, subst}
 use mathlib.Core.Logic.{_≢_, inl}
-use mathlib.Core.Bool.{Bool, true, false, not, cond}
+use mathlib.Core.Bool.{Bool, true, false, cond}
 use mathlib.Core.List.{[], _∷_}
-use lib.Dec.{T, eqb, eqb→eq, T-not}
-use borrow.Author.Tests.{eq-eqb, ne-eqb, eqb-true}
-use Rattle.conv.specs.Types.{Ty, handle}
+use lib.Dec.{T, eqb}
+use borrow.Author.Tests.{eqb-true, eqb-false}
+use Rattle.conv.specs.Types.{Ty, handle, formed}
 use Rattle.conv.specs.Types.Ty.{scalar, vec, mat, array, runtime, atomic, ptr, ref, frexp, modf}
 use Rattle.conv.specs.Rank.{pick, both, none, rankOf, Shape, shapeOf, componentOf, sameShape, byComponent, tagOf, isPointer, isReference, firstOf, secondOf, elementOf, sameTy, conversionRank, converts}
 use Rattle.conv.specs.Rank.Shape.{one, vector, matrix, other}
@@ -16,7 +16,7 @@ use Rattle.conv.proofs.Finite.{both-left, both-right}
 use Rattle.conv.proofs.Made.{same-ty, self-rank}
 use Rattle.overload.specs.Overload.{Overload, fits, Resolved}
 use Rattle.overload.specs.Overload.Judged.{gives, noneFits, nonePreferred}
-use Rattle.overload.specs.Rows.{addressOf, indirection, judgeAddress, judgeIndirection}
+use Rattle.overload.specs.Rows.{addressOf, indirectionOf, judgeAddress, judgeIndirection}
 
 -- what converts to a type that is no scalar, vector or matrix is that type
 
@@ -77,41 +77,10 @@ module _ (set : Overload → Type 0) (takes : Ty → Type 0) (out : Ty → Ty)
       let t = taken x (q .0 .0) (q .0 .1) (q .0 .2) in
       q .1 (record { params = x ∷ []; result = out x }) (record { among = all x (t .0); fitting = one-fits x; over = λ p m h. inl (taken x p m h .1) })
 
-true-false : true ≡ false → ⊥
-true-false e = subst T e tt
-
--- a type whose constructor's number is a pointer's, or a reference's, is one
-
-ptr-made : (x : Ty) → tagOf x ≡ 6 → x ≡ ptr (firstOf x) (secondOf x) (elementOf x)
-unfolding tagOf firstOf secondOf elementOf
-ptr-made (scalar s) e = absurd (omega arith)
-ptr-made (vec n s) e = absurd (omega arith)
-ptr-made (mat c r s) e = absurd (omega arith)
-ptr-made (array k t) e = absurd (omega arith)
-ptr-made (runtime t) e = absurd (omega arith)
-ptr-made (atomic s) e = absurd (omega arith)
-ptr-made (ptr a b t) e = refl
-ptr-made (ref a b t) e = absurd (omega arith)
-ptr-made (frexp t) e = absurd (omega arith)
-ptr-made (modf t) e = absurd (omega arith)
-
-ref-made : (x : Ty) → tagOf x ≡ 7 → x ≡ ref (firstOf x) (secondOf x) (elementOf x)
-unfolding tagOf firstOf secondOf elementOf
-ref-made (scalar s) e = absurd (omega arith)
-ref-made (vec n s) e = absurd (omega arith)
-ref-made (mat c r s) e = absurd (omega arith)
-ref-made (array k t) e = absurd (omega arith)
-ref-made (runtime t) e = absurd (omega arith)
-ref-made (atomic s) e = absurd (omega arith)
-ref-made (ptr a b t) e = absurd (omega arith)
-ref-made (ref a b t) e = refl
-ref-made (frexp t) e = absurd (omega arith)
-ref-made (modf t) e = absurd (omega arith)
-
 -- UNARY `&`: a reference, not in space handle, to the pointer
 
 abbrev pub Lendable : Ty → Type 0
-Lendable x = (space access : ℕ) × (t : Ty) × (space ≢ handle) × (x ≡ ref space access t)
+Lendable x = (space access : ℕ) × (t : Ty) × (space ≢ handle) × T (formed (ref space access t)) × (x ≡ ref space access t)
 
 abbrev pub pointerTo : Ty → Ty
 pointerTo x = ptr (firstOf x) (secondOf x) (elementOf x)
@@ -119,74 +88,119 @@ pointerTo x = ptr (firstOf x) (secondOf x) (elementOf x)
 -- UNARY `*`: a pointer to the reference
 
 abbrev pub Pointer : Ty → Type 0
-Pointer x = (space access : ℕ) × (t : Ty) × (x ≡ ptr space access t)
+Pointer x = (space access : ℕ) × (t : Ty) × T (formed (ptr space access t)) × (x ≡ ptr space access t)
 
 abbrev pub referenceTo : Ty → Ty
 referenceTo x = ref (firstOf x) (secondOf x) (elementOf x)
 
-lend-false : (x : Ty) → Lendable x → both (isReference x) (not (eqb (firstOf x) handle)) ≡ false → ⊥
-unfolding tagOf firstOf both
-lend-false x k e = let z : true ≡ false = sym (rw (k .4, ne-eqb (k .0) handle (k .3))) ∙ e in true-false z
-
-point-false : (x : Ty) → Pointer x → isPointer x ≡ false → ⊥
-unfolding tagOf
-point-false x k e = let z : true ≡ false = sym (rw (k .3)) ∙ e in true-false z
-
 module _ (o : Overload) where
   each-address : addressOf o → (x : Ty) × Lendable x × (shapeOf x ≡ other) × (o ≡ record { params = x ∷ []; result = pointerTo x })
   unfolding shapeOf firstOf secondOf elementOf
-  each-address m = (ref (m .0) (m .1) (m .2), (m .0, m .1, m .2, m .3, refl), refl, m .4)
+  each-address m = (ref (m .0) (m .1) (m .2), (m .0, m .1, m .2, m .3, m .4, refl), refl, m .5)
 
-  each-indirection : indirection o → (x : Ty) × Pointer x × (shapeOf x ≡ other) × (o ≡ record { params = x ∷ []; result = referenceTo x })
+  each-indirection : indirectionOf o → (x : Ty) × Pointer x × (shapeOf x ≡ other) × (o ≡ record { params = x ∷ []; result = referenceTo x })
   unfolding shapeOf firstOf secondOf elementOf
-  each-indirection m = (ptr (m .0) (m .1) (m .2), (m .0, m .1, m .2, refl), refl, m .3)
+  each-indirection m = (ptr (m .0) (m .1) (m .2), (m .0, m .1, m .2, m .3, refl), refl, m .4)
 
 module _ (x : Ty) where
   all-address : Lendable x → addressOf (record { params = x ∷ []; result = pointerTo x })
   unfolding firstOf secondOf elementOf
-  all-address k = (k .0, k .1, k .2, k .3, ap (λ (y : Ty). record { params = y ∷ []; result = pointerTo y }) (k .4))
+  all-address k = (k .0, k .1, k .2, k .3, k .4, ap (λ (y : Ty). record { params = y ∷ []; result = pointerTo y }) (k .5))
 
-  all-indirection : Pointer x → indirection (record { params = x ∷ []; result = referenceTo x })
+  all-indirection : Pointer x → indirectionOf (record { params = x ∷ []; result = referenceTo x })
   unfolding firstOf secondOf elementOf
-  all-indirection k = (k .0, k .1, k .2, ap (λ (y : Ty). record { params = y ∷ []; result = referenceTo y }) (k .3))
+  all-indirection k = (k .0, k .1, k .2, k .3, ap (λ (y : Ty). record { params = y ∷ []; result = referenceTo y }) (k .4))
 
-pub address-gives : (x : Ty) → Lendable x → Resolved addressOf (x ∷ []) (gives (pointerTo x))
+  not-lendable : tagOf x ≢ 7 → Lendable x → ⊥
+  unfolding tagOf
+  not-lendable h k = h (ap tagOf (k .5))
+
+  not-pointer : tagOf x ≢ 6 → Pointer x → ⊥
+  unfolding tagOf
+  not-pointer h k = h (ap tagOf (k .4))
+
+address-gives : (x : Ty) → Lendable x → Resolved addressOf (x ∷ []) (gives (pointerTo x))
 address-gives = described addressOf Lendable pointerTo each-address all-address
 
-pub address-none : (x : Ty) → (Lendable x → ⊥) → Resolved addressOf (x ∷ []) noneFits
+address-none : (x : Ty) → (Lendable x → ⊥) → Resolved addressOf (x ∷ []) noneFits
 address-none = undescribed addressOf Lendable pointerTo each-address all-address
 
 pub address-never : (x : Ty) → Resolved addressOf (x ∷ []) nonePreferred → ⊥
 address-never = described-never addressOf Lendable pointerTo each-address all-address
 
-pub indirection-gives : (x : Ty) → Pointer x → Resolved indirection (x ∷ []) (gives (referenceTo x))
-indirection-gives = described indirection Pointer referenceTo each-indirection all-indirection
+indirection-gives : (x : Ty) → Pointer x → Resolved indirectionOf (x ∷ []) (gives (referenceTo x))
+indirection-gives = described indirectionOf Pointer referenceTo each-indirection all-indirection
 
-pub indirection-none : (x : Ty) → (Pointer x → ⊥) → Resolved indirection (x ∷ []) noneFits
-indirection-none = undescribed indirection Pointer referenceTo each-indirection all-indirection
+indirection-none : (x : Ty) → (Pointer x → ⊥) → Resolved indirectionOf (x ∷ []) noneFits
+indirection-none = undescribed indirectionOf Pointer referenceTo each-indirection all-indirection
 
-pub indirection-never : (x : Ty) → Resolved indirection (x ∷ []) nonePreferred → ⊥
-indirection-never = described-never indirection Pointer referenceTo each-indirection all-indirection
+pub indirection-never : (x : Ty) → Resolved indirectionOf (x ∷ []) nonePreferred → ⊥
+indirection-never = described-never indirectionOf Pointer referenceTo each-indirection all-indirection
 
 -- THE RULES AS FUNCTIONS meet demand 3
 
-pub judge-address : (x : Ty) → Resolved addressOf (x ∷ []) (judgeAddress x)
-unfolding judgeAddress
-judge-address x = go (both (isReference x) (not (eqb (firstOf x) handle))) refl
-  where
-    lends : T (both (isReference x) (not (eqb (firstOf x) handle))) → Lendable x
-    lends h =
-        let t = eqb→eq (tagOf x) 7 (both-left _ _ h) in
-        (firstOf x, secondOf x, elementOf x, (λ e. T-not (eqb (firstOf x) handle) (both-right (isReference x) _ h) (rw (eq-eqb (firstOf x) handle e) tt)), ref-made x t)
+no-address : (x : Ty) → tagOf x ≢ 7 → Resolved addressOf (x ∷ []) noneFits
+no-address x h = address-none x (not-lendable x h)
 
-    go : (b : Bool) → both (isReference x) (not (eqb (firstOf x) handle)) ≡ b → Resolved addressOf (x ∷ []) (cond b (gives (pointerTo x)) noneFits)
-    go true e = address-gives x (lends (rw e tt))
-    go false e = address-none x (λ k. lend-false x k e)
+no-indirection : (x : Ty) → tagOf x ≢ 6 → Resolved indirectionOf (x ∷ []) noneFits
+no-indirection x h = indirection-none x (not-pointer x h)
 
-pub judge-indirection : (x : Ty) → Resolved indirection (x ∷ []) (judgeIndirection x)
-unfolding judgeIndirection
-judge-indirection x = go (isPointer x) refl
-  where
-    go : (b : Bool) → isPointer x ≡ b → Resolved indirection (x ∷ []) (cond b (gives (referenceTo x)) noneFits)
-    go true e = indirection-gives x (firstOf x, secondOf x, elementOf x, ptr-made x (eqb-true _ _ e))
-    go false e = indirection-none x (λ k. point-false x k e)
+lent : (space access : ℕ) (t : Ty) → formed (ref space access t) ≡ true → (b : Bool) → eqb space handle ≡ b
+    → Resolved addressOf (ref space access t ∷ []) (cond b noneFits (gives (ptr space access t)))
+unfolding firstOf secondOf elementOf
+lent space access t f true e = address-none (ref space access t) (λ k. k .3 (sym (ap firstOf (k .5)) ∙ eqb-true space handle e))
+lent space access t f false e = address-gives (ref space access t) (space, access, t, eqb-false space handle e, rw f tt, refl)
+
+pub judge-address : (x : Ty) → formed x ≡ true → Resolved addressOf (x ∷ []) (judgeAddress x)
+unfolding judgeAddress tagOf
+judge-address (ref space access t) f = lent space access t f (eqb space handle) refl
+judge-address (ptr space access t) f = no-address _ (λ e. omega arith)
+judge-address (scalar s) f = no-address _ (λ e. omega arith)
+judge-address (vec n s) f = no-address _ (λ e. omega arith)
+judge-address (mat c r s) f = no-address _ (λ e. omega arith)
+judge-address (array k t) f = no-address _ (λ e. omega arith)
+judge-address (runtime t) f = no-address _ (λ e. omega arith)
+judge-address (atomic s) f = no-address _ (λ e. omega arith)
+judge-address (frexp t) f = no-address _ (λ e. omega arith)
+judge-address (modf t) f = no-address _ (λ e. omega arith)
+
+pub judge-indirection : (x : Ty) → formed x ≡ true → Resolved indirectionOf (x ∷ []) (judgeIndirection x)
+unfolding judgeIndirection tagOf firstOf secondOf elementOf
+judge-indirection (ptr space access t) f = indirection-gives (ptr space access t) (space, access, t, rw f tt, refl)
+judge-indirection (ref space access t) f = no-indirection _ (λ e. omega arith)
+judge-indirection (scalar s) f = no-indirection _ (λ e. omega arith)
+judge-indirection (vec n s) f = no-indirection _ (λ e. omega arith)
+judge-indirection (mat c r s) f = no-indirection _ (λ e. omega arith)
+judge-indirection (array k t) f = no-indirection _ (λ e. omega arith)
+judge-indirection (runtime t) f = no-indirection _ (λ e. omega arith)
+judge-indirection (atomic s) f = no-indirection _ (λ e. omega arith)
+judge-indirection (frexp t) f = no-indirection _ (λ e. omega arith)
+judge-indirection (modf t) f = no-indirection _ (λ e. omega arith)
+
+-- and give nothing where there is no reference, or no pointer
+
+pub address-other : (x : Ty) → isReference x ≡ false → judgeAddress x ≡ noneFits
+unfolding judgeAddress tagOf
+address-other (ref space access t) f = absurd (subst T f tt)
+address-other (ptr space access t) f = refl
+address-other (scalar s) f = refl
+address-other (vec n s) f = refl
+address-other (mat c r s) f = refl
+address-other (array k t) f = refl
+address-other (runtime t) f = refl
+address-other (atomic s) f = refl
+address-other (frexp t) f = refl
+address-other (modf t) f = refl
+
+pub indirection-other : (x : Ty) → isPointer x ≡ false → judgeIndirection x ≡ noneFits
+unfolding judgeIndirection tagOf
+indirection-other (ptr space access t) f = absurd (subst T f tt)
+indirection-other (ref space access t) f = refl
+indirection-other (scalar s) f = refl
+indirection-other (vec n s) f = refl
+indirection-other (mat c r s) f = refl
+indirection-other (array k t) f = refl
+indirection-other (runtime t) f = refl
+indirection-other (atomic s) f = refl
+indirection-other (frexp t) f = refl
+indirection-other (modf t) f = refl

@@ -12,7 +12,7 @@ use borrow.Author.Tests.{ne-eqb}
 use Rattle.conv.specs.Rank.{both}
 use Rattle.conv.proofs.Finite.{both-left, both-right, below, below₂}
 use Rattle.overload.specs.Overload.{or}
-use Rattle.overload.specs.Rows.{Form, Component, Pattern, Family, formAt, N, operators, builtins}
+use Rattle.overload.specs.Rows.{Form, Component, Pattern, Family, formAt, N, rows, rowAt}
 use Rattle.overload.specs.Rows.Form.{sized, single, vecC, vecR, left, right, turned, square}
 use Rattle.overload.specs.Rows.Component.{ofT, just}
 use Rattle.overload.specs.Code as code
@@ -79,7 +79,7 @@ familyTest f =
     (both (allSmall (f .params)) (both (someT (f .params)) (both (isT (firstParam f .of)) (both (smallC (f .result .of)) (allBelow7 (f .set))))))
 
 family-tests : (f : ℕ) → f < 61 → T (familyTest (familyOf f))
-unfolding familyTest allBelow7 both or operators builtins code.joined code.families code.familyOf
+unfolding familyTest allBelow7 both or rows rowAt code.joined code.families code.familyOf
 family-tests f h = below 61 (λ f. familyTest (familyOf f)) tt f h
 
 member-small : (t : ℕ) (ts : List ℕ) → T (allBelow7 ts) → T (code.member t ts) → t < 7
@@ -131,7 +131,7 @@ paramTest : ℕ → ℕ → Bool
 paramTest f i = eqb (wordOf f (i + 1)) (patternNo (getD (familyOf f .params) i N))
 
 param-tests : (f i : ℕ) → f < 61 → i < 4 → T (paramTest f i)
-unfolding paramTest both or operators builtins formAt formNo componentNo code.joined code.families code.familyOf code.shapeNo code.sizeNo code.wrapNo code.pivotNo encode
+unfolding paramTest both or rows rowAt formAt formNo componentNo code.joined code.families code.familyOf code.shapeNo code.sizeNo code.wrapNo code.pivotNo encode
 param-tests f i hf hi = below₂ 61 4 paramTest tt f i hf hi
 
 module _ (f i : ℕ) (hf : f < 61) (hi : i < length (familyOf f .params)) where

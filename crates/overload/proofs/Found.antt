@@ -15,7 +15,7 @@ use Rattle.conv.specs.Rank.Shape.{other}
 use Rattle.conv.proofs.Finite.{both-left, both-right, below}
 use Rattle.conv.proofs.Made.{shape-made}
 use Rattle.overload.specs.Overload.{Overload, fits}
-use Rattle.overload.specs.Rows.{Size, Family, Pattern, formAt, componentAt, patternTy, overload, N, operators, builtins, rows, overloadsOf, ofFamilies}
+use Rattle.overload.specs.Rows.{Size, Family, Pattern, formAt, componentAt, patternTy, overload, N, rows, overloadsOf, ofFamilies, rowAt, Row, noRow}
 use Rattle.overload.specs.Code as code
 use Rattle.overload.specs.Code.{shapeOfNo, shapeNo, operand, sizeOfNo, sizeNo, familyOf, startOf, noFamily, firstParam, lastParam, formsAt, familyAt, pivotNo, sizeAt, encode, wordOf, member, fitsAt, firstX, lastX, formsOf}
 use Rattle.overload.proofs.Preference.{Sized, smallC, slot-cost, pick-test}
@@ -87,19 +87,19 @@ pub record Found (row : ℕ) (xs : List ℕ) (o : Overload) : Type 0 where
   pub is : o ≡ overload (familyOf f) t (sizeOfNo n)
 
 rows-length : length rows ≡ 47
-unfolding operators builtins
+unfolding rows rowAt
 rows-length = refl
 
 totalTest : ℕ → Bool
-totalTest row = leb (startOf row + length (getD rows row [])) 61
+totalTest row = leb (startOf row + length (rowAt row .families)) 61
 
 total-tests : (row : ℕ) → row < 47 → T (totalTest row)
-unfolding totalTest both operators builtins code.joined code.startOf
+unfolding totalTest both rows rowAt code.joined code.startOf
 total-tests row h = below 47 totalTest tt row h
 
-pub total : (row i : ℕ) → row < 47 → i < length (getD rows row []) → startOf row + i < 61
+pub total : (row i : ℕ) → row < 47 → i < length (rowAt row .families) → startOf row + i < 61
 unfolding totalTest
-total row i hr hi = let l = leb→le (startOf row + length (getD rows row [])) 61 (total-tests row hr) in omega arith
+total row i hr hi = let l = leb→le (startOf row + length (rowAt row .families)) 61 (total-tests row hr) in omega arith
 
 -- the family's words are its own
 pub pivot-word : (f : ℕ) → wordOf f 7 ≡ pivotNo (familyOf f)
@@ -107,7 +107,8 @@ unfolding encode
 pivot-word f = refl
 
 -- a row that has an overload is a row
-pub row-in : (row : ℕ) (o : Overload) → List·Memᴰ o (overloadsOf row) → row < 47
+pub row-in : (row : ℕ) (o : Overload) → List·Memᴰ o (overloadsOf (rowAt row)) → row < 47
+unfolding rowAt
 row-in row o m = go (ltb row 47) refl
   where
     none-there : List·Memᴰ o (ofFamilies []) → row < 47
@@ -117,14 +118,14 @@ row-in row o m = go (ltb row 47) refl
     go true e = ltb-true row 47 e
     go false e =
         let l : length rows ≤ row = omega (arith, rows-length, ltb-false row 47 e) in
-        none-there (subst (λ (fs : List Family). List·Memᴰ o (ofFamilies fs)) (List·getD-eq-default rows [] l) m)
+        none-there (subst (λ (r : Row). List·Memᴰ o (overloadsOf r)) (List·getD-eq-default rows noRow l) m)
 
 module _ (row : ℕ) (xs : List ℕ) (o : Overload) (h : T (fits (o .params) (map operand xs))) where
   -- in a row that there is
-  complete-in : row < 47 → (i : ℕ) → i < length (getD rows row []) → Of (getD (getD rows row []) i noFamily) o → Found row xs o
+  complete-in : row < 47 → (i : ℕ) → i < length (rowAt row .families) → Of (getD (rowAt row .families) i noFamily) o → Found row xs o
   complete-in hr i hi q =
       let f = startOf row + i in
-      let fam = getD (getD rows row []) i noFamily in
+      let fam = getD (rowAt row .families) i noFamily in
       let w = way row i (q .z) hr hi (q .inSizes) in
       let n = sizeNo (q .z) in
       let e : familyOf f ≡ fam = row-family row i hi in
@@ -176,5 +177,5 @@ module _ (row : ℕ) (xs : List ℕ) (o : Overload) (h : T (fits (o .params) (ma
         is = is;
       }
 
-  pub complete : List·Memᴰ o (overloadsOf row) → Found row xs o
-  complete m = let r = listed-of (getD rows row []) o m in complete-in (row-in row o m) (r .0) (r .1) (r .2)
+  pub complete : List·Memᴰ o (overloadsOf (rowAt row)) → Found row xs o
+  complete m = let r = listed-of (rowAt row .families) o m in complete-in (row-in row o m) (r .0) (r .1) (r .2)

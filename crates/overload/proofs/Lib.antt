@@ -14,4 +14,5 @@ pub mod Described
 pub mod Judge
 pub mod Cases
 pub mod Results
+pub mod Rulings
 pub mod OneReply

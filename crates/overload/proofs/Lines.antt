@@ -9,7 +9,7 @@ use lib.ListN.{getD, List·getD-eq-default}
 use borrow.Author.Tests.{eqb-true, eqb-false}
 use Rattle.conv.specs.Rank.{pick, none}
 use Rattle.conv.proofs.Finite.{implies, modus, all, below}
-use Rattle.overload.specs.Rows.{Family, operators, builtins}
+use Rattle.overload.specs.Rows.{Family, rows, rowAt}
 use Rattle.overload.specs.Code as code
 use Rattle.overload.specs.Code.{noFamily, familyOf, familyAt, encode, askedOf, liftOf, entry, orNone, sets, setOf, Families, Word, Starts, Lifts}
 
@@ -35,7 +35,7 @@ word-line k t s e = word-of (familyOf k) t s (ap familyOf e)
 
 -- past the last family
 pub no-family : (f : ℕ) → 61 ≤ f → familyOf f ≡ noFamily
-unfolding operators builtins code.joined code.families familyOf
+unfolding rows rowAt code.joined code.families familyOf
 no-family f h = List·getD-eq-default code.families noFamily h
 
 pub starts-line : (k : ℕ) {w n : ℕ} → T (all 8 (λ i. implies (ltb (askedOf i k) 13) (eqb (entry 8 w i) (7 * askedOf i k)))) → n ≡ k → Starts n w

@@ -7,7 +7,7 @@ use Rattle.conv.specs.Rank.{both, tagOf, firstOf, secondOf, elementOf, made, co
 use Rattle.conv.proofs.Finite.{below}
 use Rattle.overload.specs.Overload.{Overload, or, sameTys, sameOverload}
 use Rattle.overload.specs.Rows as rows
-use Rattle.overload.specs.Rows.{overloadsOf, operators, builtins}
+use Rattle.overload.specs.Rows.{overloadsOf, rowAt, rows}
 
 pub stands : Overload → List Overload → Bool
 stands o [] = false
@@ -17,6 +17,6 @@ pub once : List Overload → Bool
 once [] = true
 once (o ∷ os) = both (not (stands o os)) (once os)
 
-pub listed-once : (row : ℕ) → row < 47 → T (once (overloadsOf row))
-unfolding stands once or both sameTys sameTy tagOf firstOf secondOf elementOf made componentOf operators builtins rows.formAt rows.componentAt rows.ofFamilies rows.overSet rows.atSizes
-listed-once row h = below 47 (λ row. once (overloadsOf row)) tt row h
+pub listed-once : (row : ℕ) → row < 47 → T (once (overloadsOf (rowAt row)))
+unfolding stands once or both sameTys sameTy tagOf firstOf secondOf elementOf made componentOf rows rowAt rows.formAt rows.componentAt rows.ofFamilies rows.overSet rows.atSizes
+listed-once row h = below 47 (λ row. once (overloadsOf (rowAt row))) tt row h

@@ -9,7 +9,7 @@ use lib.Dec.{T, eqb, eqb→eq, eqb-refl}
 use lib.ListN.{length, getD, take, length-append, List·getD-append}
 use lib.Seq.{getD-append-add}
 use Rattle.overload.specs.Overload.{Overload}
-use Rattle.overload.specs.Rows.{Size, Family, overload, atSizes, overSet, ofFamilies, rows}
+use Rattle.overload.specs.Rows.{Size, Family, overload, atSizes, overSet, ofFamilies, Row, noRow, rows, rowAt}
 use Rattle.overload.specs.Code.{joined, families, familyOf, startOf, noFamily, member}
 use Rattle.overload.proofs.Preference.{or-cases, or-left, or-right}
 
@@ -72,15 +72,15 @@ to-listed (f ∷ fs) (suc i) t z h s m = Memᴰ·append-right (overSet f (f .set
 
 -- the families of a row stand together in the list of all
 
-in-joined : (rs : List (List Family)) (k i : ℕ) → i < length (getD rs k []) → getD (joined rs) (length (joined (take k rs)) + i) noFamily ≡ getD (getD rs k []) i noFamily
+in-joined : (rs : List Row) (k i : ℕ) → i < length (getD rs k noRow .families) → getD (joined rs) (length (joined (take k rs)) + i) noFamily ≡ getD (getD rs k noRow .families) i noFamily
 unfolding joined
 in-joined [] k i h = absurd (not-suc-le-zero h)
-in-joined (r ∷ rs) zero i h = ap (λ (n : ℕ). getD (r ++ joined rs) n noFamily) (zero-add i) ∙ List·getD-append r (joined rs) noFamily i h
+in-joined (r ∷ rs) zero i h = ap (λ (n : ℕ). getD (r .families ++ joined rs) n noFamily) (zero-add i) ∙ List·getD-append (r .families) (joined rs) noFamily i h
 in-joined (r ∷ rs) (suc k) i h =
-    ap (λ (n : ℕ). getD (r ++ joined rs) n noFamily) (ap (λ (n : ℕ). n + i) (length-append r (joined (take k rs))) ∙ add-assoc (length r) (length (joined (take k rs))) i)
-    ∙ getD-append-add r (joined rs) (length (joined (take k rs)) + i) noFamily
+    ap (λ (n : ℕ). getD (r .families ++ joined rs) n noFamily) (ap (λ (n : ℕ). n + i) (length-append (r .families) (joined (take k rs))) ∙ add-assoc (length (r .families)) (length (joined (take k rs))) i)
+    ∙ getD-append-add (r .families) (joined rs) (length (joined (take k rs)) + i) noFamily
     ∙ in-joined rs k i h
 
-pub row-family : (row i : ℕ) → i < length (getD rows row []) → familyOf (startOf row + i) ≡ getD (getD rows row []) i noFamily
-unfolding familyOf families startOf
+pub row-family : (row i : ℕ) → i < length (rowAt row .families) → familyOf (startOf row + i) ≡ getD (rowAt row .families) i noFamily
+unfolding familyOf families startOf rowAt
 row-family row i h = in-joined rows row i h

@@ -14,7 +14,7 @@ use Rattle.conv.specs.Rank.Shape.{one, vector, matrix, other}
 use Rattle.conv.proofs.Finite.{below}
 use Rattle.conv.proofs.Made.{shape-made, component-made}
 use Rattle.overload.specs.Overload.Judged.{gives}
-use Rattle.overload.specs.Rows.{judgeRow}
+use Rattle.overload.specs.Rows.{judgeRow, rowAt}
 use Rattle.overload.specs.Code.{shapeOfNo, shapeNo, operand, codeOf, outOf, judgedOf}
 use Rattle.overload.specs.declared.Out.{Out}
 use Rattle.overload.specs.declared.Out.the-variants.{Plain, Frexp, Modf}
@@ -105,7 +105,7 @@ out-one (Modf x) (Modf y) f t g u e = ap Modf (same-number x y (small-fract x (f
 gives-one : {R Q : Ty} → gives R ≡ gives Q → R ≡ Q
 gives-one e = cc
 
-pub resolve-one : (row : ℕ) (xs : List ℕ) (r s : Resolution) → judgedOf r ≡ judgeRow row (map operand xs) → judgedOf s ≡ judgeRow row (map operand xs) → r ≡ s
+pub resolve-one : (row : ℕ) (xs : List ℕ) (r s : Resolution) → judgedOf r ≡ judgeRow (rowAt row) (map operand xs) → judgedOf s ≡ judgeRow (rowAt row) (map operand xs) → r ≡ s
 unfolding judgedOf
 resolve-one row xs (Gives a) (Gives b) p q =
     let f = gives-formed row (map operand xs) (outOf a) (sym p) in

@@ -17,7 +17,7 @@ use Rattle.conv.proofs.Finite.{both-left, both-right}
 use Rattle.conv.proofs.Made.{made-rank, shape-made}
 use Rattle.overload.specs.Overload.{Overload, fits, noMore, less, or, Preferred, Judged, Resolved}
 use Rattle.overload.specs.Overload.Judged.{gives, noneFits, nonePreferred}
-use Rattle.overload.specs.Rows.{Size, Pattern, formAt, componentAt, patternTy, rows, overloadsOf, ofRow, judgeRow}
+use Rattle.overload.specs.Rows.{Size, Pattern, formAt, componentAt, patternTy, rows, overloadsOf, ofRow, judgeRow, rowAt}
 use Rattle.overload.specs.Code.{shapeOfNo, shapeNo, operand, codeOf, sizeNo, startOf, noFamily}
 use Rattle.overload.proofs.Preference.{Sized, smallC, allSmall, form-small, component-small}
 use Rattle.overload.proofs.Slots.{by-shape, sized-no}
@@ -218,18 +218,18 @@ module _ (z : Size) (t : ℕ) (hz : Sized z) (ht : t < 7) where
         (less-by xs ps qs (both-right (smallC (p .of)) _ s) (both-right (smallC (q .of)) _ v) (and-right (formed x) _ f) i))
 
 -- the parameters of an overload of a row
-pub params-of : (row : ℕ) (o : Overload) → List·Memᴰ o (overloadsOf row) → Params (o .params)
+pub params-of : (row : ℕ) (o : Overload) → List·Memᴰ o (overloadsOf (rowAt row)) → Params (o .params)
 params-of row o m =
-    let r = listed-of (getD rows row []) o m in
+    let r = listed-of (rowAt row .families) o m in
     let hr = row-in row o m in
     let q = r .2 in
     let w = way row (r .0) (q .z) hr (r .1) (q .inSizes) in
     let e = row-family row (r .0) (r .1) in
-    let g : Good (getD (getD rows row []) (r .0) noFamily) = subst Good e (good (startOf row + r .0) (total row (r .0) hr (r .1))) in
+    let g : Good (getD (rowAt row .families) (r .0) noFamily) = subst Good e (good (startOf row + r .0) (total row (r .0) hr (r .1))) in
     record {
       t = q .t;
       z = q .z;
-      patterns = getD (getD rows row []) (r .0) noFamily .params;
+      patterns = getD (rowAt row .families) (r .0) noFamily .params;
       sized = subst Sized (w .back) (sized-no (sizeNo (q .z)) (w .small) (w .proper));
       scalar = g .set (q .t) (q .inSet);
       small = g .small;
@@ -254,7 +254,7 @@ module _ (ts : List Ty) (f : allFormed ts ≡ true) where
 
   module _ (row : ℕ) where
     -- what is preferred by the numbers is preferred by the types
-    pub preferred-types : (o : Overload) → Preferred (ofRow row) (map operand (codesOf ts)) o → Preferred (ofRow row) ts o
+    pub preferred-types : (o : Overload) → Preferred (ofRow (rowAt row)) (map operand (codesOf ts)) o → Preferred (ofRow (rowAt row)) ts o
     preferred-types o q =
         let a = params-of row o (q .among) in
         record {
@@ -267,7 +267,7 @@ module _ (ts : List Ty) (f : allFormed ts ≡ true) where
         }
 
     -- and every judgment by the numbers is one by the types
-    pub resolved-types : (r : Judged) → Resolved (ofRow row) (map operand (codesOf ts)) r → Resolved (ofRow row) ts r
+    pub resolved-types : (r : Judged) → Resolved (ofRow (rowAt row)) (map operand (codesOf ts)) r → Resolved (ofRow (rowAt row)) ts r
     unfolding Resolved
     resolved-types (gives t) q = (q .0, preferred-types (q .0) (q .1), q .2)
     resolved-types noneFits q = λ p m h. q p m (subst T (fits-same (p .params) (params-of row p m)) h)
@@ -275,7 +275,7 @@ module _ (ts : List Ty) (f : allFormed ts ≡ true) where
         let o = some-preferred row (codesOf ts) (q .0 .0) (q .0 .1) (q .0 .2) in absurd (q .1 (o .0) (o .1))
 
     -- REFUSAL 13 IS NEVER GIVEN: where overloads of a row fit one is preferred
-    pub never-thirteen : Resolved (ofRow row) ts nonePreferred → ⊥
+    pub never-thirteen : Resolved (ofRow (rowAt row)) ts nonePreferred → ⊥
     unfolding Resolved
     never-thirteen q =
         let p = q .0 .0 in
@@ -284,6 +284,6 @@ module _ (ts : List Ty) (f : allFormed ts ≡ true) where
         q .1 (o .0) (preferred-types (o .0) (o .1))
 
     -- so the definition judges the types as it judges the numbers
-    pub judge-types : judgeRow row (map operand (codesOf ts)) ≡ judgeRow row ts
+    pub judge-types : judgeRow (rowAt row) (map operand (codesOf ts)) ≡ judgeRow (rowAt row) ts
     judge-types =
-        judge-is (overloadsOf row) ts (judgeRow row (map operand (codesOf ts))) (resolved-types (judgeRow row (map operand (codesOf ts))) (judge-resolved (overloadsOf row) (map operand (codesOf ts))))
+        judge-is (overloadsOf (rowAt row)) ts (judgeRow (rowAt row) (map operand (codesOf ts))) (resolved-types (judgeRow (rowAt row) (map operand (codesOf ts))) (judge-resolved (overloadsOf (rowAt row)) (map operand (codesOf ts))))

@@ -14,7 +14,7 @@ use Rattle.conv.specs.Rank.{both, none, Shape, formOf, columnsOf, rowsOf, sameS
 use Rattle.conv.specs.Rank.Shape.{one, vector, matrix, other}
 use Rattle.conv.proofs.Finite.{both-left, both-right, both-pair, implies, modus, all, below, below₂}
 use Rattle.overload.specs.Overload.{or}
-use Rattle.overload.specs.Rows.{Size, Family, formAt, operators, builtins, rows}
+use Rattle.overload.specs.Rows.{Size, Family, formAt, rows, rowAt}
 use Rattle.overload.specs.Code as code
 use Rattle.overload.specs.Code.{shapeOfNo, shapeNo, sizeOfNo, sizeNo, familyOf, startOf, noFamily, firstParam, lastParam, formsAt, familyAt, pivotNo, sizeAt, wordOf, askedOf}
 use Rattle.overload.proofs.Preference.{or-cases}
@@ -78,9 +78,9 @@ foundIn : ℕ → ℕ → List Family → Bool
 foundIn row f [] = true
 foundIn row f (fam ∷ fams) = both (allSizes (foundAt row f fam) (fam .sizes)) (foundIn row (f + 1) fams)
 
-found-rows : (row : ℕ) → row < 47 → T (foundIn row (startOf row) (getD rows row []))
-unfolding foundIn allSizes foundAt sameSize both or operators builtins formAt shapeOfNo shapeNo sizeOfNo sizeNo code.formNo code.componentNo code.wrapNo code.joined code.families code.familyOf code.startOf code.anySize code.findFamily code.familyAt code.pivotNo code.encode code.sizeAt
-found-rows row h = below 47 (λ row. foundIn row (startOf row) (getD rows row [])) tt row h
+found-rows : (row : ℕ) → row < 47 → T (foundIn row (startOf row) (rowAt row .families))
+unfolding foundIn allSizes foundAt sameSize both or rows rowAt formAt shapeOfNo shapeNo sizeOfNo sizeNo code.formNo code.componentNo code.wrapNo code.joined code.families code.familyOf code.startOf code.anySize code.findFamily code.familyAt code.pivotNo code.encode code.sizeAt
+found-rows row h = below 47 (λ row. foundIn row (startOf row) (rowAt row .families)) tt row h
 
 all-sizes-at : (g : Size → Bool) (zs : List Size) → T (allSizes g zs) → (z : Size) → List·Memᴰ z zs → T (g z)
 unfolding allSizes
@@ -128,25 +128,25 @@ way-of row f fam z h =
       high = leb→le (sizeNo z) (wordOf f 9) (both-right (leb (wordOf f 8) (sizeNo z)) _ b);
     }
 
-pub way : (row i : ℕ) (z : Size) → row < 47 → i < length (getD rows row []) → List·Memᴰ z (getD (getD rows row []) i noFamily .sizes)
-    → Way row (startOf row + i) (getD (getD rows row []) i noFamily) z
+pub way : (row i : ℕ) (z : Size) → row < 47 → i < length (rowAt row .families) → List·Memᴰ z (getD (rowAt row .families) i noFamily .sizes)
+    → Way row (startOf row + i) (getD (rowAt row .families) i noFamily) z
 way row i z hr hi m =
-    way-of row (startOf row + i) (getD (getD rows row []) i noFamily) z (found-in-at row (startOf row) (getD rows row []) (found-rows row hr) i hi z m)
+    way-of row (startOf row + i) (getD (rowAt row .families) i noFamily) z (found-in-at row (startOf row) (rowAt row .families) (found-rows row hr) i hi z m)
 
 -- THE WAY BACK: a family that is found is one of the row, and a size between its first and its last one of its sizes
 
 insideTest : ℕ → ℕ → Bool
 insideTest row g =
     or (eqb (familyAt row g) none)
-    (both (leb (startOf row) (familyAt row g)) (both (ltb (familyAt row g) (startOf row + length (getD rows row []))) (ltb (familyAt row g) 61)))
+    (both (leb (startOf row) (familyAt row g)) (both (ltb (familyAt row g) (startOf row + length (rowAt row .families))) (ltb (familyAt row g) 61)))
 
 inside-tests : (row g : ℕ) → row < 47 → g < 9 → T (insideTest row g)
-unfolding insideTest both or operators builtins formAt code.joined code.startOf code.anySize code.findFamily code.familyAt
+unfolding insideTest both or rows rowAt formAt code.joined code.startOf code.anySize code.findFamily code.familyAt
 inside-tests row g hr hg = below₂ 47 9 insideTest tt row g hr hg
 
 pub record Inside (row f : ℕ) : Type 0 where
   pub i : ℕ
-  pub within : i < length (getD rows row [])
+  pub within : i < length (rowAt row .families)
   pub is : f ≡ startOf row + i
   pub below : f < 61
 
@@ -157,8 +157,8 @@ inside row g hr hg h =
     (λ k.
     let a = leb→le (startOf row) (familyAt row g) (both-left _ _ k) in
     let k₁ = both-right (leb (startOf row) (familyAt row g)) _ k in
-    let b = ltb→lt (familyAt row g) (startOf row + length (getD rows row [])) (both-left _ _ k₁) in
-    let d = ltb→lt (familyAt row g) 61 (both-right (ltb (familyAt row g) (startOf row + length (getD rows row []))) _ k₁) in
+    let b = ltb→lt (familyAt row g) (startOf row + length (rowAt row .families)) (both-left _ _ k₁) in
+    let d = ltb→lt (familyAt row g) 61 (both-right (ltb (familyAt row g) (startOf row + length (rowAt row .families))) _ k₁) in
     record { i = familyAt row g - startOf row; within = omega arith; is = omega arith; below = d })
     (or-cases (eqb (familyAt row g) none) _ (inside-tests row g hr hg))
 
@@ -168,7 +168,7 @@ sizesTest f n =
     (implies (implies (eqb (pivotNo (familyOf f)) 0) (eqb (shapeNo (formAt (firstParam (familyOf f) .form) (sizeOfNo n))) n)) (memSize (sizeOfNo n) (familyOf f .sizes)))
 
 sizes-tests : (f n : ℕ) → f < 61 → n < 41 → T (sizesTest f n)
-unfolding sizesTest memSize sameSize implies both or operators builtins formAt shapeOfNo shapeNo sizeOfNo sizeNo code.formNo code.componentNo code.wrapNo code.joined code.families code.familyOf code.pivotNo code.encode
+unfolding sizesTest memSize sameSize implies both or rows rowAt formAt shapeOfNo shapeNo sizeOfNo sizeNo code.formNo code.componentNo code.wrapNo code.joined code.families code.familyOf code.pivotNo code.encode
 sizes-tests f n hf hn = below₂ 61 41 sizesTest tt f n hf hn
 
 -- sizes between the first and the last: none is 13
@@ -176,7 +176,7 @@ rangeTest : ℕ → Bool
 rangeTest f = both (ltb (wordOf f 9) 41) (or (ltb (wordOf f 9) 13) (ltb 13 (wordOf f 8)))
 
 range-tests : (f : ℕ) → f < 61 → T (rangeTest f)
-unfolding rangeTest both or operators builtins formAt shapeOfNo shapeNo sizeOfNo sizeNo code.formNo code.componentNo code.wrapNo code.joined code.families code.familyOf code.pivotNo code.encode
+unfolding rangeTest both or rows rowAt formAt shapeOfNo shapeNo sizeOfNo sizeNo code.formNo code.componentNo code.wrapNo code.joined code.families code.familyOf code.pivotNo code.encode
 range-tests f hf = below 61 rangeTest tt f hf
 
 -- at them every parameter and the result has a shape
@@ -184,7 +184,7 @@ shapesTest : ℕ → ℕ → Bool
 shapesTest f n = implies (both (leb (wordOf f 8) n) (leb n (wordOf f 9))) (all 5 (λ i. ltb (askedOf (wordOf f (i + 1) / 8) n) 13))
 
 shapes-tests : (f n : ℕ) → f < 61 → n < 41 → T (shapesTest f n)
-unfolding shapesTest implies both or operators builtins formAt shapeOfNo shapeNo sizeOfNo sizeNo code.formNo code.formOfNo code.componentNo code.wrapNo code.joined code.families code.familyOf code.pivotNo code.encode askedOf
+unfolding shapesTest implies both or rows rowAt formAt shapeOfNo shapeNo sizeOfNo sizeNo code.formNo code.formOfNo code.componentNo code.wrapNo code.joined code.families code.familyOf code.pivotNo code.encode askedOf
 shapes-tests f n hf hn = below₂ 61 41 shapesTest tt f n hf hn
 
 yes-then : (b : Bool) → T b → T (implies true b)

@@ -12,7 +12,7 @@ use Rattle.conv.specs.Types.Ty.{frexp, modf}
 use Rattle.conv.specs.Rank.{pick, none, formOf, made, accepts}
 use Rattle.conv.proofs.Finite.{both-left, both-right}
 use Rattle.overload.specs.Overload.{Overload, Resolved}
-use Rattle.overload.specs.Rows.{Wrap, formAt, patternTy, overload, wrapped, operators, builtins, ofRow}
+use Rattle.overload.specs.Rows.{Wrap, formAt, patternTy, overload, wrapped, ofRow, rowAt, rows}
 use Rattle.overload.specs.Rows.Wrap.{bare, inFrexp, inModf}
 use Rattle.overload.specs.Code as code
 use Rattle.overload.specs.Code.{shapeOfNo, operand, sizeOfNo, formOfNo, patternNo, patternOfNo, wrapNo, askedOf, familyOf, familyAt, sizeAt, encode, wordOf, member, firstOf, preference, liftOf, fitsAt, firstX, lastX, formsOf, orNone, outOf, judgedOf}
@@ -88,7 +88,7 @@ module _ (t : Ty) where
 
 -- NO OVERLOAD FITS
 
-pub not-found : (row : ℕ) (xs : List ℕ) → ((p : Overload) → Found row xs p → ⊥) → Resolved (ofRow row) (map operand xs) (judgedOf NoneFits)
+pub not-found : (row : ℕ) (xs : List ℕ) → ((p : Overload) → Found row xs p → ⊥) → Resolved (ofRow (rowAt row)) (map operand xs) (judgedOf NoneFits)
 unfolding Resolved judgedOf
 not-found row xs k = λ p m h. k p (complete row xs p h m)
 
@@ -99,12 +99,12 @@ other-form k h = rw (ne-eqb k 0 (λ e. omega arith), le-ltb k 4 (omega arith), l
 
 -- 63 is no family
 no-params : wordOf 63 0 ≡ 0
-unfolding operators builtins code.joined code.families familyOf encode
+unfolding rows rowAt code.joined code.families familyOf encode
 no-params = refl
 
 -- f is the family that the row has, or 63
 module _ (row : ℕ) (xs : List ℕ) (f : ℕ) (e : f ≡ orNone 63 (familyAt row (formsOf xs))) where
-  pub family-apart : (f ≡ familyAt row (formsOf xs) → Resolved (ofRow row) (map operand xs) (judgedOf NoneFits)) → Resolved (ofRow row) (map operand xs) (judgedOf NoneFits)
+  pub family-apart : (f ≡ familyAt row (formsOf xs) → Resolved (ofRow (rowAt row)) (map operand xs) (judgedOf NoneFits)) → Resolved (ofRow (rowAt row)) (map operand xs) (judgedOf NoneFits)
   family-apart k =
       ⊎-elim (λ a. not-found row xs (λ p c. let l = c .below in let h = sym (c .family) ∙ a .0 in omega arith)) (λ b. k (b .1))
       (entry-cases 63 (familyAt row (formsOf xs)) f e)
@@ -121,19 +121,19 @@ module _ (row : ℕ) (xs : List ℕ) (f : ℕ) (e : f ≡ familyAt row (formsOf 
   pub in-row : row < 47 → formsOf xs < 9 → f ≢ none → Inside row f
   in-row hr hg h = subst (Inside row) (sym e) (inside row (formsOf xs) hr hg (λ q. h (e ∙ q)))
 
-  pub count-apart : wordOf f 0 ≢ length xs → Resolved (ofRow row) (map operand xs) (judgedOf NoneFits)
+  pub count-apart : wordOf f 0 ≢ length xs → Resolved (ofRow (rowAt row)) (map operand xs) (judgedOf NoneFits)
   count-apart h = not-found row xs (λ p c. h (count-word f ∙ ap (λ (k : ℕ). length (familyOf k .params)) (sym (family-is p c)) ∙ sym (c .count)))
 
   module _ (n : ℕ) (s : n ≡ sizeAt (wordOf f 7) (firstX xs / 7) (lastX xs / 7)) where
     size-is : (p : Overload) (c : Found row xs p) → c .n ≡ n
     size-is p c = sym (c .size) ∙ ap (λ (k : ℕ). sizeAt (wordOf k 7) (firstX xs / 7) (lastX xs / 7)) (family-is p c) ∙ sym s
 
-    pub low-apart : n < wordOf f 8 → Resolved (ofRow row) (map operand xs) (judgedOf NoneFits)
+    pub low-apart : n < wordOf f 8 → Resolved (ofRow (rowAt row)) (map operand xs) (judgedOf NoneFits)
     low-apart h =
         not-found row xs
         (λ p c. let a : wordOf f 8 ≤ n = subst (λ (k : ℕ). wordOf f 8 ≤ k) (size-is p c) (subst (λ (k : ℕ). wordOf k 8 ≤ c .n) (family-is p c) (c .low)) in omega arith)
 
-    pub high-apart : wordOf f 9 < n → Resolved (ofRow row) (map operand xs) (judgedOf NoneFits)
+    pub high-apart : wordOf f 9 < n → Resolved (ofRow (rowAt row)) (map operand xs) (judgedOf NoneFits)
     high-apart h =
         not-found row xs
         (λ p c. let a : n ≤ wordOf f 9 = subst (λ (k : ℕ). k ≤ wordOf f 9) (size-is p c) (subst (λ (k : ℕ). c .n ≤ wordOf k 9) (family-is p c) (c .high)) in omega arith)
@@ -145,7 +145,7 @@ module _ (row : ℕ) (xs : List ℕ) (f : ℕ) (e : f ≡ familyAt row (formsOf 
             record { row-below = hr; inside = in-row hr hg h; count = sym count ∙ count-word f; family = sym e; size = sym s; low = low; high = high }
 
         -- the operands have no join
-        pub join-apart : (j : ℕ) → j ≡ 255 → ((t : ℕ) → t < 7 → accepts j t ≡ fitsAt f n t xs) → Resolved (ofRow row) (map operand xs) (judgedOf NoneFits)
+        pub join-apart : (j : ℕ) → j ≡ 255 → ((t : ℕ) → t < 7 → accepts j t ≡ fitsAt f n t xs) → Resolved (ofRow (rowAt row)) (map operand xs) (judgedOf NoneFits)
         unfolding Resolved judgedOf
         join-apart j q k p m d =
             let o = of-here row xs f n at-place p m d in
@@ -156,13 +156,13 @@ module _ (row : ℕ) (xs : List ℕ) (f : ℕ) (e : f ≡ familyAt row (formsOf 
           first-is = sym (lift-first f n xs j hj k) ∙ sym l
 
           -- no T of the set takes the join
-          pub lift-apart : t ≡ none → Resolved (ofRow row) (map operand xs) (judgedOf NoneFits)
+          pub lift-apart : t ≡ none → Resolved (ofRow (rowAt row)) (map operand xs) (judgedOf NoneFits)
           unfolding judgedOf
           lift-apart q = none-takes row xs f n at-place (first-is ∙ q)
 
           -- the preferred overload
           pub preferred : t ≢ none → (o : Out) → outOf o ≡ wrapped (familyOf f .wrap) (patternTy (sizeOfNo n) t (familyOf f .result))
-              → Resolved (ofRow row) (map operand xs) (judgedOf (Gives o))
+              → Resolved (ofRow (rowAt row)) (map operand xs) (judgedOf (Gives o))
           unfolding Resolved judgedOf
           preferred q o r = (overload (familyOf f) t (sizeOfNo n), first-preferred row xs f n at-place t first-is q, r)
 

@@ -11,7 +11,7 @@ use Rattle.conv.specs.Rank.{both, made}
 use Rattle.conv.proofs.Finite.{both-left, both-right, below}
 use Rattle.overload.specs.Overload.{Overload, or, Resolved}
 use Rattle.overload.specs.Overload.Judged.{gives}
-use Rattle.overload.specs.Rows.{formAt, componentAt, wrapped, atSizes, overSet, ofFamilies, operators, builtins, overloadsOf, ofRow, judgeRow}
+use Rattle.overload.specs.Rows.{formAt, componentAt, wrapped, atSizes, overSet, ofFamilies, overloadsOf, ofRow, judgeRow, rowAt, rows}
 use Rattle.overload.proofs.Found.{row-in}
 use Rattle.overload.proofs.Judge.{judge-resolved}
 
@@ -23,9 +23,9 @@ allResults : List Overload → Bool
 allResults [] = true
 allResults (o ∷ os) = both (resultTest o) (allResults os)
 
-all-results : (row : ℕ) → row < 47 → T (allResults (overloadsOf row))
-unfolding allResults resultTest both or formed isRuntime isFract made formAt componentAt wrapped atSizes overSet ofFamilies operators builtins
-all-results row h = below 47 (λ row. allResults (overloadsOf row)) tt row h
+all-results : (row : ℕ) → row < 47 → T (allResults (overloadsOf (rowAt row)))
+unfolding allResults resultTest both or formed isRuntime isFract made formAt componentAt wrapped atSizes overSet ofFamilies rows rowAt
+all-results row h = below 47 (λ row. allResults (overloadsOf (rowAt row))) tt row h
 
 result-at : (os : List Overload) → T (allResults os) → (o : Overload) → List·Memᴰ o os → T (resultTest o)
 unfolding allResults
@@ -37,14 +37,14 @@ T-true : (b : Bool) → T b → b ≡ true
 T-true true t = refl
 T-true false t = absurd t
 
-resolved-result : (row : ℕ) (ts : List Ty) (R : Ty) → Resolved (ofRow row) ts (gives R) → (o : Overload) × List·Memᴰ o (overloadsOf row) × (R ≡ o .result)
+resolved-result : (row : ℕ) (ts : List Ty) (R : Ty) → Resolved (ofRow (rowAt row)) ts (gives R) → (o : Overload) × List·Memᴰ o (overloadsOf (rowAt row)) × (R ≡ o .result)
 unfolding Resolved
 resolved-result row ts R q = (q .0, q .1 .among, q .2)
 
 -- what a row gives
-pub gives-formed : (row : ℕ) (ts : List Ty) (R : Ty) → judgeRow row ts ≡ gives R → (formed R ≡ true) × T (not (isRuntime R))
+pub gives-formed : (row : ℕ) (ts : List Ty) (R : Ty) → judgeRow (rowAt row) ts ≡ gives R → (formed R ≡ true) × T (not (isRuntime R))
 unfolding resultTest
 gives-formed row ts R e =
-    let q = resolved-result row ts R (subst (Resolved (ofRow row) ts) e (judge-resolved (overloadsOf row) ts)) in
-    let t = result-at (overloadsOf row) (all-results row (row-in row (q .0) (q .1))) (q .0) (q .1) in
+    let q = resolved-result row ts R (subst (Resolved (ofRow (rowAt row)) ts) e (judge-resolved (overloadsOf (rowAt row)) ts)) in
+    let t = result-at (overloadsOf (rowAt row)) (all-results row (row-in row (q .0) (q .1))) (q .0) (q .1) in
     (ap formed (q .2) ∙ T-true (formed (q .0 .result)) (both-left _ _ t), subst (λ (r : Ty). T (not (isRuntime r))) (sym (q .2)) (both-right (formed (q .0 .result)) _ t))

@@ -12,7 +12,7 @@ use Rattle.conv.specs.Rank.{pick, both, none, rankOf, Shape, formOf, columnsOf,
 use Rattle.conv.specs.Rank.Shape.{one, vector, matrix, other}
 use Rattle.overload.specs.Overload.{or, fits, Judged}
 use Rattle.overload.specs.Overload.Judged.{gives, noneFits, nonePreferred}
-use Rattle.overload.specs.Rows.{Size, size, Form, Component, Pattern, Wrap, Family, formAt, patternTy, float, integer, numeric, signed, bits, only, N, rows}
+use Rattle.overload.specs.Rows.{Size, size, Form, Component, Pattern, Wrap, Family, formAt, patternTy, float, integer, numeric, signed, bits, only, N, Row, rows, rowAt}
 use Rattle.overload.specs.Rows.Form.{sized, single, vecC, vecR, left, right, turned, square}
 use Rattle.overload.specs.Rows.Component.{ofT, just}
 use Rattle.overload.specs.Rows.Wrap.{bare, inFrexp, inModf}
@@ -89,9 +89,9 @@ askedOf form n = shapeNo (formAt (formOfNo form) (sizeOfNo n))
 
 -- FAMILIES: those of all rows, one after the other
 
-unfoldable pub joined : List (List Family) → List Family
+unfoldable pub joined : List Row → List Family
 joined [] = []
-joined (r ∷ rs) = r ++ joined rs
+joined (r ∷ rs) = r .families ++ joined rs
 
 unfoldable pub families : List Family
 families = joined rows
@@ -127,7 +127,7 @@ findFamily forms (f ∷ fs) i = pick (anySize (λ z. eqb (formsAt f z) forms) (f
 
 -- which family of a row has first and last parameters of these forms
 unfoldable pub familyAt : ℕ → ℕ → ℕ
-familyAt row forms = findFamily forms (getD rows row []) (startOf row)
+familyAt row forms = findFamily forms (rowAt row .families) (startOf row)
 
 -- by which operands a family's size is found: 0 the first, 1 the last, 2 both, as the factors of a product, from 3 on none: the size is that number less 3
 unfoldable pub pivotNo : Family → ℕ

@@ -2,13 +2,13 @@
 use Prim.Native.Nat.{ℕ}
 use mathlib.Core.Path.{_≡_}
 use mathlib.Core.Logic.{_≢_}
-use mathlib.Core.Bool.{not, cond}
-use lib.Dec.{eqb}
+use mathlib.Core.Bool.{cond}
+use lib.Dec.{T, eqb}
 use mathlib.Core.List.{List, [], _∷_, _++_, map}
 use lib.ListN.{getD}
-use Rattle.conv.specs.Types.{Ty, bool, abstractInt, abstractFloat, i32, u32, f32, f16, handle}
-use Rattle.conv.specs.Types.Ty.{ptr, ref, frexp, modf}
-use Rattle.conv.specs.Rank.{both, Shape, columnsOf, rowsOf, made, firstOf, secondOf, elementOf, isReference, isPointer}
+use Rattle.conv.specs.Types.{Ty, bool, abstractInt, abstractFloat, i32, u32, f32, f16, handle, formed}
+use Rattle.conv.specs.Types.Ty.{scalar, vec, mat, array, runtime, atomic, ptr, ref, frexp, modf}
+use Rattle.conv.specs.Rank.{Shape, columnsOf, rowsOf, made}
 use Rattle.conv.specs.Rank.Shape.{one, vector, matrix}
 use Rattle.overload.specs.Overload.{Overload, listed, Judged, judge}
 use Rattle.overload.specs.Overload.Judged.{gives, noneFits}
@@ -181,7 +181,32 @@ family set sizes params result = record { set = set; sizes = sizes; params = par
 abbrev pub resultType : Wrap → Family
 resultType w = record { set = float; sizes = wides; params = N ∷ []; wrap = w; result = N }
 
+-- A ROW: the families of an operator, or of builtins that share them, and the number by which the code knows it. Its families stand in the order of document 01's row
+
+pub record Row : Type 0 where
+  pub number : ℕ
+  pub families : List Family
+
+abbrev pub row : ℕ → List Family → Row
+row k fs = record { number = k; families = fs }
+
 -- THE ROWS of operators
+
+-- `!`
+abbrev pub negatingBool : Row
+negatingBool = row 0 (family (only bool) wides (N ∷ []) N ∷ [])
+
+-- unary `-`; sign
+abbrev pub negating : Row
+negating = row 1 (family signed wides (N ∷ []) N ∷ [])
+
+-- `~`
+abbrev pub complementing : Row
+complementing = row 2 (family integer wides (N ∷ []) N ∷ [])
+
+-- `||` `&&`
+abbrev pub logical : Row
+logical = row 3 (family (only bool) scalars (N ∷ N ∷ []) N ∷ [])
 
 -- `+` `-` `*` `/` `%`: two equal wide numeric types; a vector and its component, either side first
 abbrev pub arithmetic : List Family
@@ -192,148 +217,242 @@ arithmetic =
     ∷ []
 
 -- `+` `-`: also equal matrices
-abbrev pub additive : List Family
-additive = arithmetic ++ (family float matrices (N ∷ N ∷ []) N ∷ [])
+abbrev pub additive : Row
+additive = row 4 (arithmetic ++ (family float matrices (N ∷ N ∷ []) N ∷ []))
 
 -- `*`: matrix and component either way; matCxR by vecC gives vecR; vecR by matCxR gives vecC; matKxR by matCxK gives matCxR
-abbrev pub multiplicative : List Family
+abbrev pub multiplicative : Row
 multiplicative =
-    arithmetic
+    row 5
+    (arithmetic
     ++ (family float matrices (N ∷ E ∷ []) N
     ∷ family float matrices (E ∷ N ∷ []) N
     ∷ family float matrices (N ∷ vecOfC ∷ []) vecOfR
     ∷ family float matrices (vecOfR ∷ N ∷ []) vecOfC
     ∷ family float products (matKR ∷ matCK ∷ []) N
+    ∷ []))
+
+-- `/` `%`
+abbrev pub dividing : Row
+dividing = row 6 arithmetic
+
+-- `==` `!=`
+abbrev pub equality : Row
+equality = row 7 (family (bool ∷ numeric) wides (N ∷ N ∷ []) (Nof bool) ∷ [])
+
+-- `<` `<=` `>` `>=`
+abbrev pub ordering : Row
+ordering = row 8 (family numeric wides (N ∷ N ∷ []) (Nof bool) ∷ [])
+
+-- `|` `&`
+abbrev pub bitwise : Row
+bitwise = row 9 (family (bool ∷ integer) wides (N ∷ N ∷ []) N ∷ [])
+
+-- `^`
+abbrev pub exclusive : Row
+exclusive = row 10 (family integer wides (N ∷ N ∷ []) N ∷ [])
+
+-- `<<` `>>`
+abbrev pub shifting : Row
+shifting = row 11 (family integer wides (N ∷ Nof u32 ∷ []) N ∷ [])
+
+-- THE ROWS of builtins: which name has which row stands in `names/specs/Names.antt`
+
+abbrev pub oneFloat : Row
+oneFloat = row 12 (family float wides (N ∷ []) N ∷ [])
+
+abbrev pub twoFloats : Row
+twoFloats = row 13 (family float wides (N ∷ N ∷ []) N ∷ [])
+
+abbrev pub threeFloats : Row
+threeFloats = row 14 (family float wides (N ∷ N ∷ N ∷ []) N ∷ [])
+
+abbrev pub mixing : Row
+mixing = row 15 (family float wides (N ∷ N ∷ N ∷ []) N ∷ family float vectors (N ∷ N ∷ E ∷ []) N ∷ [])
+
+abbrev pub oneNumeric : Row
+oneNumeric = row 16 (family numeric wides (N ∷ []) N ∷ [])
+
+abbrev pub twoNumerics : Row
+twoNumerics = row 17 (family numeric wides (N ∷ N ∷ []) N ∷ [])
+
+abbrev pub threeNumerics : Row
+threeNumerics = row 18 (family numeric wides (N ∷ N ∷ N ∷ []) N ∷ [])
+
+abbrev pub oneBits : Row
+oneBits = row 19 (family bits wides (N ∷ []) N ∷ [])
+
+abbrev pub extracting : Row
+extracting = row 20 (family bits wides (N ∷ Eof u32 ∷ Eof u32 ∷ []) N ∷ [])
+
+abbrev pub inserting : Row
+inserting = row 21 (family bits wides (N ∷ N ∷ Eof u32 ∷ Eof u32 ∷ []) N ∷ [])
+
+abbrev pub measuring : Row
+measuring = row 22 (family float wides (N ∷ []) E ∷ [])
+
+abbrev pub distancing : Row
+distancing = row 23 (family float wides (N ∷ N ∷ []) E ∷ [])
+
+abbrev pub dotting : Row
+dotting = row 24 (family numeric vectors (N ∷ N ∷ []) E ∷ [])
+
+abbrev pub oneFloatVector : Row
+oneFloatVector = row 25 (family float vectors (N ∷ []) N ∷ [])
+
+abbrev pub twoFloatVectors : Row
+twoFloatVectors = row 26 (family float vectors (N ∷ N ∷ []) N ∷ [])
+
+abbrev pub threeFloatVectors : Row
+threeFloatVectors = row 27 (family float vectors (N ∷ N ∷ N ∷ []) N ∷ [])
+
+abbrev pub refracting : Row
+refracting = row 28 (family float vectors (N ∷ N ∷ E ∷ []) N ∷ [])
+
+abbrev pub crossing : Row
+crossing = row 29 (family float (width 3) (N ∷ N ∷ []) N ∷ [])
+
+abbrev pub squareMatrix : Row
+squareMatrix = row 30 (family float squares (matNN ∷ []) E ∷ [])
+
+abbrev pub transposing : Row
+transposing = row 31 (family float matrices (N ∷ []) transposed ∷ [])
+
+abbrev pub oneF32 : Row
+oneF32 = row 32 (family (only f32) wides (N ∷ []) N ∷ [])
+
+abbrev pub frexpOf : Row
+frexpOf = row 33 (resultType inFrexp ∷ [])
+
+abbrev pub modfOf : Row
+modfOf = row 34 (resultType inModf ∷ [])
+
+abbrev pub packing4F32 : Row
+packing4F32 = row 35 (family (only f32) (width 4) (N ∷ []) (Eof u32) ∷ [])
+
+abbrev pub packing4I32 : Row
+packing4I32 = row 36 (family (only i32) (width 4) (N ∷ []) (Eof u32) ∷ [])
+
+abbrev pub packing4U32 : Row
+packing4U32 = row 37 (family (only u32) (width 4) (N ∷ []) (Eof u32) ∷ [])
+
+abbrev pub packing2F32 : Row
+packing2F32 = row 38 (family (only f32) (width 2) (N ∷ []) (Eof u32) ∷ [])
+
+abbrev pub unpacking4F32 : Row
+unpacking4F32 = row 39 (family (only u32) (width 4) (E ∷ []) (Nof f32) ∷ [])
+
+abbrev pub unpacking4I32 : Row
+unpacking4I32 = row 40 (family (only u32) (width 4) (E ∷ []) (Nof i32) ∷ [])
+
+abbrev pub unpacking4U32 : Row
+unpacking4U32 = row 41 (family (only u32) (width 4) (E ∷ []) (Nof u32) ∷ [])
+
+abbrev pub unpacking2F32 : Row
+unpacking2F32 = row 42 (family (only u32) (width 2) (E ∷ []) (Nof f32) ∷ [])
+
+abbrev pub packedDotU32 : Row
+packedDotU32 = row 43 (family (only u32) scalars (N ∷ N ∷ []) (Eof u32) ∷ [])
+
+abbrev pub packedDotI32 : Row
+packedDotI32 = row 44 (family (only u32) scalars (N ∷ N ∷ []) (Eof i32) ∷ [])
+
+abbrev pub oneBool : Row
+oneBool = row 45 (family (only bool) wides (N ∷ []) (Eof bool) ∷ [])
+
+abbrev pub selecting : Row
+selecting =
+    row 46
+    (family (bool ∷ numeric) wides (N ∷ N ∷ Eof bool ∷ []) N
+    ∷ family (bool ∷ numeric) vectors (N ∷ N ∷ Nof bool ∷ []) N
     ∷ [])
 
-unfoldable pub operators : List (List Family)
-operators =
-    -- 0 `!`
-    (family (only bool) wides (N ∷ []) N ∷ [])
-    -- 1 `-`, and the builtin sign
-    ∷ (family signed wides (N ∷ []) N ∷ [])
-    -- 2 `~`
-    ∷ (family integer wides (N ∷ []) N ∷ [])
-    -- 3 `||` `&&`
-    ∷ (family (only bool) scalars (N ∷ N ∷ []) N ∷ [])
-    -- 4 `+` `-`
-    ∷ additive
-    -- 5 `*`
-    ∷ multiplicative
-    -- 6 `/` `%`
-    ∷ arithmetic
-    -- 7 `==` `!=`
-    ∷ (family (bool ∷ numeric) wides (N ∷ N ∷ []) (Nof bool) ∷ [])
-    -- 8 `<` `<=` `>` `>=`
-    ∷ (family numeric wides (N ∷ N ∷ []) (Nof bool) ∷ [])
-    -- 9 `|` `&`
-    ∷ (family (bool ∷ integer) wides (N ∷ N ∷ []) N ∷ [])
-    -- 10 `^`
-    ∷ (family integer wides (N ∷ N ∷ []) N ∷ [])
-    -- 11 `<<` `>>`
-    ∷ (family integer wides (N ∷ Nof u32 ∷ []) N ∷ [])
+-- all rows, by their numbers
+unfoldable pub rows : List Row
+rows =
+    negatingBool ∷ negating ∷ complementing ∷ logical ∷ additive ∷ multiplicative ∷ dividing ∷ equality ∷ ordering ∷ bitwise ∷ exclusive ∷ shifting
+    ∷ oneFloat ∷ twoFloats ∷ threeFloats ∷ mixing ∷ oneNumeric ∷ twoNumerics ∷ threeNumerics ∷ oneBits ∷ extracting ∷ inserting
+    ∷ measuring ∷ distancing ∷ dotting ∷ oneFloatVector ∷ twoFloatVectors ∷ threeFloatVectors ∷ refracting ∷ crossing ∷ squareMatrix ∷ transposing
+    ∷ oneF32 ∷ frexpOf ∷ modfOf ∷ packing4F32 ∷ packing4I32 ∷ packing4U32 ∷ packing2F32 ∷ unpacking4F32 ∷ unpacking4I32 ∷ unpacking4U32 ∷ unpacking2F32
+    ∷ packedDotU32 ∷ packedDotI32 ∷ oneBool ∷ selecting
     ∷ []
 
--- THE ROWS of builtins
+-- the row of a number; a number that no row has has no overload
+abbrev pub noRow : Row
+noRow = row 255 []
 
-unfoldable pub builtins : List (List Family)
-builtins =
-    -- 12 acos acosh asin asinh atan atanh ceil cos cosh degrees exp exp2 floor fract inverseSqrt log log2 radians round saturate sin sinh sqrt tan tanh trunc
-    (family float wides (N ∷ []) N ∷ [])
-    -- 13 atan2 pow step
-    ∷ (family float wides (N ∷ N ∷ []) N ∷ [])
-    -- 14 fma smoothstep
-    ∷ (family float wides (N ∷ N ∷ N ∷ []) N ∷ [])
-    -- 15 mix
-    ∷ (family float wides (N ∷ N ∷ N ∷ []) N ∷ family float vectors (N ∷ N ∷ E ∷ []) N ∷ [])
-    -- 16 abs
-    ∷ (family numeric wides (N ∷ []) N ∷ [])
-    -- 17 max min
-    ∷ (family numeric wides (N ∷ N ∷ []) N ∷ [])
-    -- 18 clamp
-    ∷ (family numeric wides (N ∷ N ∷ N ∷ []) N ∷ [])
-    -- 19 countLeadingZeros countOneBits countTrailingZeros firstLeadingBit firstTrailingBit reverseBits
-    ∷ (family bits wides (N ∷ []) N ∷ [])
-    -- 20 extractBits
-    ∷ (family bits wides (N ∷ Eof u32 ∷ Eof u32 ∷ []) N ∷ [])
-    -- 21 insertBits
-    ∷ (family bits wides (N ∷ N ∷ Eof u32 ∷ Eof u32 ∷ []) N ∷ [])
-    -- 22 length
-    ∷ (family float wides (N ∷ []) E ∷ [])
-    -- 23 distance
-    ∷ (family float wides (N ∷ N ∷ []) E ∷ [])
-    -- 24 dot
-    ∷ (family numeric vectors (N ∷ N ∷ []) E ∷ [])
-    -- 25 normalize
-    ∷ (family float vectors (N ∷ []) N ∷ [])
-    -- 26 reflect
-    ∷ (family float vectors (N ∷ N ∷ []) N ∷ [])
-    -- 27 faceForward
-    ∷ (family float vectors (N ∷ N ∷ N ∷ []) N ∷ [])
-    -- 28 refract
-    ∷ (family float vectors (N ∷ N ∷ E ∷ []) N ∷ [])
-    -- 29 cross
-    ∷ (family float (width 3) (N ∷ N ∷ []) N ∷ [])
-    -- 30 determinant
-    ∷ (family float squares (matNN ∷ []) E ∷ [])
-    -- 31 transpose
-    ∷ (family float matrices (N ∷ []) transposed ∷ [])
-    -- 32 dpdx dpdy fwidth, each also with Coarse and Fine; quantizeToF16
-    ∷ (family (only f32) wides (N ∷ []) N ∷ [])
-    -- 33 frexp, 34 modf
-    ∷ (resultType inFrexp ∷ [])
-    ∷ (resultType inModf ∷ [])
-    -- 35 pack4x8snorm pack4x8unorm
-    ∷ (family (only f32) (width 4) (N ∷ []) (Eof u32) ∷ [])
-    -- 36 pack4xI8 pack4xI8Clamp
-    ∷ (family (only i32) (width 4) (N ∷ []) (Eof u32) ∷ [])
-    -- 37 pack4xU8 pack4xU8Clamp
-    ∷ (family (only u32) (width 4) (N ∷ []) (Eof u32) ∷ [])
-    -- 38 pack2x16snorm pack2x16unorm pack2x16float
-    ∷ (family (only f32) (width 2) (N ∷ []) (Eof u32) ∷ [])
-    -- 39 unpack4x8snorm unpack4x8unorm
-    ∷ (family (only u32) (width 4) (E ∷ []) (Nof f32) ∷ [])
-    -- 40 unpack4xI8
-    ∷ (family (only u32) (width 4) (E ∷ []) (Nof i32) ∷ [])
-    -- 41 unpack4xU8
-    ∷ (family (only u32) (width 4) (E ∷ []) (Nof u32) ∷ [])
-    -- 42 unpack2x16snorm unpack2x16unorm unpack2x16float
-    ∷ (family (only u32) (width 2) (E ∷ []) (Nof f32) ∷ [])
-    -- 43 dot4U8Packed
-    ∷ (family (only u32) scalars (N ∷ N ∷ []) (Eof u32) ∷ [])
-    -- 44 dot4I8Packed
-    ∷ (family (only u32) scalars (N ∷ N ∷ []) (Eof i32) ∷ [])
-    -- 45 all any
-    ∷ (family (only bool) wides (N ∷ []) (Eof bool) ∷ [])
-    -- 46 select
-    ∷ (family (bool ∷ numeric) wides (N ∷ N ∷ Eof bool ∷ []) N ∷ family (bool ∷ numeric) vectors (N ∷ N ∷ Nof bool ∷ []) N ∷ [])
-    ∷ []
+unfoldable pub rowAt : ℕ → Row
+rowAt k = getD rows k noRow
 
-abbrev pub rows : List (List Family)
-rows = operators ++ builtins
+-- the overloads of a row
+abbrev pub overloadsOf : Row → List Overload
+overloadsOf r = ofFamilies (r .families)
 
--- the overloads of a row; a number that no row has has none
-abbrev pub overloadsOf : ℕ → List Overload
-overloadsOf row = ofFamilies (getD rows row [])
-
-abbrev pub ofRow : ℕ → Overload → Type 0
-ofRow row = listed (overloadsOf row)
+abbrev pub ofRow : Row → Overload → Type 0
+ofRow r = listed (overloadsOf r)
 
 -- UNARY `&` AND `*`: described, not listed. One overload for each reference type, not in space handle, to the pointer; one for each pointer type, to the reference
 
 abbrev pub addressOf : Overload → Type 0
-addressOf o = (space access : ℕ) × (t : Ty) × (space ≢ handle) × (o ≡ record { params = ref space access t ∷ []; result = ptr space access t })
+addressOf o =
+    (space access : ℕ) × (t : Ty) × (space ≢ handle) × T (formed (ref space access t)) × (o ≡ record { params = ref space access t ∷ []; result = ptr space access t })
 
-abbrev pub indirection : Overload → Type 0
-indirection o = (space access : ℕ) × (t : Ty) × (o ≡ record { params = ptr space access t ∷ []; result = ref space access t })
+abbrev pub indirectionOf : Overload → Type 0
+indirectionOf o =
+    (space access : ℕ) × (t : Ty) × T (formed (ptr space access t)) × (o ≡ record { params = ptr space access t ∷ []; result = ref space access t })
+
+-- A RULING says which overloads a call has: those of a row, or those that a rule describes
+pub data Ruling : Type 0 where
+  byRow : Row → Ruling
+  address indirection : Ruling
+
+unfoldable pub overloadsBy : Ruling → Overload → Type 0
+overloadsBy (byRow r) = ofRow r
+overloadsBy address = addressOf
+overloadsBy indirection = indirectionOf
 
 -- HOW A CALL IS JUDGED: a listed row by its overloads; unary `&` and `*` by their rule
 
-abbrev pub judgeRow : ℕ → List Ty → Judged
-judgeRow row ts = judge (overloadsOf row) ts
+abbrev pub judgeRow : Row → List Ty → Judged
+judgeRow r ts = judge (overloadsOf r) ts
 
 unfoldable pub judgeAddress : Ty → Judged
-judgeAddress t = cond (both (isReference t) (not (eqb (firstOf t) handle))) (gives (ptr (firstOf t) (secondOf t) (elementOf t))) noneFits
+judgeAddress (ref space access t) = cond (eqb space handle) noneFits (gives (ptr space access t))
+judgeAddress (ptr space access t) = noneFits
+judgeAddress (scalar s) = noneFits
+judgeAddress (vec n s) = noneFits
+judgeAddress (mat c r s) = noneFits
+judgeAddress (array k t) = noneFits
+judgeAddress (runtime t) = noneFits
+judgeAddress (atomic s) = noneFits
+judgeAddress (frexp t) = noneFits
+judgeAddress (modf t) = noneFits
 
 unfoldable pub judgeIndirection : Ty → Judged
-judgeIndirection t = cond (isPointer t) (gives (ref (firstOf t) (secondOf t) (elementOf t))) noneFits
+judgeIndirection (ptr space access t) = gives (ref space access t)
+judgeIndirection (ref space access t) = noneFits
+judgeIndirection (scalar s) = noneFits
+judgeIndirection (vec n s) = noneFits
+judgeIndirection (mat c r s) = noneFits
+judgeIndirection (array k t) = noneFits
+judgeIndirection (runtime t) = noneFits
+judgeIndirection (atomic s) = noneFits
+judgeIndirection (frexp t) = noneFits
+judgeIndirection (modf t) = noneFits
+
+-- a rule for one operand
+unfoldable pub alone : (Ty → Judged) → List Ty → Judged
+alone j [] = noneFits
+alone j (t ∷ []) = j t
+alone j (t ∷ u ∷ us) = noneFits
+
+unfoldable pub judgeBy : Ruling → List Ty → Judged
+judgeBy (byRow r) ts = judgeRow r ts
+judgeBy address ts = alone judgeAddress ts
+judgeBy indirection ts = alone judgeIndirection ts
+
+-- the row of a ruling is one of `rows`, and stands there at its number
+unfoldable pub Known : Ruling → Type 0
+Known (byRow r) = rowAt (r .number) ≡ r
+Known address = Unit {0}
+Known indirection = Unit {0}

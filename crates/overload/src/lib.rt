@@ -12,7 +12,7 @@ ghost use lib.ListN.{length};
 ghost use lib.Dec.{eqb};
 ghost use Rattle.conv.specs.Rank.{pick, both, none, converts, formOf, accepts};
 ghost use Rattle.overload.specs.Overload.{Resolved};
-ghost use Rattle.overload.specs.Rows.{ofRow, patternTy, wrapped, judgeRow};
+ghost use Rattle.overload.specs.Rows.{ofRow, patternTy, wrapped, judgeRow, rowAt};
 ghost use Rattle.overload.specs.Code.{shapeOfNo, operand, sizeOfNo, patternOfNo, askedOf, familyOf, wordOf, sizeAt, fitsAt, formsOf, familyAt, orNone, Word, Starts, outOf, judgedOf};
 
 // How many rows there are.
@@ -199,7 +199,7 @@ fn out_of(f: u8, w: u64, n: u8, starts: u64, t: u8) -> Out
 // The judgment of a row whose one family for the operands' forms is f, or 63 where it has none.
 fn resolve_family(row: usize, f: u8, xs: &[u8]) -> Resolution
     requires { ⌜ (row < 47) × (1 ≤ length (now xs)) × (formsOf (now xs) < 9) × (f ≡ orNone 63 (familyAt row (formsOf (now xs)))) ⌝ }
-    ensures { λ r. ⌜ Resolved (ofRow row) (map operand (now (xs .entry))) (judgedOf r) ⌝ }
+    ensures { λ r. ⌜ Resolved (ofRow (rowAt row)) (map operand (now (xs .entry))) (judgedOf r) ⌝ }
 {
     let w = tables::family_word(f);
     let count = xs.len();
@@ -233,7 +233,7 @@ fn wide(x: u8) -> usize
 
 // The judgment of a row at operands.
 pub fn resolve(row: usize, xs: &[u8]) -> Resolution
-    ensures { λ r. ⌜ judgedOf r ≡ judgeRow row (map operand (now (xs .entry))) ⌝ }
+    ensures { λ r. ⌜ judgedOf r ≡ judgeRow (rowAt row) (map operand (now (xs .entry))) ⌝ }
 {
     if ROWS <= row {
         return Resolution::NoneFits;

@@ -10,10 +10,10 @@ use borrow.Author.Tests.{le-leb}
 use Rattle.conv.specs.Types.{Ty, formed}
 use Rattle.overload.specs.Overload.{Overload, fits, Preferred, Judged, Resolved}
 use Rattle.overload.specs.Overload.Judged.{gives, noneFits, nonePreferred}
-use Rattle.overload.specs.Rows.{overloadsOf, ofRow, judgeRow}
-use Rattle.overload.proofs.Operands.{allFormed, never-thirteen}
-use Rattle.overload.proofs.Judge.{judge-resolved}
-use Rattle.overload.proofs.Results.{gives-formed}
+use Rattle.overload.specs.Rows.{Ruling, overloadsBy, judgeBy, Known}
+use Rattle.overload.proofs.Operands.{allFormed}
+use Rattle.overload.proofs.Preference.{one-preferred}
+use Rattle.overload.proofs.Rulings.{ruling-resolved, ruling-never, ruling-formed}
 use Rattle.answer.specs.Answer.{accept, reasonNo}
 use Rattle.table.specs.Table.{Sound}
 use Rattle.table.specs.Denote.{typeAt}
@@ -27,7 +27,9 @@ use Rattle.answer.specs.declared.Answer.the-variants.{Value, Refused}
 use Rattle.table.specs.Kept.{Kept}
 use Rattle.table.proofs.Demand1.{entering-stands, entering-refused}
 use Rattle.table.proofs.Keeping.{kept-refused, kept-by, kept-entering}
-use Rattle.ruled.specs.Call.{anyReference, judgedOutcome, ruledOutcome}
+use Rattle.ruled.specs.Call.{judgedOutcome, offends, ruledOutcome}
+use Rattle.ruled.specs.Demand3.{Accepts, Room, HasRoom, Demand3}
+use Rattle.ruled.proofs.Loaded.{ruled-judged}
 
 impossible : {P : Type 0} → _≡_ {A = ℕ} 0 1 → P
 impossible e = absurd (omega arith)
@@ -41,19 +43,13 @@ module _ (w : List ℕ) (n : ℕ) (s : Sound w n) where
   kept-judged place noneFits f = kept-refused w n _ place
   kept-judged place nonePreferred f = kept-refused w n _ place
 
-  pub kept-ruled : (place row : ℕ) (ts : List Ty) → Kept w n (ruledOutcome place w n row ts)
+  pub kept-ruled : (place : ℕ) (r : Ruling) (ts : List Ty) → ((R : Ty) → judgeBy r ts ≡ gives R → formed R ≡ true) → Kept w n (ruledOutcome place w n r ts)
   unfolding ruledOutcome
-  kept-ruled place row ts =
-      kept-by w n (anyReference ts) _ _ (λ e. kept-refused w n _ place) (λ e. kept-judged place (judgeRow row ts) (λ R q. gives-formed row ts R q .0))
+  kept-ruled place r ts f = kept-by w n (offends r ts) _ _ (λ e. kept-refused w n _ place) (λ e. kept-judged place (judgeBy r ts) f)
 
--- the judgment of a row, by demand 3
-
-unfold-gives : (row : ℕ) (ts : List Ty) (R : Ty) → Resolved (ofRow row) ts (gives R) → (o : Overload) × Preferred (ofRow row) ts o × (R ≡ o .result)
+unfold-gives : (set : Overload → Type 0) (ts : List Ty) (R : Ty) → Resolved set ts (gives R) → (o : Overload) × Preferred set ts o × (R ≡ o .result)
 unfolding Resolved
-unfold-gives row ts R q = q
-
-preferred-of : (row : ℕ) (ts : List Ty) (R : Ty) → judgeRow row ts ≡ gives R → (o : Overload) × Preferred (ofRow row) ts o × (R ≡ o .result)
-preferred-of row ts R e = unfold-gives row ts R (subst (Resolved (ofRow row) ts) e (judge-resolved (overloadsOf row) ts))
+unfold-gives set ts R q = q
 
 -- a judgment of any set of overloads, of which it is known that some overload is preferred where one fits
 
@@ -81,11 +77,7 @@ module _ (place : ℕ) (w : List ℕ) (n : ℕ) (s : Sound w n) where
   judged-type noneFits f t m e = impossible (cc)
   judged-type nonePreferred f t m e = impossible (cc)
 
-  -- room for R: as many entries are free as it lacks
-  abbrev pub Room : Ty → Type 0
-  Room R = placed w n R .used - n ≤ free w n
-
-  pub room-answers : (R : Ty) → Room R → entering place w n R .answer ≡ accept (placed w n R .number) (placed w n R .used)
+  room-answers : (R : Ty) → Room w n R → entering place w n R .answer ≡ accept (placed w n R .number) (placed w n R .used)
   unfolding entering
   room-answers R h = rw (le-leb (placed w n R .used - n) (free w n) h)
 
@@ -97,41 +89,51 @@ module _ (place : ℕ) (w : List ℕ) (n : ℕ) (s : Sound w n) where
   unfolding judgedOutcome
   judged-none = refl
 
-  -- an overload fits, and there is room for the result: accepted; none fits: refused with 8; and 13 is never given
+  -- an overload fits, and there is room for the result: accepted; none fits: refused with 8
   module _ (set : Overload → Type 0) (ts : List Ty) (never : Resolved set ts nonePreferred → ⊥) (j : Judged) (resolved : Resolved set ts j) where
-    pub judged-fits : (p : Overload) → set p → T (fits (p .params) ts) → ((R : Ty) → j ≡ gives R → Room R) → (t : ℕ) × (m : ℕ) × (judgedOutcome place w n j .answer ≡ accept t m)
+    judged-fits : (p : Overload) → set p → T (fits (p .params) ts) → ((R : Ty) → j ≡ gives R → Room w n R) → Accepts (judgedOutcome place w n j)
     judged-fits p k h room =
         let g = fitting-gives set ts never j resolved p k h in
-        (placed w n (g .0) .number, placed w n (g .0) .used, ap (λ (o : Outcome). o .answer) (ap (judgedOutcome place w n) (g .1) ∙ judged-gives (g .0)) ∙ room-answers (g .0) (room (g .0) (g .1)))
+        (record { 0 = placed w n (g .0) .number }, placed w n (g .0) .used, ap (λ (o : Outcome). o .answer) (ap (judgedOutcome place w n) (g .1) ∙ judged-gives (g .0)) ∙ room-answers (g .0) (room (g .0) (g .1)))
 
     pub judged-nothing : ((p : Overload) → set p → T (fits (p .params) ts) → ⊥) → judgedOutcome place w n j ≡ turnedDown NoOverload place w n
     judged-nothing h = ap (judgedOutcome place w n) (nothing-gives set ts never j resolved h) ∙ judged-none
 
-  -- a ruled call on loaded operands, none of them a reference
+    -- DEMAND 3, where what the judgment gives is a type that there is
+    module _ (formed-gives : (R : Ty) → j ≡ gives R → formed R ≡ true) where
+      preferred-by : (R : Ty) → j ≡ gives R → (o : Overload) × Preferred set ts o × (R ≡ o .result)
+      preferred-by R e = unfold-gives set ts R (subst (Resolved set ts) e resolved)
 
-  module _ (row : ℕ) (ts : List Ty) (f : allFormed ts ≡ true) (loaded : anyReference ts ≡ false) where
-    ruled-is : ruledOutcome place w n row ts ≡ judgedOutcome place w n (judgeRow row ts)
-    unfolding ruledOutcome
-    ruled-is = rw loaded
+      result-of : (t : TypeNo) (m : ℕ) → judgedOutcome place w n j .answer ≡ Value t m
+          → (p : Overload) × Preferred set ts p × (typeAt (judgedOutcome place w n j .words) (t .0) ≡ p .result)
+      result-of t m e =
+          let q = judged-type j formed-gives t m e in
+          let p = preferred-by (q .0) (q .1) in
+          (p .0, p .1, q .2 ∙ p .2)
 
-    -- accepted: by the preferred overload, with its result
-    pub ruled-accepted : (t : TypeNo) (m : ℕ) → ruledOutcome place w n row ts .answer ≡ Value t m
-        → (o : Overload) × Preferred (ofRow row) ts o × (typeAt (ruledOutcome place w n row ts .words) (t .0) ≡ o .result)
-    ruled-accepted t m e =
-        let q = judged-type (judgeRow row ts) (λ R q. gives-formed row ts R q .0) t m (sym (ap (λ (o : Outcome). o .answer) ruled-is) ∙ e) in
-        let r = preferred-of row ts (q .0) (q .1) in
-        (r .0, r .1, ap (λ (o : Outcome). typeAt (o .words) (t .0)) ruled-is ∙ q .2 ∙ r .2)
+      pub demand-3 : HasRoom set w n ts → Demand3 set ts (judgedOutcome place w n j)
+      demand-3 room =
+          record {
+            accepted = λ p k h. judged-fits p k h (λ R e. let q = preferred-by R e in subst (Room w n) (sym (q .2)) (room (q .0) (q .1)));
+            fitting = λ a. let q = result-of (a .0) (a .1) (a .2) in (q .0, q .1 .among, q .1 .fitting);
+            result = result-of;
+            alone = one-preferred set ts;
+          }
 
-    -- an overload fits, and there is room for the results of the row: accepted
-    pub ruled-fits : (p : Overload) → ofRow row p → T (fits (p .params) ts) → ((R : Ty) → judgeRow row ts ≡ gives R → Room R)
-        → (t : ℕ) × (m : ℕ) × (ruledOutcome place w n row ts .answer ≡ accept t m)
-    ruled-fits p k h room =
-        let q = judged-fits (ofRow row) ts (never-thirteen ts f row) (judgeRow row ts) (judge-resolved (overloadsOf row) ts) p k h room in
-        (q .0, q .1, ap (λ (o : Outcome). o .answer) ruled-is ∙ q .2)
+  -- A RULED CALL on operands that are types, none of them offered where it may not be
+
+  module _ (r : Ruling) (known : Known r) (ts : List Ty) (f : allFormed ts ≡ true) (loaded : offends r ts ≡ false) where
+    ruled-is : judgedOutcome place w n (judgeBy r ts) ≡ ruledOutcome place w n r ts
+    ruled-is = ruled-judged place w n r ts loaded
+
+    pub ruled-demand-3 : HasRoom (overloadsBy r) w n ts → Demand3 (overloadsBy r) ts (ruledOutcome place w n r ts)
+    ruled-demand-3 room =
+        subst (Demand3 (overloadsBy r) ts) ruled-is
+        (demand-3 (overloadsBy r) ts (ruling-never ts f r known) (judgeBy r ts) (ruling-resolved ts f r) (ruling-formed ts f r known) room)
 
     -- no overload fits: refused with 8
-    pub ruled-none : ((p : Overload) → ofRow row p → T (fits (p .params) ts) → ⊥) → ruledOutcome place w n row ts ≡ turnedDown NoOverload place w n
-    ruled-none h = ruled-is ∙ judged-nothing (ofRow row) ts (never-thirteen ts f row) (judgeRow row ts) (judge-resolved (overloadsOf row) ts) h
+    pub ruled-none : ((p : Overload) → overloadsBy r p → T (fits (p .params) ts) → ⊥) → ruledOutcome place w n r ts ≡ turnedDown NoOverload place w n
+    ruled-none h = sym ruled-is ∙ judged-nothing (overloadsBy r) ts (ruling-never ts f r known) (judgeBy r ts) (ruling-resolved ts f r) h
 
 -- REFUSAL 13 IS NEVER GIVEN, by what a call that is judged can end in
 
@@ -161,8 +163,8 @@ module _ (w : List ℕ) (n : ℕ) where
     never-judged place set ts never noneFits q f = never-refused NoOverload place (λ e. omega arith)
     never-judged place set ts never nonePreferred q f = absurd (never q)
 
-    pub never-ruled : (place row : ℕ) (ts : List Ty) → allFormed ts ≡ true → Never13 (ruledOutcome place w n row ts)
+    pub never-ruled : (place : ℕ) (r : Ruling) → Known r → (ts : List Ty) → allFormed ts ≡ true → Never13 (ruledOutcome place w n r ts)
     unfolding ruledOutcome
-    never-ruled place row ts f =
-        never-by (anyReference ts) _ _ (λ e. never-refused Reference place (λ e. omega arith))
-        (λ e. never-judged place (ofRow row) ts (never-thirteen ts f row) (judgeRow row ts) (judge-resolved (overloadsOf row) ts) (λ R q. gives-formed row ts R q .0))
+    never-ruled place r k ts f =
+        never-by (offends r ts) _ _ (λ e. never-refused Reference place (λ e. omega arith))
+        (λ e. never-judged place (overloadsBy r) ts (ruling-never ts f r k) (judgeBy r ts) (ruling-resolved ts f r) (ruling-formed ts f r k))

@@ -10,7 +10,8 @@ use borrow.Author.Tests.{ltb-true, eq-eqb, ne-eqb}
 use Rattle.conv.specs.Types.{Ty, formed, isWidth}
 use Rattle.conv.specs.Types.Ty.{scalar, vec, mat, array, runtime, atomic, ptr, ref, frexp, modf}
 use Rattle.conv.specs.Rank.{shapeOf, tagOf, isReference, isPointer}
-use Rattle.overload.specs.Rows.{judgeRow}
+use Rattle.overload.specs.Rows.{Row, rowAt, Ruling, judgeRow, judgeBy}
+use Rattle.overload.specs.Rows.Ruling.{byRow}
 use Rattle.overload.specs.Code.{operand, codeOf}
 use Rattle.overload.proofs.Operands.{code-scalar, code-vec, code-mat, code-other, between, float-small, and-left, and-right, allFormed, codesOf, judge-types}
 use Rattle.table.specs.Table.{kindRef, kindPtr, entryAt, Sound}
@@ -19,7 +20,7 @@ use Rattle.table.specs.Placing.{turnedDown}
 use Rattle.answer.specs.declared.Reason.the-variants.{Reference}
 use Rattle.table.proofs.FormedLaws.{formed-at}
 use Rattle.table.proofs.TypeLaws.{kind-of}
-use Rattle.ruled.specs.Call.{anyReference, judgedOutcome, ruledOutcome}
+use Rattle.ruled.specs.Call.{offends, judgedOutcome, ruledOutcome}
 
 -- a type's number is a reference's exactly when it is one, and below 128 in any case
 pub code-ref : (t : Ty) → formed t ≡ true → (codeOf t < 99) × (isReference t ≡ eqb (codeOf t) 98)
@@ -86,11 +87,18 @@ module _ (w : List ℕ) (n : ℕ) (s : Sound w n) (t : ℕ) (l : t < n) where
 
 -- A RULED CALL by the numbers of its operands
 
-module _ (place : ℕ) (w : List ℕ) (n row : ℕ) (ts : List Ty) where
-  pub ruled-reference : anyReference ts ≡ true → turnedDown Reference place w n ≡ ruledOutcome place w n row ts
+module _ (place : ℕ) (w : List ℕ) (n : ℕ) (r : Ruling) (ts : List Ty) where
+  pub ruled-reference : offends r ts ≡ true → turnedDown Reference place w n ≡ ruledOutcome place w n r ts
   unfolding ruledOutcome
   ruled-reference h = sym (rw h)
 
-  pub ruled-judged : allFormed ts ≡ true → anyReference ts ≡ false → judgedOutcome place w n (judgeRow row (map operand (codesOf ts))) ≡ ruledOutcome place w n row ts
+  pub ruled-judged : offends r ts ≡ false → judgedOutcome place w n (judgeBy r ts) ≡ ruledOutcome place w n r ts
   unfolding ruledOutcome
-  ruled-judged f h = ap (judgedOutcome place w n) (judge-types ts f row) ∙ sym (rw h)
+  ruled-judged h = sym (rw h)
+
+-- a row, by the number under which the code knows it
+pub row-judged : (place : ℕ) (w : List ℕ) (n k : ℕ) (r : Row) (ts : List Ty) → rowAt k ≡ r → allFormed ts ≡ true → offends (byRow r) ts ≡ false
+    → judgedOutcome place w n (judgeRow (rowAt k) (map operand (codesOf ts))) ≡ ruledOutcome place w n (byRow r) ts
+unfolding judgeBy
+row-judged place w n k r ts e f h =
+    ap (judgedOutcome place w n) (judge-types ts f k ∙ ap (λ (x : Row). judgeRow x ts) e) ∙ ruled-judged place w n (byRow r) ts h

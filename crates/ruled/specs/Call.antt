@@ -1,18 +1,19 @@
 -- A ruled call on loaded operands: how it is judged, and what it then does to the table. Assumes nothing.
 use Prim.Native.Nat.{ℕ}
-use mathlib.Core.Bool.{Bool, false, cond}
+use mathlib.Core.Bool.{Bool, true, false, _&&_, _||_, not, cond}
 use mathlib.Core.List.{List, [], _∷_}
 use Rattle.conv.specs.Types.{Ty}
 use Rattle.conv.specs.Rank.{isReference}
-use Rattle.overload.specs.Overload.{or, Judged}
+use Rattle.overload.specs.Overload.{Judged}
 use Rattle.overload.specs.Overload.Judged.{gives, noneFits, nonePreferred}
-use Rattle.overload.specs.Rows.{judgeRow}
+use Rattle.overload.specs.Rows.{Ruling, judgeBy}
+use Rattle.overload.specs.Rows.Ruling.{byRow, address, indirection}
 use Rattle.table.specs.Placing.{Outcome, turnedDown, entering}
 use Rattle.answer.specs.declared.Reason.the-variants.{Reference, NoOverload, NonePreferred}
 
 unfoldable pub anyReference : List Ty → Bool
 anyReference [] = false
-anyReference (t ∷ ts) = or (isReference t) (anyReference ts)
+anyReference (t ∷ ts) = isReference t || anyReference ts
 
 -- 8 no overload fits; 13 none is preferred; else the result is entered where it is absent, and 9 where room lacks
 unfoldable pub judgedOutcome : ℕ → List ℕ → ℕ → Judged → Outcome
@@ -20,6 +21,15 @@ judgedOutcome place w n (gives R) = entering place w n R
 judgedOutcome place w n noneFits = turnedDown NoOverload place w n
 judgedOutcome place w n nonePreferred = turnedDown NonePreferred place w n
 
--- 3 a reference offered, before all of these
-unfoldable pub ruledOutcome : ℕ → List ℕ → ℕ → ℕ → List Ty → Outcome
-ruledOutcome place w n row ts = cond (anyReference ts) (turnedDown Reference place w n) (judgedOutcome place w n (judgeRow row ts))
+-- 3 "a reference offered, but to unary `&`", before all of these
+unfoldable pub takesReference : Ruling → Bool
+takesReference (byRow r) = false
+takesReference address = true
+takesReference indirection = false
+
+-- no operand that the ruling may not be offered
+abbrev pub offends : Ruling → List Ty → Bool
+offends r ts = not (takesReference r) && anyReference ts
+
+unfoldable pub ruledOutcome : ℕ → List ℕ → ℕ → Ruling → List Ty → Outcome
+ruledOutcome place w n r ts = cond (offends r ts) (turnedDown Reference place w n) (judgedOutcome place w n (judgeBy r ts))

@@ -1,2 +1,3 @@
 pub mod Call
+pub mod Demand3
 pub mod Result

@@ -15,7 +15,7 @@ ghost use mathlib.Core.List.{map};
 ghost use Prim.Native.Nat.{_+_, _-_, _/_, _%_, _<_, _≤_};
 ghost use lib.Dec.{T};
 ghost use Rattle.conv.specs.Types.{formed, isRuntime};
-ghost use Rattle.overload.specs.Rows.{judgeRow};
+ghost use Rattle.overload.specs.Rows.{rowAt, judgeRow};
 ghost use Rattle.overload.specs.Code.{operand, codeOf, outOf};
 ghost use Rattle.table.specs.Table.{Sound};
 ghost use Rattle.table.specs.Denote.{typeAt};
@@ -139,7 +139,7 @@ fn enter_out(words: &mut [u32], n: usize, place: Place, out: Out) -> Answer
 // The answer of a row at operands by their numbers: refusal 8, 13 or 9, or the result's number.
 pub fn judge_codes(words: &mut [u32], n: usize, place: Place, row: usize, codes: &[u8]) -> Answer
     requires { ⌜ Sound (now words) n ⌝ }
-    ensures { λ r. ⌜ Gave (judgedOutcome (place .0) (now (words .entry)) n (judgeRow row (map operand (now (codes .entry))))) r (now (words .exit)) ⌝ }
+    ensures { λ r. ⌜ Gave (judgedOutcome (place .0) (now (words .entry)) n (judgeRow (rowAt row) (map operand (now (codes .entry))))) r (now (words .exit)) ⌝ }
 {
     let j = overload::resolve(row, codes);
     match j {

@@ -9,13 +9,14 @@ use Rattle.conv.specs.Types.{Ty}
 use Rattle.conv.specs.Rank.{isReference}
 use Rattle.overload.specs.Overload.{Judged}
 use Rattle.overload.specs.Overload.Judged.{gives, noneFits, nonePreferred}
-use Rattle.overload.specs.Rows.{judgeRow, judgeAddress, judgeIndirection}
+use Rattle.overload.specs.Rows.{Ruling, judgeBy}
+use Rattle.overload.specs.Rows.Ruling.{byRow}
 use Rattle.names.specs.Names.{Known, ruleOf}
 use Rattle.names.specs.Names.Known.{known, unknown}
 use Rattle.table.specs.Enter.{free}
 use Rattle.table.specs.Placing.{Outcome, placed, entering}
-use Rattle.ruled.specs.Call.{anyReference, judgedOutcome, ruledOutcome}
-use Rattle.ops_ty.specs.Ops.{unaryOps, addressOp, indirectionOp, binaryOps, binaryRow, unaryOutcome, binaryOutcome}
+use Rattle.ruled.specs.Call.{anyReference, judgedOutcome, offends, ruledOutcome}
+use Rattle.ops_ty.specs.Ops.{unaryOps, unaryRuling, binaryOps, binaryRow, unaryOutcome, binaryOutcome}
 use Rattle.call_ty.specs.Calls.{templateRight, operandsOf, Given, givenBy, givenOutcome, byRule, callOutcome}
 use Rattle.call_ty.specs.Calls.Given.{judgment, nothing}
 use Rattle.sheet.specs.Single.{moved}
@@ -36,19 +37,17 @@ module _ (place : ℕ) (w : List ℕ) (n : ℕ) where
   judged-moved noneFits = refl
   judged-moved nonePreferred = refl
 
+  ruled-moved : (r : Ruling) (ts : List Ty) → ruledOutcome place w n r ts ≡ moved place (ruledOutcome 0 w n r ts)
+  unfolding ruledOutcome
+  ruled-moved r ts = either (offends r ts) _ _ _ _ refl (judged-moved (judgeBy r ts))
+
   pub unary-moved : (op : ℕ) (t : Ty) → unaryOutcome place w n op t ≡ moved place (unaryOutcome 0 w n op t)
   unfolding unaryOutcome
-  unary-moved op t =
-      either (ltb op unaryOps) _ _ _ _
-      (either (eqb op addressOp) _ _ _ _ (judged-moved (judgeAddress t))
-      (either (isReference t) _ _ _ _ refl
-      (either (eqb op indirectionOp) _ _ _ _ (judged-moved (judgeIndirection t)) (judged-moved (judgeRow op (t ∷ []))))))
-      refl
+  unary-moved op t = either (ltb op unaryOps) _ _ _ _ (ruled-moved (unaryRuling op) (t ∷ [])) refl
 
   pub binary-moved : (op : ℕ) (t u : Ty) → binaryOutcome place w n op t u ≡ moved place (binaryOutcome 0 w n op t u)
-  unfolding binaryOutcome ruledOutcome
-  binary-moved op t u =
-      either (ltb op binaryOps) _ _ _ _ (either (anyReference (t ∷ u ∷ [])) _ _ _ _ refl (judged-moved (judgeRow (binaryRow op) (t ∷ u ∷ [])))) refl
+  unfolding binaryOutcome
+  binary-moved op t u = either (ltb op binaryOps) _ _ _ _ (ruled-moved (byRow (binaryRow op)) (t ∷ u ∷ [])) refl
 
   given-moved : (g : Given) → givenOutcome place w n g ≡ moved place (givenOutcome 0 w n g)
   unfolding givenOutcome

@@ -10,7 +10,7 @@ use borrow.Author.Tests.{ltb-true, eqb-true}
 use Rattle.conv.specs.Types.{Ty}
 use Rattle.conv.specs.Rank.{both}
 use Rattle.conv.proofs.Finite.{all, below}
-use Rattle.overload.specs.Rows.{operators, builtins}
+use Rattle.overload.specs.Rows.{rows, rowAt}
 use Rattle.names.specs.Names.{Known, ruleOf, overloadRows, ruleBitcast, ruleArrayLength, ruleLdexp}
 use Rattle.names.specs.Names.Known.{known, unknown}
 use Rattle.table.specs.Placing.{Outcome}
@@ -31,7 +31,7 @@ some : ℕ → Bool
 some k = leb 1 (operandsOf k)
 
 computed : T (all 47 some)
-unfolding some operandsOf operandsIn operators builtins both
+unfolding some operandsOf operandsIn rows rowAt both
 computed = tt
 
 wants-none : (k : ℕ) → operandsOf k ≡ 0 → (ts us : List Ty) → givenBy k ts us ≡ nothing

@@ -10,7 +10,8 @@ use Rattle.conv.specs.Types.{Ty}
 use Rattle.conv.specs.Rank.{isReference}
 use Rattle.overload.specs.Overload.{Judged}
 use Rattle.overload.specs.Overload.Judged.{gives, noneFits, nonePreferred}
-use Rattle.overload.specs.Rows.{judgeRow, judgeAddress, judgeIndirection}
+use Rattle.overload.specs.Rows.{Ruling, judgeBy}
+use Rattle.overload.specs.Rows.Ruling.{byRow}
 use Rattle.names.specs.Names.{Known, ruleOf}
 use Rattle.names.specs.Names.Known.{known, unknown}
 use Rattle.table.specs.Table.{soundb}
@@ -19,8 +20,8 @@ use Rattle.table.specs.Enter.{free}
 use Rattle.table.specs.Placing.{Outcome, placed, entering}
 use Rattle.answer.specs.declared.Answer.{Answer}
 use Rattle.answer.specs.declared.Answer.the-variants.{Value, NoValue, Refused}
-use Rattle.ruled.specs.Call.{anyReference, judgedOutcome, ruledOutcome}
-use Rattle.ops_ty.specs.Ops.{unaryOps, addressOp, indirectionOp, binaryOps, binaryRow, unaryOutcome, binaryOutcome, typeUnaryOp, typeBinaryOp}
+use Rattle.ruled.specs.Call.{anyReference, judgedOutcome, offends, ruledOutcome}
+use Rattle.ops_ty.specs.Ops.{unaryOps, unaryRuling, binaryOps, binaryRow, unaryOutcome, binaryOutcome, typeUnaryOp, typeBinaryOp}
 use Rattle.call_ty.specs.Calls.{Given, templateRight, operandsOf, givenBy, givenOutcome, byRule, callOutcome, allUnder, typeBuiltinFn}
 use Rattle.call_ty.specs.Calls.Given.{judgment, nothing}
 use Rattle.tplt.specs.Heads.{headOf}
@@ -50,22 +51,17 @@ module _ (place : ℕ) (w : List ℕ) (n : ℕ) where
   judged-at noneFits = (refl, refl)
   judged-at nonePreferred = (refl, refl)
 
-  ruled-at : (row : ℕ) (ts : List Ty) → At place n (ruledOutcome place w n row ts .answer)
+  ruled-at : (r : Ruling) (ts : List Ty) → At place n (ruledOutcome place w n r ts .answer)
   unfolding ruledOutcome
-  ruled-at row ts = at-by (anyReference ts) _ _ (refl, refl) (judged-at (judgeRow row ts))
+  ruled-at r ts = at-by (offends r ts) _ _ (refl, refl) (judged-at (judgeBy r ts))
 
   pub unary-at : (op : ℕ) (t : Ty) → At place n (unaryOutcome place w n op t .answer)
   unfolding unaryOutcome
-  unary-at op t =
-      at-by (ltb op unaryOps) _ _
-      (at-by (eqb op addressOp) _ _ (judged-at (judgeAddress t))
-      (at-by (isReference t) _ _ (refl, refl)
-      (at-by (eqb op indirectionOp) _ _ (judged-at (judgeIndirection t)) (judged-at (judgeRow op (t ∷ []))))))
-      (refl, refl)
+  unary-at op t = at-by (ltb op unaryOps) _ _ (ruled-at (unaryRuling op) (t ∷ [])) (refl, refl)
 
   pub binary-at : (op : ℕ) (t u : Ty) → At place n (binaryOutcome place w n op t u .answer)
   unfolding binaryOutcome
-  binary-at op t u = at-by (ltb op binaryOps) _ _ (ruled-at (binaryRow op) (t ∷ u ∷ [])) (refl, refl)
+  binary-at op t u = at-by (ltb op binaryOps) _ _ (ruled-at (byRow (binaryRow op)) (t ∷ u ∷ [])) (refl, refl)
 
   given-at : (g : Given) → At place n (givenOutcome place w n g .answer)
   unfolding givenOutcome

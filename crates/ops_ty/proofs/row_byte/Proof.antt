@@ -13,7 +13,7 @@ array-read-result c = search needs
 
 returns : tie.Need-returns
 unfolding both binaryRow
-returns c = table binaryRow 18 (lts.m2 reads.Pre reads.Post (c .args) (c .blocks) .1 .1 .0) tt (c .args .op) (search needs)
+returns c = table (λ op. binaryRow op .number) 18 (lts.m2 reads.Pre reads.Post (c .args) (c .blocks) .1 .1 .0) tt (c .args .op) (search needs)
 
 pub row-byte-spec : {M : Type 1} → statement M
 row-byte-spec = tie.close (tie.spec array-read-result returns)

@@ -56,7 +56,7 @@ returns-4 c =
     let s = c .before .before .before .before .before .before .before .before .before .before .before in
     let a = s .args in
     gave-as
-    (unary-indirection (a .place .0) (a .words .now) (a .n) (a .op) (typeAt (a .words .now) (a .a .0)) (c .before .before .before .before .before .before .before .before .before .if1 .left) (c .before .before .before .before .before .before .before .before .if2 .left)
+    (unary-indirection (a .place .0) (a .words .now) (a .n) (a .op) (typeAt (a .words .now) (a .a .0)) (c .before .before .before .before .before .before .before .before .before .if1 .left)
     (not-offered (a .words .now) (a .n) (s .pre .0) (a .a .0) (s .pre .1) _ (c .before .before .before .before .before .before .code-at .ensures) (c .before .before .before .before .before .if3 .left)) (c .before .before .before .before .if4 .taken))
     (c .before .before .type-deref .ensures)
 

@@ -7,21 +7,27 @@ use lib.Dec.{ltb→lt}
 use Rattle.conv.specs.Rank.{formOf}
 use Rattle.overload.specs.Code.{shapeOfNo, familyAt, firstX, lastX, formsOf, orNone}
 use Rattle.overload.proofs.Families.{good}
-use Rattle.overload.specs.Rows.{overloadsOf}
+use Rattle.conv.specs.Types.{Ty}
+use mathlib.Core.List.{List}
+use Rattle.overload.specs.Overload.{Judged, Resolved}
+use Rattle.overload.specs.Rows.{rowAt, overloadsOf, ofRow, judgeRow}
 use Rattle.overload.proofs.Resolving.{not-found, other-form}
 use Rattle.overload.proofs.Judge.{judge-is}
 use Rattle.overload.proofs.resolve.Statement.{statement}
 use Rattle.overload.proofs.resolve.Tie as tie
 
+row-is : (row : ℕ) (ts : List Ty) (j : Judged) → Resolved (ofRow (rowAt row)) ts j → j ≡ judgeRow (rowAt row) ts
+row-is row ts j q = judge-is (overloadsOf (rowAt row)) ts j q
+
 returns : tie.Need-returns
 returns c =
     let a = c .before .before .args in
-    judge-is (overloadsOf _) _ _ (not-found (a .row) (a .xs .now) (λ p f. let l = f .row-below in let t = c .if1 .taken in omega arith))
+    row-is _ _ _ (not-found (a .row) (a .xs .now) (λ p f. let l = f .row-below in let t = c .if1 .taken in omega arith))
 
 returns-2 : tie.Need-returns-2
 returns-2 c =
     let a = c .before .before .before .args in
-    judge-is (overloadsOf _) _ _ (not-found (a .row) (a .xs .now) (λ p f. let l = f .count in let g = good (f .f) (f .below) .some in let t = c .if2 .taken in omega arith))
+    row-is _ _ _ (not-found (a .row) (a .xs .now) (λ p f. let l = f .count in let g = good (f .f) (f .below) .some in let t = c .if2 .taken in omega arith))
 
 shared-slice-read-shape-of : tie.Need-shared-slice-read-shape-of
 shared-slice-read-shape-of c = omega arith
@@ -33,7 +39,7 @@ returns-3 : tie.Need-returns-3
 returns-3 c =
     let xs = c .before .before .before .before .before .before .args .xs .now in
     let q = other-form (firstX xs / 7) (omega (arith, c .before .shape-of .ensures, c .if3 .taken)) in
-    judge-is (overloadsOf _) _ _ (not-found (c .before .before .before .before .before .before .args .row) xs (λ p f. let l = ltb→lt (formOf (shapeOfNo (firstX xs / 7))) 3 (f .first) in omega arith))
+    row-is _ _ _ (not-found (c .before .before .before .before .before .before .args .row) xs (λ p f. let l = ltb→lt (formOf (shapeOfNo (firstX xs / 7))) 3 (f .first) in omega arith))
 
 sub-shape-of : tie.Need-sub-shape-of
 sub-shape-of c = omega arith
@@ -48,7 +54,7 @@ returns-4 : tie.Need-returns-4
 returns-4 c =
     let xs = c .before .before .before .before .before .before .before .before .before .args .xs .now in
     let q = other-form (lastX xs / 7) (omega (arith, c .before .shape-of2 .ensures, c .if4 .taken)) in
-    judge-is (overloadsOf _) _ _ (not-found (c .before .before .before .before .before .before .before .before .before .args .row) xs (λ p f. let l = ltb→lt (formOf (shapeOfNo (lastX xs / 7))) 3 (f .last) in omega arith))
+    row-is _ _ _ (not-found (c .before .before .before .before .before .before .before .before .before .args .row) xs (λ p f. let l = ltb→lt (formOf (shapeOfNo (lastX xs / 7))) 3 (f .last) in omega arith))
 
 form-of-requires : tie.Need-form-of-requires
 form-of-requires c κs = search needs
@@ -82,7 +88,7 @@ resolve-family-requires c κs =
     )
 
 returns-5 : tie.Need-returns-5
-returns-5 c = judge-is (overloadsOf _) _ _ (c .resolve-family .ensures)
+returns-5 c = row-is _ _ _ (c .resolve-family .ensures)
 
 pub resolve-spec : {M : Type 1} → statement M
 resolve-spec =

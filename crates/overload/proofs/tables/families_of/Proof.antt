@@ -2,7 +2,7 @@
 use native.Mathlib.Omega.{arith}
 use Rattle.conv.specs.Rank.{both}
 use Rattle.overload.specs.Overload.{or}
-use Rattle.overload.specs.Rows.{formAt, operators, builtins}
+use Rattle.overload.specs.Rows.{formAt, rows, rowAt}
 use Rattle.overload.specs.Code as code
 use Rattle.conv.proofs.Finite.{above}
 use Rattle.overload.proofs.Lines.{families-line}
@@ -10,7 +10,7 @@ use Rattle.overload.proofs.tables.families_of.Statement.{statement}
 use Rattle.overload.proofs.tables.families_of.Tie as tie
 
 pub families-of-spec : {M : Type 1} → statement M
-unfolding both or operators builtins formAt code.joined code.startOf code.anySize code.findFamily code.familyAt
+unfolding both or rows rowAt formAt code.joined code.startOf code.anySize code.findFamily code.familyAt
 families-of-spec =
     tie.close
     (tie.spec

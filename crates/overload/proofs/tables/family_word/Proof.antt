@@ -2,7 +2,7 @@
 use mathlib.Core.Path.{refl}
 use Rattle.conv.specs.Rank.{both}
 use Rattle.overload.specs.Overload.{or}
-use Rattle.overload.specs.Rows.{formAt, operators, builtins}
+use Rattle.overload.specs.Rows.{formAt, rows, rowAt}
 use Rattle.overload.specs.Code as code
 use Rattle.conv.proofs.Finite.{above}
 use Rattle.overload.proofs.Lines.{word-of, word-line, no-family}
@@ -10,7 +10,7 @@ use Rattle.overload.proofs.tables.family_word.Statement.{statement}
 use Rattle.overload.proofs.tables.family_word.Tie as tie
 
 pub family-word-spec : {M : Type 1} → statement M
-unfolding both or operators builtins formAt code.joined code.families code.familyOf code.shapeNo code.sizeNo code.formNo code.componentNo code.wrapNo code.pivotNo code.encode
+unfolding both or rows rowAt formAt code.joined code.families code.familyOf code.shapeNo code.sizeNo code.formNo code.componentNo code.wrapNo code.pivotNo code.encode
 family-word-spec =
     tie.close
     (tie.spec

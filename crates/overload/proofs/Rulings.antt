@@ -1,0 +1,188 @@
+-- DEMAND 3 for every ruling: its judgment is the one that its overloads have, a fitting overload is preferred to every other that fits, and what it gives is a type that
+-- there is. A row by the laws of rows, unary `&` and `*` by those of described overloads. Assumes nothing.
+use Prim.Native.Nat.{ℕ, zero, suc, _<_}
+use mathlib.Core.Path.{_≡_, refl, sym, _∙_, ap, subst}
+use mathlib.Core.Bool.{Bool, true, false, _&&_, not, cond}
+use mathlib.Core.List.{List, [], _∷_, map}
+use lib.ListN.{getD}
+use native.Mathlib.Omega.{arith}
+use mathlib.Core.Logic.{_≢_}
+use lib.Dec.{T, eqb, leb, eqb→eq}
+use borrow.Author.Tests.{eqb-false, le-leb, leb-true}
+use Rattle.conv.specs.Types.{Ty, formed, isValue, abstractTy, storage, handle, readWrite}
+use Rattle.conv.specs.Types.Ty.{scalar, vec, mat, array, runtime, atomic, ptr, ref, frexp, modf}
+use Rattle.conv.specs.Rank.{both, converts}
+use Rattle.conv.proofs.Finite.{both-right, below}
+use Rattle.overload.specs.Overload.{Overload, fits, Judged, Resolved}
+use Rattle.overload.specs.Overload.Judged.{gives, noneFits, nonePreferred}
+use Rattle.overload.specs.Rows.{Row, rows, noRow, rowAt, overloadsOf, ofRow, addressOf, indirectionOf, Ruling, overloadsBy, judgeRow, judgeAddress, judgeIndirection, alone, judgeBy, Known}
+use Rattle.overload.specs.Rows.Ruling.{byRow, address, indirection}
+use Rattle.overload.proofs.Judge.{judge-resolved}
+use Rattle.overload.proofs.Operands.{allFormed, and-left, and-right, never-thirteen}
+use Rattle.overload.proofs.Results.{gives-formed}
+use Rattle.overload.proofs.Described.{judge-address, judge-indirection, address-never, indirection-never}
+
+clash : {R : Ty} → noneFits ≡ gives R → ⊥
+clash e = let z : _≡_ {A = ℕ} 0 1 = cc in omega arith
+
+inner : {R Q : Ty} → gives R ≡ gives Q → R ≡ Q
+inner e = cc
+
+-- ONE OPERAND: an overload of one parameter fits no other count
+
+abbrev OneParam : (Overload → Type 0) → Type 0
+OneParam set = (o : Overload) → set o → (x : Ty) × (o .params ≡ x ∷ [])
+
+module _ (set : Overload → Type 0) (one : OneParam set) where
+  none-fit : (o : Overload) → set o → T (fits (o .params) []) → ⊥
+  unfolding fits
+  none-fit o m h = let q = one o m in subst (λ (ps : List Ty). T (fits ps [])) (q .1) h
+
+  many-fit : (t u : Ty) (us : List Ty) (o : Overload) → set o → T (fits (o .params) (t ∷ u ∷ us)) → ⊥
+  unfolding fits both
+  many-fit t u us o m h =
+      let q = one o m in
+      both-right (converts t (q .0)) _ (subst (λ (ps : List Ty). T (fits ps (t ∷ u ∷ us))) (q .1) h)
+
+  module _ (j : Ty → Judged) (resolved : (t : Ty) → formed t ≡ true → Resolved set (t ∷ []) (j t)) where
+    alone-resolved : (ts : List Ty) → allFormed ts ≡ true → Resolved set ts (alone j ts)
+    unfolding Resolved alone allFormed
+    alone-resolved [] f = none-fit
+    alone-resolved (t ∷ []) f = resolved t (and-left (formed t) true f)
+    alone-resolved (t ∷ u ∷ us) f = many-fit t u us
+
+  module _ (never : (t : Ty) → Resolved set (t ∷ []) nonePreferred → ⊥) where
+    alone-never : (ts : List Ty) → Resolved set ts nonePreferred → ⊥
+    unfolding Resolved
+    alone-never [] q = none-fit (q .0 .0) (q .0 .1) (q .0 .2)
+    alone-never (t ∷ []) q = never t q
+    alone-never (t ∷ u ∷ us) q = many-fit t u us (q .0 .0) (q .0 .1) (q .0 .2)
+
+  module _ (j : Ty → Judged) (gives-one : (t : Ty) → formed t ≡ true → (R : Ty) → j t ≡ gives R → formed R ≡ true) where
+    alone-formed : (ts : List Ty) → allFormed ts ≡ true → (R : Ty) → alone j ts ≡ gives R → formed R ≡ true
+    unfolding alone allFormed
+    alone-formed [] f R e = absurd (clash e)
+    alone-formed (t ∷ []) f R e = gives-one t (and-left (formed t) true f) R e
+    alone-formed (t ∷ u ∷ us) f R e = absurd (clash e)
+
+address-one : OneParam addressOf
+address-one o m = (ref (m .0) (m .1) (m .2), ap (λ (p : Overload). p .params) (m .5))
+
+indirection-one : OneParam indirectionOf
+indirection-one o m = (ptr (m .0) (m .1) (m .2), ap (λ (p : Overload). p .params) (m .4))
+
+-- WHAT `&` AND `*` GIVE is a type that there is: a pointer and a reference ask the same of their element
+
+swap : (a b rest : Bool) → (a && rest) ≡ true → b ≡ true → (b && rest) ≡ true
+swap a true rest h e = and-right a rest h
+swap a false rest h e = absurd (subst T (sym e) tt)
+
+regroup : (a b c d f : Bool) → (a && b && c && d && f) ≡ (a && (b && c && d && f))
+regroup true b c d f = refl
+regroup false b c d f = refl
+
+module _ (space access : ℕ) (t : Ty) where
+  rest : Bool
+  rest = leb access readWrite && isValue t && not (abstractTy t) && formed t
+
+  ref-parts : formed (ref space access t) ≡ (leb space handle && rest)
+  unfolding formed rest
+  ref-parts = regroup (leb space handle) (leb access readWrite) (isValue t) (not (abstractTy t)) (formed t)
+
+  ptr-parts : formed (ptr space access t) ≡ (leb space storage && rest)
+  unfolding formed rest
+  ptr-parts = regroup (leb space storage) (leb access readWrite) (isValue t) (not (abstractTy t)) (formed t)
+
+  pub pointer-formed : formed (ref space access t) ≡ true → space ≢ handle → formed (ptr space access t) ≡ true
+  pointer-formed f h =
+      let g = sym ref-parts ∙ f in
+      let u = leb-true space handle (and-left (leb space handle) rest g) in
+      ptr-parts ∙ swap (leb space handle) (leb space storage) rest g (le-leb space storage (omega arith))
+
+  pub reference-formed : formed (ptr space access t) ≡ true → formed (ref space access t) ≡ true
+  reference-formed f =
+      let g = sym ptr-parts ∙ f in
+      let u = leb-true space storage (and-left (leb space storage) rest g) in
+      ref-parts ∙ swap (leb space storage) (leb space handle) rest g (le-leb space handle (omega arith))
+
+lent-formed : (space access : ℕ) (t : Ty) → formed (ref space access t) ≡ true → (b : Bool) → eqb space handle ≡ b
+    → (R : Ty) → cond b noneFits (gives (ptr space access t)) ≡ gives R → formed R ≡ true
+lent-formed space access t f true e R q = absurd (clash q)
+lent-formed space access t f false e R q = ap formed (sym (inner q)) ∙ pointer-formed space access t f (eqb-false space handle e)
+
+address-formed : (x : Ty) → formed x ≡ true → (R : Ty) → judgeAddress x ≡ gives R → formed R ≡ true
+unfolding judgeAddress
+address-formed (ref space access t) f R e = lent-formed space access t f (eqb space handle) refl R e
+address-formed (ptr space access t) f R e = absurd (clash e)
+address-formed (scalar s) f R e = absurd (clash e)
+address-formed (vec n s) f R e = absurd (clash e)
+address-formed (mat c r s) f R e = absurd (clash e)
+address-formed (array k t) f R e = absurd (clash e)
+address-formed (runtime t) f R e = absurd (clash e)
+address-formed (atomic s) f R e = absurd (clash e)
+address-formed (frexp t) f R e = absurd (clash e)
+address-formed (modf t) f R e = absurd (clash e)
+
+indirection-formed : (x : Ty) → formed x ≡ true → (R : Ty) → judgeIndirection x ≡ gives R → formed R ≡ true
+unfolding judgeIndirection
+indirection-formed (ptr space access t) f R e = ap formed (sym (inner e)) ∙ reference-formed space access t f
+indirection-formed (ref space access t) f R e = absurd (clash e)
+indirection-formed (scalar s) f R e = absurd (clash e)
+indirection-formed (vec n s) f R e = absurd (clash e)
+indirection-formed (mat c r s) f R e = absurd (clash e)
+indirection-formed (array k t) f R e = absurd (clash e)
+indirection-formed (runtime t) f R e = absurd (clash e)
+indirection-formed (atomic s) f R e = absurd (clash e)
+indirection-formed (frexp t) f R e = absurd (clash e)
+indirection-formed (modf t) f R e = absurd (clash e)
+
+-- what a known row gives is a type that there is, on any operands
+pub row-formed : (r : Row) → Known (byRow r) → (ts : List Ty) (R : Ty) → judgeBy (byRow r) ts ≡ gives R → formed R ≡ true
+unfolding judgeBy Known
+row-formed r k ts R e = gives-formed (r .number) ts R (ap (λ (x : Row). judgeRow x ts) k ∙ e) .0
+
+-- EVERY RULING, on operands that are types
+
+module _ (ts : List Ty) (f : allFormed ts ≡ true) where
+  -- the judgment is the one that the overloads have
+  pub ruling-resolved : (r : Ruling) → Resolved (overloadsBy r) ts (judgeBy r ts)
+  unfolding overloadsBy judgeBy
+  ruling-resolved (byRow r) = judge-resolved (overloadsOf r) ts
+  ruling-resolved address = alone-resolved addressOf address-one judgeAddress judge-address ts f
+  ruling-resolved indirection = alone-resolved indirectionOf indirection-one judgeIndirection judge-indirection ts f
+
+  -- where an overload fits one is preferred to every other that fits: REFUSAL 13 IS NEVER GIVEN
+  pub ruling-never : (r : Ruling) → Known r → Resolved (overloadsBy r) ts nonePreferred → ⊥
+  unfolding overloadsBy Known
+  ruling-never (byRow r) k q = never-thirteen ts f (r .number) (subst (λ (x : Row). Resolved (ofRow x) ts nonePreferred) (sym k) q)
+  ruling-never address k q = alone-never addressOf address-one address-never ts q
+  ruling-never indirection k q = alone-never indirectionOf indirection-one indirection-never ts q
+
+  -- what it gives is a type that there is
+  pub ruling-formed : (r : Ruling) → Known r → (R : Ty) → judgeBy r ts ≡ gives R → formed R ≡ true
+  unfolding judgeBy Known
+  ruling-formed (byRow r) k R e = row-formed r k ts R e
+  ruling-formed address k R e = alone-formed addressOf address-one judgeAddress address-formed ts f R e
+  ruling-formed indirection k R e = alone-formed indirectionOf indirection-one judgeIndirection indirection-formed ts f R e
+
+-- a row of the list is known by its number
+rowTest : ℕ → Bool
+rowTest k = eqb (rowAt k .number) k
+
+pub row-known : (k : ℕ) → k < 47 → Known (byRow (rowAt k))
+unfolding Known rowTest rowAt rows both
+row-known k h = ap rowAt (eqb→eq (rowAt k .number) k (below 47 rowTest tt k h))
+
+-- and so is each of a list of rows that are computed to be those of their numbers
+
+get-map : (g : Row → Row) (rs : List Row) (k : ℕ) (d : Row) → getD (map g rs) k (g d) ≡ g (getD rs k d)
+get-map g [] k d = refl
+get-map g (r ∷ rs) zero d = refl
+get-map g (r ∷ rs) (suc k) d = get-map g rs k d
+
+numbered : Row → Row
+numbered r = rowAt (r .number)
+
+pub known-rows : (rs : List Row) → rs ≡ map (λ (r : Row). rowAt (r .number)) rs → (k : ℕ) → Known (byRow (getD rs k noRow))
+unfolding Known numbered rowAt rows
+known-rows rs e k = sym (get-map numbered rs k noRow) ∙ ap (λ (l : List Row). getD l k noRow) (sym e)
