@@ -27,7 +27,7 @@ use Rattle.sheet.specs.Machine.{endAnswer, leftAnswer, after, Turned, more, don
 use Rattle.step.specs.Code.{Good}
 use Rattle.step.proofs.Keeping.{EffectKept, item-kept}
 use Rattle.sheet.proofs.Running.{turn-item, turn-kept, sheet-unsound, sheet-unheaded, sheet-runs}
-use Rattle.swartabelk.specs.Code.{Fits}
+use Rattle.swartabelk.specs.inner.Code.{Fits}
 use Rattle.swartabelk.proofs.Places.{At, entering-at, unary-at, binary-at, call-at}
 
 -- AN ITEM refuses at its own place

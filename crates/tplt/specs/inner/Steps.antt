@@ -25,7 +25,7 @@ use Rattle.tplt.specs.declared.AtomicTemplate.{AtomicTemplate}
 use Rattle.tplt.specs.declared.ArrayTemplate.{ArrayTemplate}
 use Rattle.tplt.specs.declared.Parsed.{Parsed}
 use Rattle.tplt.specs.declared.Parsed.the-variants.{OfVec, OfMat, OfAtomic, OfArray, Wrong}
-use Rattle.tplt.specs.Heads.{nameOf}
+use Rattle.tplt.specs.Heads.{headName}
 use Rattle.tplt.specs.Params.{paramOf}
 use Rattle.tplt.specs.Templates.{typeOf, outcomeOf}
 
@@ -39,7 +39,7 @@ keyOf (b ∷ name) = keyOf name * 256 + b
 
 unfoldable pub headAt : List Head → ℕ → Head
 headAt [] key = NoHead
-headAt (h ∷ hs) key = cond (eqb key (keyOf (nameOf h))) h (headAt hs key)
+headAt (h ∷ hs) key = cond (eqb key (keyOf (headName h))) h (headAt hs key)
 
 -- the argument of the pair at a place
 abbrev pub paramAt : ℕ → List ℤ → ℕ → TpltParam
