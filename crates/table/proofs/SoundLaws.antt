@@ -10,7 +10,7 @@ use native.Mathlib.Omega.{arith}
 use lib.ListN.{length, getD, set, length-set}
 use lib.Seq.{getD-set-same, getD-set-other}
 use lib.Dec.{leb, ltb, eqb}
-use borrow.Author.Tests.{le-leb, ltb-true, leb-true, eqb-true, eq-eqb}
+use borrow.Author.Tests.{le-leb, ltb-true, leb-true, eqb-true, eq-eqb, ne-eqb}
 use Rattle.table.specs.Tools.{allBelow}
 use Rattle.table.specs.Table.{stride, ceiling, entryAt, putEntry, Key, keyOf, sameb, chainBy, chain, baseOf, entryOk, orElse, findIn, isNothing, goodAt, soundb, Sound, Keeps, scalarOk, madeOk}
 use Rattle.table.specs.declared.Entry.{Entry}
@@ -70,6 +70,17 @@ sameb-true a b h =
 pub sameb-refl : (a b : Entry) → keyOf a ≡ keyOf b → sameb a b ≡ true
 sameb-refl a b h =
     rw (eq-eqb (a .kind) (b .kind) (ap (λ (k : Key). k .kind) h), eq-eqb (a .p) (b .p) (ap (λ (k : Key). k .p) h), eq-eqb (a .q) (b .q) (ap (λ (k : Key). k .q) h), eq-eqb (a .elem) (b .elem) (ap (λ (k : Key). k .elem) h))
+
+-- two that differ in p or in elem
+no-right : (b : Bool) → (b && false) ≡ false
+no-right true = refl
+no-right false = refl
+
+pub other-p : (a b : Entry) → a .p ≢ b .p → sameb a b ≡ false
+other-p a b d = rw (ne-eqb (a .p) (b .p) d, no-right (eqb (a .kind) (b .kind)))
+
+pub other-elem : (a b : Entry) → a .elem ≢ b .elem → sameb a b ≡ false
+other-elem a b d = rw (ne-eqb (a .elem) (b .elem) d) (no-right (eqb (a .kind) (b .kind) && eqb (a .p) (b .p) && eqb (a .q) (b .q)))
 
 -- what finding says
 

@@ -133,6 +133,19 @@ fn same(a: Entry, b: Entry) -> bool
     (a.kind == b.kind) & (a.p == b.p) & (a.q == b.q) & (a.elem == b.elem)
 }
 
+// The same, where two entries mostly differ in p.
+fn alike(a: Entry, b: Entry) -> bool
+    ensures { λ r. ⌜ r ≡ sameb a b ⌝ }
+{
+    if a.p != b.p {
+        return false;
+    }
+    if a.elem != b.elem {
+        return false;
+    }
+    same(a, b)
+}
+
 fn is_width(x: u32) -> bool
     ensures { λ r. ⌜ r ≡ isWidth x ⌝ }
 {
@@ -295,8 +308,8 @@ fn scalars_stand(words: &[u32]) -> bool
 fn mixed_of(e: Entry) -> u64
     ensures { λ r. ⌜ (r ≡ mixed e) × (r < wordEnd) ⌝ }
 {
-    let rest =
-        (cast::word64(e.elem) * 64 + cast::word64(e.kind) * 4 + cast::word64(e.q)) % WORD_END;
+    let rest = (cast::word64(e.elem) * 64 + cast::word64(e.kind) * 4 + cast::word64(e.q))
+        % WORD_END;
     (cast::word64(e.p) + rest * SPREAD) % WORD_END
 }
 
@@ -339,7 +352,7 @@ fn free_place(words: &[u32], links: &[u8], i: usize, e: Entry) -> usize
     let mut turns = turns_of(e);
     let mut at = cast::wide(links[place]);
     while 0 < at {
-        if same(entry_at(words, at), e) {
+        if alike(entry_at(words, at), e) {
             return PLACES;
         }
         place = fork_of(at, turns);

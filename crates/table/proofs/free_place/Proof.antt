@@ -50,16 +50,16 @@ entry-at-requires : tie.Need-entry-at-requires Inv-loop μ-loop
 entry-at-requires c κs = let p = c .before .before .before .before .before .before .before .before .pre in let l = p .4 .low (c .before .loop .place) in let q = c .before .loop .inv .1 in let r = p .0 in omega arith
 
 -- src/lib.rt:342:12
-same-requires : tie.Need-same-requires Inv-loop μ-loop
-same-requires c κs = search needs
+alike-requires : tie.Need-alike-requires Inv-loop μ-loop
+alike-requires c κs = search needs
 
 -- src/lib.rt:343:13
 returns : tie.Need-returns Inv-loop μ-loop
-returns c = 
+returns c =
     let a = c .before .before .before .before .before .before .before .before .before .before .before .args in
     let p = c .before .before .before .before .before .before .before .before .before .before .before .pre in
     let l = c .before .before .before .before .loop in
-    let s : sameb (entryAt (a .words .now) (l .at)) (a .e) ≡ true = ap (λ (x : Entry). sameb x (a .e)) (sym (c .before .before .entry-at .ensures)) ∙ sym (c .before .same .ensures) ∙ c .if1 .taken in
+    let s : sameb (entryAt (a .words .now) (l .at)) (a .e) ≡ true = ap (λ (x : Entry). sameb x (a .e)) (sym (c .before .before .entry-at .ensures)) ∙ sym (c .before .alike .ensures) ∙ c .if1 .taken in
     record { found = λ _. sym (walk-hit (a .words .now) (a .i) (a .links .now) (a .e) (p .1) (p .2) (p .4) (l .place) (l .turns) (l .inv .0) (l .at) (l .inv .1) s); free = λ d. absurd (d refl) }
 
 -- src/lib.rt:345:9
@@ -76,7 +76,7 @@ wide-requires-2 c κs = search needs
 
 -- src/lib.rt:341:5
 loop-less : tie.Need-loop-less Inv-loop μ-loop
-loop-less c = 
+loop-less c =
     let a = c .before .before .before .before .before .before .before .before .before .before .before .before .before .before .args in
     let p = c .before .before .before .before .before .before .before .before .before .before .before .before .before .before .pre in
     let l = c .before .before .before .before .before .before .before .loop in
@@ -88,16 +88,16 @@ loop-less c =
 
 -- src/lib.rt:341:5
 loop-again : tie.Need-loop-again Inv-loop μ-loop
-loop-again c = 
+loop-again c =
     let a = c .before .before .before .before .before .before .before .before .before .before .before .before .before .before .args in
     let p = c .before .before .before .before .before .before .before .before .before .before .before .before .before .before .pre in
     let l = c .before .before .before .before .before .before .before .loop in
-    let s : sameb (entryAt (a .words .now) (l .at)) (a .e) ≡ false = ap (λ (x : Entry). sameb x (a .e)) (sym (c .before .before .before .before .before .entry-at .ensures)) ∙ sym (c .before .before .before .before .same .ensures) ∙ c .before .before .before .if1 .left in
+    let s : sameb (entryAt (a .words .now) (l .at)) (a .e) ≡ false = ap (λ (x : Entry). sameb x (a .e)) (sym (c .before .before .before .before .before .entry-at .ensures)) ∙ sym (c .before .before .before .before .alike .ensures) ∙ c .before .before .before .if1 .left in
     (rw (c .before .before .fork-of .ensures) (walk-step (a .words .now) (a .i) (a .links .now) (a .e) (p .1) (p .2) (p .4) (l .place) (l .turns) (l .inv .0) (l .at) (l .inv .1) (c .before .before .before .before .before .before .loop-test .taken) s), c .wide2 .ensures)
 
 -- src/lib.rt:334:1
 returns-2 : tie.Need-returns-2 Inv-loop μ-loop
-returns-2 c = 
+returns-2 c =
     let a = c .before .before .before .before .before .before .before .before .args in
     let p = c .before .before .before .before .before .before .before .before .pre in
     let l = c .before .loop in
@@ -118,7 +118,7 @@ free-place-spec =
     wide-requires
     loop-holds
     entry-at-requires
-    same-requires
+    alike-requires
     returns
     fork-of-requires
     shared-slice-read-wide-2

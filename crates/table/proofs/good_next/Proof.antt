@@ -32,7 +32,7 @@ same-length c = search needs
 
 -- src/lib.rt:375:9
 returns : tie.Need-returns
-returns c = 
+returns c =
     let a = c .before .before .before .before .before .before .before .args in
     let p = c .before .before .before .before .before .before .before .pre in
     let e = c .before .before .before .entry-at .result in
@@ -42,7 +42,7 @@ returns c =
 
 -- src/lib.rt:377:9
 free-place-requires : tie.Need-free-place-requires
-free-place-requires c κs = 
+free-place-requires c κs =
     let a = c .before .before .before .before .before .before .before .before .args in
     let p = c .before .before .before .before .before .before .before .before .pre in
     let room = p .0 in
@@ -59,7 +59,7 @@ same-length-3 c = search needs
 
 -- src/lib.rt:379:9
 returns-2 : tie.Need-returns-2
-returns-2 c = 
+returns-2 c =
     let a = c .before .before .before .before .before .before .before .before .before .before .args in
     let p = c .before .before .before .before .before .before .before .before .before .before .pre in
     let e = c .before .before .before .before .before .before .entry-at .result in
@@ -74,7 +74,7 @@ cast-links c = search needs
 
 -- src/lib.rt:381:5
 slice-write-links : tie.Need-slice-write-links
-slice-write-links c = 
+slice-write-links c =
     let p = c .before .before .before .before .before .before .before .before .before .before .pre in
     let wide = p .4 .wide in
     let high = p .2 in
@@ -87,7 +87,7 @@ word-requires c κs = search needs
 
 -- src/lib.rt:383:16
 slice-read-bases : tie.Need-slice-read-bases
-slice-read-bases c = 
+slice-read-bases c =
     let a = c .before .before .before .before .before .before .before .before .before .before .before .before .args in
     let p = c .before .before .before .before .before .before .before .before .before .before .before .before .pre in
     let long = p .5 .long in
@@ -110,7 +110,7 @@ same-length-5 c = search needs
 
 -- src/lib.rt:369:1
 returns-3 : tie.Need-returns-3
-returns-3 c = 
+returns-3 c =
     let a = c .before .before .before .before .before .before .before .before .before .before .before .before .args in
     let p = c .before .before .before .before .before .before .before .before .before .before .before .before .pre in
     let w = a .words .now in

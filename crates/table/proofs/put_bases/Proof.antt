@@ -42,14 +42,17 @@ loop-less c = omega arith
 
 -- src/lib.rt:408:5
 loop-again : tie.Need-loop-again Inv-loop μ-loop
-loop-again c = 
+loop-again c =
     let k = c .before .loop .k in
     let bases = c .before .loop .bases in
-    let long = c .before .loop .inv .1 in
-    (omega arith, length-set bases k k ∙ long, λ j l.
-    split (eqb j k)
-    (λ t. rw (eqb-true j k t) (getD-set-same bases k k 0 (omega arith)))
-    (λ t. let d : j ≢ k = eqb-false j k t in getD-set-other bases k j k 0 d ∙ c .before .loop .inv .2 j (omega arith)))
+    let long = c .before .loop .inv .1 in (
+      omega arith,
+      length-set bases k k ∙ long,
+      λ j l.
+          split (eqb j k)
+          (λ t. rw (eqb-true j k t) (getD-set-same bases k k 0 (omega arith)))
+          (λ t. let d : j ≢ k = eqb-false j k t in getD-set-other bases k j k 0 d ∙ c .before .loop .inv .2 j (omega arith)),
+    )
 
 -- src/lib.rt:403:1
 same-length : tie.Need-same-length Inv-loop μ-loop
