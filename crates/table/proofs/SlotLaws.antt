@@ -11,8 +11,8 @@ use lib.Seq.{getD-set-same, getD-set-other}
 use lib.Dec.{ltb, eqb}
 use borrow.Author.Tests.{lt-ltb, le-ltb, ltb-true, ltb-false, eqb-true, eqb-false, eq-eqb, ne-eqb}
 use Rattle.table.specs.Tools.{allBelow}
-use Rattle.table.specs.Table.{scalars, ceiling, entryAt, Key, keyOf, sameb, rowOk, baseOf, madeOk, entryOk, findIn, isNothing, goodAt}
-use Rattle.table.specs.inner.Slots.{scalarAt, slots, places, wordEnd, slotOf, turnsOf, fork, Way, Linked, Free, Based}
+use Rattle.table.specs.Table.{scalars, ceiling, entryAt, Key, entryKey, sameb, rowOk, baseOf, madeOk, entryOk, findIn, isNothing, goodAt}
+use Rattle.table.specs.inner.Slots.{scalarAt, slots, places, wordEnd, entrySlot, turnsOf, fork, Way, Linked, Free, Based}
 use Rattle.table.specs.inner.Slots.Way.{here, on}
 use Rattle.table.specs.declared.Entry.{Entry}
 use Rattle.table.specs.declared.Found.{Found}
@@ -84,17 +84,17 @@ made-below w i e h = ltb-true _ _ (and-left (ltb (e .elem) i) _ h)
 pub square : {x : ℕ} → x < wordEnd → x * x ≤ 4294967295 * 4294967295
 square {x} l = let h : x ≤ 4294967295 = omega arith in mul-le-mul h h
 
-pub slot-below : (e : Entry) → slotOf e < slots
-unfolding slotOf
+pub slot-below : (e : Entry) → entrySlot e < slots
+unfolding entrySlot
 slot-below e = omega arith
 
 withKey : Key → Entry
 withKey k = record { kind = k .kind; p = k .p; q = k .q; elem = k .elem }
 
 -- equal entries have one way
-same-way : (links : List ℕ) (a b : Entry) (k : ℕ) → keyOf a ≡ keyOf b → Way links (slotOf a) (turnsOf a) k → Way links (slotOf b) (turnsOf b) k
+same-way : (links : List ℕ) (a b : Entry) (k : ℕ) → entryKey a ≡ entryKey b → Way links (entrySlot a) (turnsOf a) k → Way links (entrySlot b) (turnsOf b) k
 unfolding withKey
-same-way links a b k q v = subst (λ (x : Key). Way links (slotOf (withKey x)) (turnsOf (withKey x)) k) q v
+same-way links a b k q v = subst (λ (x : Key). Way links (entrySlot (withKey x)) (turnsOf (withKey x)) k) q v
 
 -- every entry that has a place keeps it
 abbrev Grown : List ℕ → List ℕ → Type 0
@@ -120,11 +120,11 @@ set-grown links place k z j l = getD-set-other links place j k 0 (λ q. let m : 
 -- looking along e's way has come to a place: e stands from there on or nowhere, and what stands from there on stands on e's way
 pub record Walk (w : List ℕ) (i : ℕ) (links : List ℕ) (e : Entry) (place turns : ℕ) : Type 0 where
   pub inside : place < slots + 2 * i
-  pub left : (k : ℕ) → keyOf (entryAt w k) ≡ keyOf e → Way links (slotOf e) (turnsOf e) k → Way links place turns k
-  pub back : (more : List ℕ) → Grown links more → (k : ℕ) → Way more place turns k → Way more (slotOf e) (turnsOf e) k
+  pub left : (k : ℕ) → entryKey (entryAt w k) ≡ entryKey e → Way links (entrySlot e) (turnsOf e) k → Way links place turns k
+  pub back : (more : List ℕ) → Grown links more → (k : ℕ) → Way more place turns k → Way more (entrySlot e) (turnsOf e) k
 
 module _ (w : List ℕ) (i : ℕ) (links : List ℕ) (e : Entry) (low : scalars ≤ i) (high : i ≤ ceiling) (s : Linked w i links) where
-  pub walk-start : (place turns : ℕ) → place ≡ slotOf e → turns ≡ turnsOf e → Walk w i links e place turns
+  pub walk-start : (place turns : ℕ) → place ≡ entrySlot e → turns ≡ turnsOf e → Walk w i links e place turns
   walk-start place turns p q =
       record {
         inside = let b = slot-below e in omega arith;
@@ -147,7 +147,7 @@ module _ (w : List ℕ) (i : ℕ) (links : List ℕ) (e : Entry) (low : scalars 
     walk-step p h =
         record {
           inside = let m = s .low place in omega arith;
-          left = λ k q v. way-next at (sym here-at) (λ z. clash (sameb-refl (entryAt w at) e (ap (λ x. keyOf (entryAt w x)) (sym z) ∙ q)) h) (walk .left k q v);
+          left = λ k q v. way-next at (sym here-at) (λ z. clash (sameb-refl (entryAt w at) e (ap (λ x. entryKey (entryAt w x)) (sym z) ∙ q)) h) (walk .left k q v);
           back = λ more g k v.
               let m : getD more place 0 ≡ at = g place (omega arith) ∙ sym here-at in
               walk .back more g k (on {place = place} (omega arith) (subst (λ x. Way more (fork x turns) (turns / 2) k) (sym m) v));
@@ -189,7 +189,7 @@ linked-next w i low high links s e q place f =
           (λ t. let m = other j (eqb-false j place t) in let l = s .rising j (omega arith) in omega arith);
       standing = λ k lk l.
           split (eqb k i)
-          (λ t. rw (eqb-true k i t) (subst (λ (x : Entry). Way (set links place i) (slotOf x) (turnsOf x) i) q (f .reached i (omega arith))))
+          (λ t. rw (eqb-true k i t) (subst (λ (x : Entry). Way (set links place i) (entrySlot x) (turnsOf x) i) q (f .reached i (omega arith))))
           (λ t. let d : k ≢ i = eqb-false k i t in way-kept (set-grown links place i (f .empty)) (s .standing k lk (omega arith)));
     }
 

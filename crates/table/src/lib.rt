@@ -4,10 +4,10 @@ ghost use Prim.Native.Nat.{ℕ, _+_, _*_, _≤_, _<_};
 ghost use mathlib.Core.List.{List};
 ghost use lib.ListN.{length};
 ghost use Rattle.conv.specs.Types.{isWidth, isFloat, isAbstract};
-ghost use Rattle.table.specs.Table.{stride, scalars, ceiling, kindPtr, entryAt, sameb, plain, stored, sized, rowOk, baseOf, scalarOk, madeOk, findIn, isNothing, goodAt, soundb, allowedb, Sound};
+ghost use Rattle.table.specs.Table.{stride, scalars, ceiling, kindPtr, entryAt, sameb, wordsUnused, stored, sized, rowOk, baseOf, scalarOk, madeOk, findIn, isNothing, goodAt, soundb, allowedb, Sound};
 ghost use mathlib.Core.Bool.{true};
 ghost use Rattle.table.specs.Tools.{allBelow};
-ghost use Rattle.table.specs.inner.Slots.{scalarAt, places, wordEnd, mixed, folded, slotOf, turnsOf, fork, Linked, Ended, Based};
+ghost use Rattle.table.specs.inner.Slots.{scalarAt, places, wordEnd, mixed, folded, entrySlot, turnsOf, fork, Linked, Ended, Based};
 ghost use Rattle.table.specs.declared.Found.the-variants.{Nothing};
 pub use answer::Answer;
 pub use answer::Place;
@@ -165,8 +165,8 @@ fn is_abstract(s: usize) -> bool
 }
 
 // p and q are unused.
-fn is_plain(e: Entry) -> bool
-    ensures { λ r. ⌜ r ≡ plain e ⌝ }
+fn words_unused(e: Entry) -> bool
+    ensures { λ r. ⌜ r ≡ wordsUnused e ⌝ }
 {
     (e.p == 0) & (e.q == 0)
 }
@@ -201,10 +201,10 @@ fn flat_ok(e: Entry, ek: u32) -> bool
         return (1 <= e.p) & (e.q == 0) & is_sized(ek);
     }
     if k == KIND_RUNTIME {
-        return is_plain(e) & is_sized(ek);
+        return words_unused(e) & is_sized(ek);
     }
     if k == KIND_ATOMIC {
-        return is_plain(e) & ((el == I32) | (el == U32));
+        return words_unused(e) & ((el == I32) | (el == U32));
     }
     false
 }
@@ -229,7 +229,7 @@ fn deep_ok(e: Entry, ek: u32, eb: usize) -> bool
             & !is_abstract(eb);
     }
     if (k == KIND_FREXP) | (k == KIND_MODF) {
-        return is_plain(e) & is_float(eb) & ((el < SCALARS) | (ek == KIND_VEC));
+        return words_unused(e) & is_float(eb) & ((el < SCALARS) | (ek == KIND_VEC));
     }
     false
 }
@@ -323,7 +323,7 @@ fn folded_of(x: u64) -> u64
 
 // The slot of an entry: equal entries have one slot.
 fn slot_of(e: Entry) -> usize
-    ensures { λ r. ⌜ r ≡ slotOf e ⌝ }
+    ensures { λ r. ⌜ r ≡ entrySlot e ⌝ }
 {
     (folded_of(mixed_of(e)) * TURN / WORD_END % 512) as usize
 }

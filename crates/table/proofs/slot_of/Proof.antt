@@ -1,4 +1,4 @@
-use Rattle.table.specs.inner.Slots.{slotOf}
+use Rattle.table.specs.inner.Slots.{entrySlot}
 use borrow.Author.Needs.{needs}
 use Rattle.table.proofs.slot_of.Statement.{statement}
 use Rattle.table.proofs.slot_of.Tie as tie
@@ -21,7 +21,7 @@ mul-result c = search needs
 
 -- src/lib.rt:312:1
 returns : tie.Need-returns
-unfolding slotOf
+unfolding entrySlot
 returns c = rw (c .folded-of .ensures .0, c .before .mixed-of .ensures .0)
 
 pub slot-of-spec : {M : Type 1} → statement M

@@ -31,8 +31,8 @@ mixed e = (e .p + (e .elem * 64 + e .kind * 4 + e .q) % wordEnd * 2654435761) % 
 unfoldable pub folded : ℕ → ℕ
 folded x = x * x / wordEnd + x * x % wordEnd
 
-unfoldable pub slotOf : Entry → ℕ
-slotOf e = folded (mixed e) * 1181783497 / wordEnd % slots
+unfoldable pub entrySlot : Entry → ℕ
+entrySlot e = folded (mixed e) * 1181783497 / wordEnd % slots
 
 -- the turns of its way behind the slot, lowest first: any number that the words give
 unfoldable pub turnsOf : Entry → ℕ
@@ -52,14 +52,14 @@ pub record Linked (w : List ℕ) (n : ℕ) (links : List ℕ) : Type 0 where
   pub wide : length links ≡ places
   pub low : (place : ℕ) → getD links place 0 < n
   pub rising : (place : ℕ) → 0 < getD links place 0 → place < slots + 2 * getD links place 0
-  pub standing : (k : ℕ) → scalars ≤ k → k < n → Way links (slotOf (entryAt w k)) (turnsOf (entryAt w k)) k
+  pub standing : (k : ℕ) → scalars ≤ k → k < n → Way links (entrySlot (entryAt w k)) (turnsOf (entryAt w k)) k
 
 -- none of the first i entries is e, and the place is free and the next one on e's way
 pub record Free (w : List ℕ) (i : ℕ) (links : List ℕ) (e : Entry) (place : ℕ) : Type 0 where
   pub new : isNothing (findIn w i e) ≡ true
   pub below : place < slots + 2 * i
   pub empty : getD links place 0 ≡ 0
-  pub reached : (k : ℕ) → 0 < k → Way (set links place k) (slotOf e) (turnsOf e) k
+  pub reached : (k : ℕ) → 0 < k → Way (set links place k) (entrySlot e) (turnsOf e) k
 
 -- where looking along e's way ends: at `places` if e is found
 pub record Ended (w : List ℕ) (i : ℕ) (links : List ℕ) (e : Entry) (place : ℕ) : Type 0 where
