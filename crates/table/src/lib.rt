@@ -29,8 +29,10 @@ const SLOTS: usize = 512;
 
 const PLACES: usize = SLOTS + 2 * CEILING;
 
-// How many numbers a word can be, and two large odd numbers that spread bits.
+// How many numbers a word can be, how many of them one slot has, and two large odd numbers that spread bits.
 const WORD_END: u64 = 4294967296;
+
+const SLOT_WIDTH: u64 = 8388608;
 
 const SPREAD: u64 = 2654435761;
 
@@ -325,7 +327,7 @@ fn folded_of(x: u64) -> u64
 fn slot_of(e: Entry) -> usize
     ensures { λ r. ⌜ r ≡ entrySlot e ⌝ }
 {
-    (folded_of(mixed_of(e)) * TURN / WORD_END % 512) as usize
+    (folded_of(mixed_of(e)) * TURN % WORD_END / SLOT_WIDTH) as usize
 }
 
 // The turns of an entry's way: equal entries have one way.

@@ -24,6 +24,10 @@ places = 1024
 abbrev pub wordEnd : ℕ
 wordEnd = 4294967296
 
+-- and how many of them one slot has
+abbrev pub slotWidth : ℕ
+slotWidth = 8388608
+
 -- the slot of an entry: any number below `slots` that its four words give. These mix all their bits, so that counts in even steps fall apart
 unfoldable pub mixed : Entry → ℕ
 mixed e = (e .p + (e .elem * 64 + e .kind * 4 + e .q) % wordEnd * 2654435761) % wordEnd
@@ -32,7 +36,7 @@ unfoldable pub folded : ℕ → ℕ
 folded x = x * x / wordEnd + x * x % wordEnd
 
 unfoldable pub entrySlot : Entry → ℕ
-entrySlot e = folded (mixed e) * 1181783497 / wordEnd % slots
+entrySlot e = folded (mixed e) * 1181783497 % wordEnd / slotWidth
 
 -- the turns of its way behind the slot, lowest first: any number that the words give
 unfoldable pub turnsOf : Entry → ℕ
