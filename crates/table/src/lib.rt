@@ -36,7 +36,7 @@ const SLOT_WIDTH: u64 = 8388608;
 
 const SPREAD: u64 = 2654435761;
 
-const TURN: u64 = 1181783497;
+const STIR: u64 = 1181783497;
 
 // The scalars are the entries below this number, each by its own.
 pub const SCALARS: usize = conv::SCALARS as usize;
@@ -135,7 +135,7 @@ fn same(a: Entry, b: Entry) -> bool
     (a.kind == b.kind) & (a.p == b.p) & (a.q == b.q) & (a.elem == b.elem)
 }
 
-// The same, where two entries mostly differ in p.
+// The same, for entries that mostly differ in p. `same` takes all words at once, which is slower here.
 fn alike(a: Entry, b: Entry) -> bool
     ensures { λ r. ⌜ r ≡ sameb a b ⌝ }
 {
@@ -306,7 +306,7 @@ fn scalars_stand(words: &[u32]) -> bool
     true
 }
 
-// The words of an entry mixed, so that no two of them are likely to give one slot.
+// The words of an entry, mixed into one.
 fn mixed_of(e: Entry) -> u64
     ensures { λ r. ⌜ (r ≡ mixed e) × (r < wordEnd) ⌝ }
 {
@@ -327,7 +327,7 @@ fn folded_of(x: u64) -> u64
 fn slot_of(e: Entry) -> usize
     ensures { λ r. ⌜ r ≡ entrySlot e ⌝ }
 {
-    (folded_of(mixed_of(e)) * TURN % WORD_END / SLOT_WIDTH) as usize
+    (folded_of(mixed_of(e)) * STIR % WORD_END / SLOT_WIDTH) as usize
 }
 
 // The turns of an entry's way: equal entries have one way.

@@ -1,23 +1,16 @@
-use Rattle.table.proofs.SlotLaws.{slot-below, Walk, walk-start, walk-hit, walk-rise, walk-step, walk-end}
-use Rattle.table.specs.declared.Entry.{Entry}
-use Rattle.table.specs.inner.Slots.{places, slots}
-use Rattle.table.specs.Table.{sameb, entryAt}
+-- `table::free_place` meets its contract: the loop goes along e's way, whose places rise. Assumes nothing.
 use lib.ListN.{getD}
 use borrow.Author.Needs.{needs}
 use native.Mathlib.Omega.{arith}
 use mathlib.Core.Bool.{true, false}
 use mathlib.Core.Path.{_≡_, refl, sym, _∙_, ap}
-use Prim.Native.Nat.{_-_, _<_}
+use Prim.Native.Nat.{_-_}
+use Rattle.table.proofs.SlotLaws.{slot-below, Walk, walk-start, walk-hit, walk-rise, walk-step, walk-end}
+use Rattle.table.specs.declared.Entry.{Entry}
+use Rattle.table.specs.inner.Slots.{places}
+use Rattle.table.specs.Table.{sameb, entryAt}
 use Rattle.table.proofs.free_place.Statement.{statement}
 use Rattle.table.proofs.free_place.Tie as tie
-use Rattle.table.proofs.free_place.Reads as reads
-use Rattle.table.proofs.free_place.Lts as lts
-use Rattle.cast.proofs.wide.Reads as wide-reads
-use Rattle.table.proofs.entry_at.Reads as entry-at-reads
-use Rattle.table.proofs.fork_of.Reads as fork-of-reads
-use Rattle.table.proofs.same.Reads as same-reads
-use Rattle.table.proofs.slot_of.Reads as slot-of-reads
-use Rattle.table.proofs.turns_of.Reads as turns-of-reads
 
 abbrev Inv-loop : tie.InvT-loop
 Inv-loop words links i e place₀ turns₀ at₀ place turns at = Walk words i links e place turns × (at ≡ getD links place 0)
@@ -25,35 +18,27 @@ Inv-loop words links i e place₀ turns₀ at₀ place turns at = Walk words i l
 abbrev μ-loop : tie.MeasureT-loop
 μ-loop words links i e place₀ turns₀ at₀ place turns at = places - place
 
--- src/lib.rt:338:9
 slot-of-requires : tie.Need-slot-of-requires Inv-loop μ-loop
 slot-of-requires c κs = search needs
 
--- src/lib.rt:339:9
 turns-of-requires : tie.Need-turns-of-requires Inv-loop μ-loop
 turns-of-requires c κs = search needs
 
--- src/lib.rt:340:29
 shared-slice-read-wide : tie.Need-shared-slice-read-wide Inv-loop μ-loop
 shared-slice-read-wide c = let b = slot-below (c .before .before .before .before .before .args .e) in let s = c .before .before .slot-of .ensures in let l = c .before .before .before .before .before .pre .4 .wide in omega arith
 
--- src/lib.rt:340:9
 wide-requires : tie.Need-wide-requires Inv-loop μ-loop
 wide-requires c κs = search needs
 
--- src/lib.rt:341:5
 loop-holds : tie.Need-loop-holds Inv-loop μ-loop
 loop-holds c = let a = c .before .before .before .before .before .before .args in let p = c .before .before .before .before .before .before .pre in (walk-start (a .words .now) (a .i) (a .links .now) (a .e) (p .1) (p .2) (p .4) _ _ (c .before .before .before .slot-of .ensures) (c .before .before .turns-of .ensures), c .wide .ensures)
 
--- src/lib.rt:342:17
 entry-at-requires : tie.Need-entry-at-requires Inv-loop μ-loop
 entry-at-requires c κs = let p = c .before .before .before .before .before .before .before .before .pre in let l = p .4 .low (c .before .loop .place) in let q = c .before .loop .inv .1 in let r = p .0 in omega arith
 
--- src/lib.rt:342:12
 alike-requires : tie.Need-alike-requires Inv-loop μ-loop
 alike-requires c κs = search needs
 
--- src/lib.rt:343:13
 returns : tie.Need-returns Inv-loop μ-loop
 returns c =
     let a = c .before .before .before .before .before .before .before .before .before .before .before .args in
@@ -62,19 +47,15 @@ returns c =
     let s : sameb (entryAt (a .words .now) (l .at)) (a .e) ≡ true = ap (λ (x : Entry). sameb x (a .e)) (sym (c .before .before .entry-at .ensures)) ∙ sym (c .before .alike .ensures) ∙ c .if1 .taken in
     record { found = λ _. sym (walk-hit (a .words .now) (a .i) (a .links .now) (a .e) (p .1) (p .2) (p .4) (l .place) (l .turns) (l .inv .0) (l .at) (l .inv .1) s); free = λ d. absurd (d refl) }
 
--- src/lib.rt:345:9
 fork-of-requires : tie.Need-fork-of-requires Inv-loop μ-loop
 fork-of-requires c κs = let p = c .before .before .before .before .before .before .before .before .before .before .before .pre in let l = p .4 .low (c .before .before .before .before .loop .place) in let q = c .before .before .before .before .loop .inv .1 in let r = p .2 in omega arith
 
--- src/lib.rt:347:25
 shared-slice-read-wide-2 : tie.Need-shared-slice-read-wide-2 Inv-loop μ-loop
 shared-slice-read-wide-2 c = let p = c .before .before .before .before .before .before .before .before .before .before .before .before .before .pre in let l = p .4 .low (c .before .before .before .before .before .before .loop .place) in let q = c .before .before .before .before .before .before .loop .inv .1 in let wide = p .4 .wide in let high = p .2 in let f = c .before .fork-of .ensures in omega arith
 
--- src/lib.rt:347:9
 wide-requires-2 : tie.Need-wide-requires-2 Inv-loop μ-loop
 wide-requires-2 c κs = search needs
 
--- src/lib.rt:341:5
 loop-less : tie.Need-loop-less Inv-loop μ-loop
 loop-less c =
     let a = c .before .before .before .before .before .before .before .before .before .before .before .before .before .before .args in
@@ -86,7 +67,6 @@ loop-less c =
     let r = walk-rise (a .words .now) (a .i) (a .links .now) (a .e) (p .1) (p .2) (p .4) (l .place) (l .turns) (l .inv .0) (l .at) (l .inv .1) (c .before .before .before .before .before .before .loop-test .taken) in
     omega arith
 
--- src/lib.rt:341:5
 loop-again : tie.Need-loop-again Inv-loop μ-loop
 loop-again c =
     let a = c .before .before .before .before .before .before .before .before .before .before .before .before .before .before .args in
@@ -95,7 +75,6 @@ loop-again c =
     let s : sameb (entryAt (a .words .now) (l .at)) (a .e) ≡ false = ap (λ (x : Entry). sameb x (a .e)) (sym (c .before .before .before .before .before .entry-at .ensures)) ∙ sym (c .before .before .before .before .alike .ensures) ∙ c .before .before .before .if1 .left in
     (rw (c .before .before .fork-of .ensures) (walk-step (a .words .now) (a .i) (a .links .now) (a .e) (p .1) (p .2) (p .4) (l .place) (l .turns) (l .inv .0) (l .at) (l .inv .1) (c .before .before .before .before .before .before .loop-test .taken) s), c .wide2 .ensures)
 
--- src/lib.rt:334:1
 returns-2 : tie.Need-returns-2 Inv-loop μ-loop
 returns-2 c =
     let a = c .before .before .before .before .before .before .before .before .args in

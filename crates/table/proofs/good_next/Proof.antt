@@ -1,36 +1,25 @@
-use Rattle.table.proofs.SlotLaws.{made-new, made-good, made-below, linked-next, based-next}
-use Rattle.table.proofs.KindLaws.{clash}
-use Rattle.table.specs.declared.Entry.{Entry}
-use Rattle.table.specs.Table.{entryAt, madeOk, findIn, isNothing}
+-- `table::good_next` meets its contract: the row's rule, then the place on its way. Assumes nothing.
 use borrow.Author.Tests.{not-true, not-false}
-use lib.ListN.{length-set}
 use native.Mathlib.Omega.{arith}
 use mathlib.Core.Bool.{true, false, _&&_}
 use mathlib.Core.Path.{_≡_, refl, sym, _∙_, ap}
-use Prim.Native.Nat.{_<_}
 use borrow.Author.Needs.{needs}
+use Rattle.table.proofs.SlotLaws.{made-new, made-good, made-below, linked-next, based-next}
+use Rattle.table.proofs.KindLaws.{clash}
+use Rattle.table.specs.declared.Entry.{Entry}
+use Rattle.table.specs.Table.{madeOk, findIn, isNothing}
 use Rattle.table.proofs.good_next.Statement.{statement}
 use Rattle.table.proofs.good_next.Tie as tie
-use Rattle.table.proofs.good_next.Reads as reads
-use Rattle.table.proofs.good_next.Lts as lts
-use Rattle.cast.proofs.word.Reads as word-reads
-use Rattle.table.proofs.entry_at.Reads as entry-at-reads
-use Rattle.table.proofs.free_place.Reads as free-place-reads
-use Rattle.table.proofs.made_next.Reads as made-next-reads
 
--- src/lib.rt:373:9
 entry-at-requires : tie.Need-entry-at-requires
 entry-at-requires c κs = search needs
 
--- src/lib.rt:374:9
 made-next-requires : tie.Need-made-next-requires
 made-next-requires c κs = search needs
 
--- src/lib.rt:375:9
 same-length : tie.Need-same-length
 same-length c = search needs
 
--- src/lib.rt:375:9
 returns : tie.Need-returns
 returns c =
     let a = c .before .before .before .before .before .before .before .args in
@@ -40,7 +29,6 @@ returns c =
     let s : (madeOk (a .words .now) (a .i) e && isNothing (findIn (a .words .now) (a .i) e)) ≡ false = rw m in
     (sym s ∙ made-good (a .words .now) (a .i) (p .1) e (c .before .before .before .entry-at .ensures), p .4 .wide, p .5 .long, λ z. clash z refl)
 
--- src/lib.rt:377:9
 free-place-requires : tie.Need-free-place-requires
 free-place-requires c κs =
     let a = c .before .before .before .before .before .before .before .before .args in
@@ -49,15 +37,12 @@ free-place-requires c κs =
     let high = p .2 in
     (omega arith, p .1, omega arith, made-new (a .words .now) (p .3) (c .before .before .before .before .entry-at .result) (a .i) (sym (c .before .before .made-next .ensures) ∙ not-false _ (c .before .if1 .left)), p .4)
 
--- src/lib.rt:379:9
 same-length-2 : tie.Need-same-length-2
 same-length-2 c = search needs
 
--- src/lib.rt:379:9
 same-length-3 : tie.Need-same-length-3
 same-length-3 c = search needs
 
--- src/lib.rt:379:9
 returns-2 : tie.Need-returns-2
 returns-2 c =
     let a = c .before .before .before .before .before .before .before .before .before .before .args in
@@ -68,11 +53,9 @@ returns-2 c =
     let s : (madeOk (a .words .now) (a .i) e && isNothing (findIn (a .words .now) (a .i) e)) ≡ false = rw (m, n) in
     (sym s ∙ made-good (a .words .now) (a .i) (p .1) e (c .before .before .before .before .before .before .entry-at .ensures), p .4 .wide, p .5 .long, λ z. clash z refl)
 
--- src/lib.rt:381:20
 cast-links : tie.Need-cast-links
 cast-links c = search needs
 
--- src/lib.rt:381:5
 slice-write-links : tie.Need-slice-write-links
 slice-write-links c =
     let p = c .before .before .before .before .before .before .before .before .before .before .pre in
@@ -81,11 +64,9 @@ slice-write-links c =
     let below = c .before .free-place .ensures .free (c .if2 .left) .below in
     omega arith
 
--- src/lib.rt:382:9
 word-requires : tie.Need-word-requires
 word-requires c κs = search needs
 
--- src/lib.rt:383:16
 slice-read-bases : tie.Need-slice-read-bases
 slice-read-bases c =
     let a = c .before .before .before .before .before .before .before .before .before .before .before .before .args in
@@ -96,19 +77,15 @@ slice-read-bases c =
     let q = c .before .word .ensures in
     omega arith
 
--- src/lib.rt:383:5
 slice-write-bases : tie.Need-slice-write-bases
 slice-write-bases c = search needs
 
--- src/lib.rt:369:1
 same-length-4 : tie.Need-same-length-4
 same-length-4 c = search needs
 
--- src/lib.rt:369:1
 same-length-5 : tie.Need-same-length-5
 same-length-5 c = search needs
 
--- src/lib.rt:369:1
 returns-3 : tie.Need-returns-3
 returns-3 c =
     let a = c .before .before .before .before .before .before .before .before .before .before .before .before .args in

@@ -1,6 +1,4 @@
-use Rattle.table.proofs.SlotLaws.{based-scalars}
-use Rattle.table.proofs.KindLaws.{split}
-use Rattle.table.specs.Table.{scalars, ceiling}
+-- `table::put_bases` meets its contract: the loop has written the scalars passed so far. Assumes nothing.
 use borrow.Author.Tests.{eqb-true, eqb-false}
 use lib.Dec.{eqb}
 use lib.Seq.{getD-set-same, getD-set-other}
@@ -9,10 +7,11 @@ use native.Mathlib.Omega.{arith}
 use mathlib.Core.Logic.{_≢_}
 use mathlib.Core.Path.{_≡_, _∙_, sym}
 use Prim.Native.Nat.{ℕ, _≤_, _<_, _-_}
+use Rattle.table.proofs.SlotLaws.{based-scalars}
+use Rattle.table.proofs.KindLaws.{split}
+use Rattle.table.specs.Table.{scalars, ceiling}
 use Rattle.table.proofs.put_bases.Statement.{statement}
 use Rattle.table.proofs.put_bases.Tie as tie
-use Rattle.table.proofs.put_bases.Reads as reads
-use Rattle.table.proofs.put_bases.Lts as lts
 
 abbrev Inv-loop : tie.InvT-loop
 Inv-loop bases₀ k₀ bases k = (k ≤ scalars) × (length bases ≡ ceiling) × ((j : ℕ) → j < k → getD bases j 0 ≡ j)
@@ -20,27 +19,21 @@ Inv-loop bases₀ k₀ bases k = (k ≤ scalars) × (length bases ≡ ceiling) �
 abbrev μ-loop : tie.MeasureT-loop
 μ-loop bases₀ k₀ bases k = scalars - k
 
--- src/lib.rt:408:5
 loop-holds : tie.Need-loop-holds Inv-loop μ-loop
 loop-holds c = (omega arith, c .pre, λ j l. absurd (omega arith))
 
--- src/lib.rt:409:20
 cast-bases : tie.Need-cast-bases Inv-loop μ-loop
 cast-bases c = omega arith
 
--- src/lib.rt:409:9
 slice-write-bases : tie.Need-slice-write-bases Inv-loop μ-loop
 slice-write-bases c = let l = c .before .loop .inv .1 in omega arith
 
--- src/lib.rt:410:9
 add-k : tie.Need-add-k Inv-loop μ-loop
 add-k c = omega arith
 
--- src/lib.rt:408:5
 loop-less : tie.Need-loop-less Inv-loop μ-loop
 loop-less c = omega arith
 
--- src/lib.rt:408:5
 loop-again : tie.Need-loop-again Inv-loop μ-loop
 loop-again c =
     let k = c .before .loop .k in
@@ -54,11 +47,9 @@ loop-again c =
           (λ t. let d : j ≢ k = eqb-false j k t in getD-set-other bases k j k 0 d ∙ c .before .loop .inv .2 j (omega arith)),
     )
 
--- src/lib.rt:403:1
 same-length : tie.Need-same-length Inv-loop μ-loop
 same-length c = c .before .loop .inv .1 ∙ sym (c .before .before .pre)
 
--- src/lib.rt:403:1
 returns : tie.Need-returns Inv-loop μ-loop
 returns c = λ w. based-scalars w _ (c .before .loop .inv .1) (λ k l. c .before .loop .inv .2 k (omega arith))
 

@@ -1,31 +1,23 @@
-use Rattle.table.proofs.SlotLaws.{zeros, linked-none}
+-- `table::rest_sorted` meets its contract: its places are free. Assumes nothing.
 use mathlib.Core.Path.{refl}
 use borrow.Author.Needs.{needs}
+use Rattle.table.proofs.SlotLaws.{zeros, linked-none}
 use Rattle.table.proofs.rest_sorted.Statement.{statement}
 use Rattle.table.proofs.rest_sorted.Tie as tie
-use Rattle.table.proofs.rest_sorted.Reads as reads
-use Rattle.table.proofs.rest_sorted.Lts as lts
-use Rattle.table.proofs.put_bases.Reads as put-bases-reads
-use Rattle.table.proofs.rest_good.Reads as rest-good-reads
 
--- src/lib.rt:420:9
 slice-aggregate-links : tie.Need-slice-aggregate-links
 slice-aggregate-links c = search needs
 
--- src/lib.rt:422:9
 slice-aggregate-bases : tie.Need-slice-aggregate-bases
 slice-aggregate-bases c = search needs
 
--- src/lib.rt:423:5
 put-bases-requires : tie.Need-put-bases-requires
 put-bases-requires c κs = search needs
 
--- src/lib.rt:424:5
 rest-good-requires : tie.Need-rest-good-requires
 unfolding zeros
 rest-good-requires c κs = let p = c .before .before .before .before .before .before .before .pre in (p .0, p .1, p .2, p .3, linked-none (c .before .before .before .before .before .before .before .args .words .now) _ refl refl, c .before .before .put-bases .ensures (c .before .before .before .before .before .before .before .args .words .now))
 
--- src/lib.rt:415:1
 returns : tie.Need-returns
 returns c = search needs
 

@@ -28,7 +28,7 @@ wordEnd = 4294967296
 abbrev pub slotWidth : ℕ
 slotWidth = 8388608
 
--- the slot of an entry: any number below `slots` that its four words give. These mix all their bits, so that counts in even steps fall apart
+-- the slot of an entry: any number below `slots` that its four words give. All their bits are mixed, and squared, so that counts in even steps fall apart
 unfoldable pub mixed : Entry → ℕ
 mixed e = (e .p + (e .elem * 64 + e .kind * 4 + e .q) % wordEnd * 2654435761) % wordEnd
 
