@@ -12,11 +12,11 @@ use Rattle.table.proofs.Giving.{gave-whole}
 use Rattle.answer.specs.declared.Reason.the-variants.{Unsound, Framing}
 use Rattle.answer.specs.declared.Place.{Place}
 use Rattle.answer.specs.declared.Answer.{Answer}
-use Rattle.frame.specs.Frame.{itemAt, isItem, itemsFrom, nameOf, namePart, Within, version, headerSize, headerOk}
+use Rattle.frame.specs.Frame.{itemAt, isItem, itemsFrom, version, headerSize, headerOk}
 use Rattle.frame.specs.declared.Item.{Item}
 use Rattle.frame.specs.declared.Item.the-variants.{Push, Unary, Binary, Call, CallTemplate, Take, End, Bad}
 use Rattle.frame.specs.declared.Placed.{Placed}
-use Rattle.frame.proofs.FrameLaws.{framed, name-within, own-place}
+use Rattle.frame.proofs.FrameLaws.{framed, own-place}
 use Rattle.frame.proofs.ItemsLaws.{items-from}
 use Rattle.sheet.specs.declared.Turn.the-variants as turn
 use Rattle.step.specs.Effect.{most, State, Effect, goes, silent, ends, stops, effectOf}
@@ -79,11 +79,6 @@ module _ (s : List ℕ) (at : ℕ) (st : State) where
   -- the next place lies after this one and within the sheet
   pub run-forward : (st' : State) → turnOf s (itemAt s at) st ≡ more st' → (at < itemAt s at .next .0) × (itemAt s at .next .0 ≤ length s)
   run-forward st' h = let f = framed s at (turn-item s (itemAt s at) st st' h) in (f .after, f .within)
-
--- the name of what stands at a place lies within the sheet
-pub name-in : (s : List ℕ) (at : ℕ) → Within (length s) (nameOf (itemAt s at .item))
-unfolding namePart
-name-in s at = name-within s at
 
 -- THE LOOP, over the first values of a slice: before every turn, what is left of the items gives what the whole sheet gives
 

@@ -122,7 +122,7 @@ returns-7 c = rw (c .enum-told .given .1) (record { effect = refl; counted = c .
 
 returns-8 : tie.Need-returns-8
 unfolding effectOf
-returns-8 c = let a = c .before .before .before .before .before .before .args in rw (c .before .enum-told2 .given .1) (refusing (a .place) (a .count) (a .stack .now) (a .used) (a .table .now) Framing (c .stopped .ensures) refl)
+returns-8 c = let a = c .before .before .before .before .before .before .args in rw (c .before .enum-told2 .given .1) (refusing (a .at) (a .count) (a .stack .now) (a .used) (a .table .now) Framing (c .stopped .ensures) refl)
 
 pub step-spec : {M : Type 1} → statement M
 step-spec =
