@@ -24,7 +24,7 @@ use Rattle.sheet.specs.Machine.{after, more, done, turnOf, onward, runIt
 use Rattle.step.specs.Code.{stateOf, Good, Ready}
 use Rattle.memo.specs.Quick.{WentAt, QuickAt}
 use Rattle.sheet.specs.Code.{turnBy, TurnCounted, Turns, Rushes}
-use Rattle.step.specs.Kept.{Grew}
+use Rattle.step.specs.Kept.{Grew, Needed}
 use Rattle.sheet.specs.declared.Rushed.{Rushed}
 use Rattle.step.proofs.Keeping.{item-kept}
 
@@ -56,8 +56,8 @@ module _ (s : List ℕ) (x : Placed) (st st' : State) (h : turnOf s x st ≡ mor
   pub turn-item : isItem (x .item) ≡ true
   turn-item = goes-item s (x .at .0) st st' (x .item) turn-goes-on
 
-  -- and leaves a good state, in which every earlier entry stands
-  pub turn-kept : Good st → Good st' × Grew (st .words) (st .used) (st' .words) (st' .used)
+  -- and leaves a good state, in which every earlier entry stands; what it added its result needs
+  pub turn-kept : Good st → Good st' × Grew (st .words) (st .used) (st' .words) (st' .used) × Needed st st'
   turn-kept g = rw turn-goes-on at (item-kept (x .at .0) st g s (x .item))
 
 -- THE RUN from a place on
