@@ -15,7 +15,7 @@ use step::VALUES;
 use table::Place;
 use table::TypeNo;
 ghost use mathlib.Core.Path.{_≡_};
-ghost use Prim.Native.Nat.{_<_, _≤_, _^_};
+ghost use Prim.Native.Nat.{_+_, _<_, _≤_, _^_};
 ghost use lib.ListN.{length};
 ghost use Rattle.frame.specs.Frame.{kindPush};
 ghost use Rattle.frame.specs.inner.Items.{sheetOf, LiesIn, NameIn};
@@ -62,12 +62,12 @@ pub struct Key {
 
 // THE MEMO
 
-// The slot of a key. Any would do: a slot says itself what it holds.
+// The first of the two slots of a key. Any would do: a slot says itself what it holds.
 fn slot_of(key: u64) -> usize
     requires { ⌜ key < 2 ^ 32 ⌝ }
-    ensures { λ r. ⌜ r < 256 ⌝ }
+    ensures { λ r. ⌜ r + 1 < 256 ⌝ }
 {
-    (key * 2654435761 / 16777216 % 256) as usize
+    (key * 2654435761 / 33554432 % 128 * 2) as usize
 }
 
 // The value that the memo has for a key, or NOTHING.
@@ -75,19 +75,25 @@ fn recall(memo: &[u64], key: u64) -> u32
     requires { ⌜ (length (now memo) ≡ 256) × (key < 2 ^ 32) ⌝ }
     ensures { λ r. ⌜ Recalled (now (memo .entry)) key r ⌝ }
 {
-    let v = memo[slot_of(key)];
+    let i = slot_of(key);
+    let v = memo[i];
     if v / 256 == key {
         return (v % 256) as u32;
+    }
+    let u = memo[i + 1];
+    if u / 256 == key {
+        return (u % 256) as u32;
     }
     NOTHING
 }
 
-// Notes the value for a key.
+// Notes the value for a key in its first slot; what that had moves to the second.
 fn note(memo: &mut [u64], key: u64, t: u32)
     requires { ⌜ (length (now memo) ≡ 256) × (key < 2 ^ 32) × (t < 256) ⌝ }
     ensures { λ _. ⌜ Noted (now (memo .entry)) key t (now (memo .exit)) ⌝ }
 {
     let i = slot_of(key);
+    memo[i + 1] = memo[i];
     memo[i] = key * 256 + word64(t);
 }
 
