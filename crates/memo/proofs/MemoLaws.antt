@@ -38,8 +38,8 @@ use Rattle.call_ty.proofs.Lists.{types-formed}
 use Rattle.call_ty.proofs.Ends.{Ends, rule-call-ends}
 use Rattle.call_ty.proofs.Ends.Ends.{refused, silent, valued}
 use Rattle.step.specs.Kept.{Grew}
-use Rattle.memo.specs.Memo.{slots, nothing, Question, codeOf, On, typed, Gives, keyUp, keyOf, slotOf, Holds, Recalls, Recalled, Noted}
-use Rattle.memo.specs.Memo.Question.{binary, unary, builtin}
+use Rattle.memo.specs.inner.Memo.{slots, nothing, Question, codeOf, On, typed, Gives, keyUp, keyOf, slotOf, Holds, Recalls, Recalled, Noted}
+use Rattle.memo.specs.inner.Memo.Question.{binary, unary, builtin}
 
 impossible : {P : Type 0} → _≡_ {A = ℕ} 0 1 → P
 impossible e = absurd (omega arith)

@@ -13,11 +13,11 @@ use Rattle.frame.specs.declared.Item.{Item}
 use Rattle.frame.specs.declared.Item.the-variants.{Unary, Binary}
 use Rattle.ops_ty.specs.Ops.{unaryOps, binaryOps}
 use Rattle.step.specs.Effect.{most, State, goes, effectOf}
-use Rattle.step.specs.Code.{stateOf, Ready, effectBy}
+use Rattle.step.specs.inner.Code.{stateOf, Ready, effectBy}
 use Rattle.step.proofs.Effects.{push-does}
-use Rattle.memo.specs.Memo.{nothing, Recalls, Recalled}
-use Rattle.memo.specs.Asking.{AskedBy, Asks, Keyed}
-use Rattle.memo.specs.Quick.{AsksShort, Quick, QuickAt}
+use Rattle.memo.specs.inner.Memo.{nothing, Recalls, Recalled}
+use Rattle.memo.specs.inner.Asking.{AskedBy, Asks, Keyed}
+use Rattle.memo.specs.inner.Quick.{AsksShort, Quick, QuickAt}
 use Rattle.memo.proofs.Asking.{binary-asks, unary-asks, base-room, recalled-does}
 
 impossible : {P : Type 0} → _≡_ {A = ℕ} 0 1 → P

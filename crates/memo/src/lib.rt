@@ -22,10 +22,10 @@ ghost use Rattle.frame.specs.inner.Items.{sheetOf, LiesIn, NameIn};
 ghost use Rattle.frame.specs.declared.Item.the-variants.{Call};
 ghost use Rattle.call_ty.specs.Codes.{Under};
 ghost use Rattle.step.specs.Effect.{effectOf};
-ghost use Rattle.step.specs.Code.{stateOf, Ready, Does};
-ghost use Rattle.memo.specs.Memo.{keyOf, Recalls, Recalled, Noted, Leaves, NotedStep, AfterStep};
-ghost use Rattle.memo.specs.Asking.{Small, Coded, Asks, Keyed};
-ghost use Rattle.memo.specs.Quick.{AsksShort, Quick, QuickAt};
+ghost use Rattle.step.specs.inner.Code.{stateOf, Ready, Does};
+ghost use Rattle.memo.specs.inner.Memo.{keyOf, Recalls, Recalled, Noted, Leaves, NotedStep, AfterStep};
+ghost use Rattle.memo.specs.inner.Asking.{Small, Coded, Asks, Keyed};
+ghost use Rattle.memo.specs.inner.Quick.{AsksShort, Quick, QuickAt};
 
 // How many values the memo holds, and what it answers where it has none.
 pub const SLOTS: usize = 256;

@@ -23,7 +23,7 @@ use Rattle.frame.specs.Frame.{version, headerSize, headerOk, itemsFrom}
 use Rattle.frame.specs.declared.Placed.{Placed}
 use Rattle.step.specs.Effect.{State, height, Effect, goes, silent, ends, stops, effectOf}
 use Rattle.sheet.specs.Machine.{endAnswer, leftAnswer, after, Turned, more, done, turnOf, onward, runItems, begun, typeSheet}
-use Rattle.step.specs.Code.{Good}
+use Rattle.step.specs.inner.Code.{Good}
 use Rattle.step.specs.Kept.{Grew, resultOf, Needed}
 use Rattle.sheet.specs.Kept.{further, reached, AddedBy}
 use Rattle.sheet.specs.Kept.Accepted.{first, later}

@@ -21,9 +21,9 @@ use Rattle.frame.proofs.ItemsLaws.{items-from}
 use Rattle.sheet.specs.declared.Turn.the-variants as turn
 use Rattle.step.specs.Effect.{most, State, Effect, goes, silent, ends, stops, effectOf}
 use Rattle.sheet.specs.Machine.{after, more, done, turnOf, onward, runItems, begun, typeSheet}
-use Rattle.step.specs.Code.{stateOf, Good, Ready}
-use Rattle.memo.specs.Quick.{WentAt, QuickAt}
-use Rattle.sheet.specs.Code.{turnBy, TurnCounted, Turns, Rushes}
+use Rattle.step.specs.inner.Code.{stateOf, Good, Ready}
+use Rattle.memo.specs.inner.Quick.{WentAt, QuickAt}
+use Rattle.sheet.specs.inner.Code.{turnBy, TurnCounted, Turns, Rushes}
 use Rattle.step.specs.Kept.{Grew, Needed}
 use Rattle.sheet.specs.declared.Rushed.{Rushed}
 use Rattle.step.proofs.Keeping.{item-kept}

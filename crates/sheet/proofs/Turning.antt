@@ -21,10 +21,10 @@ use Rattle.step.specs.declared.Did.the-variants as did
 use Rattle.sheet.specs.declared.Turn.{Turn}
 use Rattle.sheet.specs.declared.Turn.the-variants as turn
 use Rattle.step.specs.Effect.{most, State, effectOf}
-use Rattle.memo.specs.Memo.{AfterStep}
+use Rattle.memo.specs.inner.Memo.{AfterStep}
 use Rattle.sheet.specs.Machine.{endAnswer, leftAnswer, after, more, done, turnOf}
-use Rattle.step.specs.Code.{stateOf, effectBy, Counted, Does}
-use Rattle.sheet.specs.Code.{turnBy, TurnCounted, TurnsBy, Turns, AfterTurn}
+use Rattle.step.specs.inner.Code.{stateOf, effectBy, Counted, Does}
+use Rattle.sheet.specs.inner.Code.{turnBy, TurnCounted, TurnsBy, Turns, AfterTurn}
 use Rattle.step.proofs.StackLaws.{sized}
 
 -- a call without value, test by test

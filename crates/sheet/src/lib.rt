@@ -15,9 +15,9 @@ ghost use Rattle.table.specs.Placing.{Gave};
 ghost use Rattle.frame.specs.Frame.{headerSize, itemAt, itemsFrom};
 ghost use Rattle.frame.specs.inner.Items.{sheetOf};
 ghost use Rattle.sheet.specs.Machine.{endAnswer, leftAnswer, turnOf, runItems, begun, typeSheet};
-ghost use Rattle.memo.specs.Memo.{Recalls};
-ghost use Rattle.step.specs.Code.{stateOf, Ready, Counted};
-ghost use Rattle.sheet.specs.Code.{TurnsBy, Turns, AfterTurn, Rushes};
+ghost use Rattle.memo.specs.inner.Memo.{Recalls};
+ghost use Rattle.step.specs.inner.Code.{stateOf, Ready, Counted};
+ghost use Rattle.sheet.specs.inner.Code.{TurnsBy, Turns, AfterTurn, Rushes};
 
 // A call's name, as that part of the lent sheet.
 pub use frame::call_name;

@@ -29,7 +29,7 @@ use Rattle.call_ty.specs.Calls.{callOutcome}
 use Rattle.call_ty.proofs.Demand1.{call-at-kept}
 use Rattle.call_ty.specs.Codes.{Under}
 use Rattle.step.specs.Effect.{most, State, height, operands, below, Effect, goes, silent, ends, stops, stop, pushed, onto, having, holding, pushEffect, unaryEffect, binaryEffect, calling, callEffect, templateEffect, takeEffect, effectOf, entryOf, bytesOf}
-use Rattle.step.specs.Code.{Good}
+use Rattle.step.specs.inner.Code.{Good}
 use Rattle.step.specs.Kept.{Grew, resultOf, Needed}
 use Rattle.step.proofs.StackLaws.{under-take, under-drop}
 use Rattle.step.proofs.Answers.{no-operand}

@@ -14,14 +14,21 @@ ghost use mathlib.Core.Path.{_≡_};
 ghost use mathlib.Core.List.{map};
 ghost use Prim.Native.Nat.{_<_, _≤_};
 ghost use lib.ListN.{length};
+ghost use Rattle.table.specs.Table.{Sound};
 ghost use Rattle.table.specs.Denote.{typeAt};
+ghost use Rattle.table.specs.Placing.{Gave};
 ghost use Rattle.frame.specs.inner.Items.{sheetOf, LiesIn, NameIn};
 ghost use Rattle.call_ty.specs.Codes.{Under};
-ghost use Rattle.step.specs.Effect.{bytesOf, entryOf, pushEffect, unaryEffect, binaryEffect, calling, callEffect, templateEffect, takeEffect, effectOf};
-ghost use Rattle.step.specs.Code.{stateOf, turnedAway, Ready, Pushes, Settles, Does};
+ghost use Rattle.step.specs.Effect.{bytesOf, entryOf, pushEffect, calling, callEffect, templateEffect, takeEffect, effectOf};
+ghost use Rattle.step.specs.inner.Code.{stateOf, turnedAway, Arity, operatorOutcome, operatorEffect, Ready, Pushes, Settles, Does};
 
 // How many values the stack holds.
 pub const VALUES: usize = 64;
+
+// How many operands an operator has.
+const UNARY: usize = 1;
+
+const BINARY: usize = 2;
 
 // What an item did: it left so many values and entries; it was a call without value; the items ended; or it was refused.
 pub enum Did {
@@ -81,30 +88,38 @@ fn push(ty: TypeNo, at: Place, stack: &mut [u32], count: usize, table: &[u32], u
     }
 }
 
-fn unary(op: u8, at: Place, stack: &mut [u32], count: usize, table: &mut [u32], used: usize) -> Did
-    requires { ⌜ Ready count (now stack) used (now table) ⌝ }
-    ensures { λ r. ⌜ Does (unaryEffect (at .0) (stateOf count (now (stack .entry)) used (now (table .entry))) op) r (now (stack .exit)) (now (table .exit)) ⌝ }
+// The answer of an operator on the operands that are lent: a unary one on one, a binary one on two.
+fn operator_at(op: u8, at: Place, args: &[u32], table: &mut [u32], used: usize) -> Answer
+    requires { ⌜ Sound (now table) used × Under used (now args) × Arity (length (now args)) ⌝ }
+    ensures { λ r. ⌜ Gave (operatorOutcome (at .0) (now (table .entry)) used op (map (typeAt (now (table .entry))) (now (args .entry)))) r (now (table .exit)) ⌝ }
 {
-    if count < 1 {
-        return stopped(Reason::Stack, at, used);
+    let op = wide(op);
+    let a = held::number(args[0]);
+    if args.len() == UNARY {
+        return ops_ty::unary_at(table, used, at, op, a);
     }
-    let base = count - 1;
-    let a = held::number(stack[base]);
-    let r = ops_ty::unary_at(table, used, at, wide(op), a);
-    settle(stack, base, r)
+    let b = held::number(args[1]);
+    ops_ty::binary_at(table, used, at, op, a, b)
 }
 
-fn binary(op: u8, at: Place, stack: &mut [u32], count: usize, table: &mut [u32], used: usize) -> Did
-    requires { ⌜ Ready count (now stack) used (now table) ⌝ }
-    ensures { λ r. ⌜ Does (binaryEffect (at .0) (stateOf count (now (stack .entry)) used (now (table .entry))) op) r (now (stack .exit)) (now (table .exit)) ⌝ }
+// An operator on the last k values.
+fn operator(
+    op: u8,
+    k: usize,
+    at: Place,
+    stack: &mut [u32],
+    count: usize,
+    table: &mut [u32],
+    used: usize,
+) -> Did
+    requires { ⌜ Ready count (now stack) used (now table) × Arity k ⌝ }
+    ensures { λ r. ⌜ Does (operatorEffect k (at .0) (stateOf count (now (stack .entry)) used (now (table .entry))) op) r (now (stack .exit)) (now (table .exit)) ⌝ }
 {
-    if count < 2 {
+    if count < k {
         return stopped(Reason::Stack, at, used);
     }
-    let base = count - 2;
-    let a = held::number(stack[base]);
-    let b = held::number(stack[base + 1]);
-    let r = ops_ty::binary_at(table, used, at, wide(op), a, b);
+    let base = count - k;
+    let r = operator_at(op, at, &stack[base..count], table, used);
     settle(stack, base, r)
 }
 
@@ -227,8 +242,8 @@ pub fn step(
 {
     match item {
         Item::Push(t) => push(t, at, stack, count, table, used),
-        Item::Unary(op) => unary(op, at, stack, count, table, used),
-        Item::Binary(op) => binary(op, at, stack, count, table, used),
+        Item::Unary(op) => operator(op, UNARY, at, stack, count, table, used),
+        Item::Binary(op) => operator(op, BINARY, at, stack, count, table, used),
         Item::Call { count: k, name } => call(items, name, k, at, stack, count, table, used),
         Item::CallTemplate {
             template,

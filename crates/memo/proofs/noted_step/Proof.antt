@@ -1,6 +1,6 @@
 -- `memo::noted_step` meets its contract: a value that the memo has is the one that typing gives, and what typing gave may be noted. Assumes nothing.
 use Rattle.memo.proofs.Asking.{ready-small, asks-coded, key-small, base-room, recalls-step, recalled-does, step-leaves, step-noted}
-use Rattle.memo.specs.Memo.{AfterStep}
+use Rattle.memo.specs.inner.Memo.{AfterStep}
 use native.Mathlib.Omega.{arith}
 use mathlib.Core.Path.{_∙_}
 use Rattle.frame.specs.inner.Items.{sheetOf}

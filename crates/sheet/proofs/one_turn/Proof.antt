@@ -1,5 +1,5 @@
 use Rattle.sheet.proofs.Turning.{turn-at, after-turn}
-use Rattle.step.specs.Code.{stateOf}
+use Rattle.step.specs.inner.Code.{stateOf}
 use Rattle.frame.proofs.Parts.{whole-length, name-in}
 use Rattle.frame.specs.inner.Items.{sheetOf}
 -- `sheet::one_turn` meets its contract: what the step did decides the turn. Assumes nothing.

@@ -5,8 +5,8 @@ use mathlib.Core.Path.{sym, _∙_}
 use native.Mathlib.Omega.{arith}
 use Rattle.frame.specs.inner.Items.{sheetOf}
 use borrow.Author.Needs.{needs}
-use Rattle.memo.specs.Memo.{Recalls}
-use Rattle.sheet.specs.Code.{AfterTurn}
+use Rattle.memo.specs.inner.Memo.{Recalls}
+use Rattle.sheet.specs.inner.Code.{AfterTurn}
 use Rattle.sheet.proofs.Running.{Left, left-start, left-rushed, left-again, left-less, left-done}
 use Rattle.sheet.proofs.run_on.Statement.{statement}
 use Rattle.sheet.proofs.run_on.Tie as tie

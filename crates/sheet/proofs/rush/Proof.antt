@@ -7,7 +7,7 @@ use Rattle.frame.specs.inner.Items.{sheetOf}
 use Rattle.frame.proofs.Parts.{whole-length}
 use borrow.Author.Needs.{needs}
 use native.Mathlib.Omega.{arith}
-use Rattle.sheet.specs.Code.{Rushes}
+use Rattle.sheet.specs.inner.Code.{Rushes}
 use Rattle.sheet.proofs.Running.{quick-stays, quick-went, rush-on}
 use Rattle.sheet.proofs.rush.Statement.{statement}
 use Rattle.sheet.proofs.rush.Tie as tie

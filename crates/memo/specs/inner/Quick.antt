@@ -8,8 +8,8 @@ use Rattle.frame.specs.Frame.{itemAt}
 use Rattle.frame.specs.inner.Items.{itemOf}
 use Rattle.frame.specs.declared.Short.{Short}
 use Rattle.step.specs.Effect.{most, goes, effectOf}
-use Rattle.step.specs.Code.{stateOf}
-use Rattle.memo.specs.Asking.{Asks}
+use Rattle.step.specs.inner.Code.{stateOf}
+use Rattle.memo.specs.inner.Asking.{Asks}
 
 -- what it asks, in whatever sheet
 pub record AsksShort (x : Short) (code k : ℕ) : Type 0 where
