@@ -1,17 +1,23 @@
 -- What the code goes by: a stack is the first values of a lent slice. Assumes nothing.
 use Prim.Native.Nat.{ℕ, _≤_, _<_, _^_}
 use mathlib.Core.Path.{_≡_}
+use mathlib.Core.Bool.{cond}
 use mathlib.Core.List.{List}
 use lib.ListN.{length, take}
+use lib.Dec.{eqb}
+use Rattle.conv.specs.Types.{Ty}
 use Rattle.table.specs.Table.{Sound}
 use Rattle.answer.specs.declared.Place.{Place}
 use Rattle.answer.specs.declared.Reason.{Reason}
 use Rattle.answer.specs.declared.Answer.{Answer}
 use Rattle.answer.specs.declared.Answer.the-variants.{Value, NoValue, Refused}
+use Rattle.table.specs.Placing.{Outcome}
+use Rattle.ops_ty.specs.Ops.{unaryOutcome, binaryOutcome}
+use Rattle.call_ty.specs.Calls.{firstIn, secondIn}
 use Rattle.call_ty.specs.Codes.{Under}
 use Rattle.step.specs.declared.Did.{Did}
 use Rattle.step.specs.declared.Did.the-variants as did
-use Rattle.step.specs.Effect.{most, State, Effect, goes, silent, ends, stops, onto}
+use Rattle.step.specs.Effect.{most, State, Effect, goes, silent, ends, stops, onto, unaryEffect, binaryEffect}
 
 -- the state of a slice of values of which the first are the stack
 abbrev pub stateOf : ℕ → List ℕ → ℕ → List ℕ → State
@@ -28,6 +34,16 @@ pub record Ready (count : ℕ) (vals : List ℕ) (used : ℕ) (words : List ℕ)
   pub size : length vals ≡ most
   pub fits : count ≤ most
   pub good : Good (stateOf count vals used words)
+
+-- OPERATORS by the count of their operands: one or two
+abbrev pub Arity : ℕ → Type 0
+Arity k = (1 ≤ k) × (k ≤ 2)
+
+unfoldable pub operatorOutcome : ℕ → List ℕ → ℕ → ℕ → List Ty → Outcome
+operatorOutcome place w n op us = cond (eqb (length us) 1) (unaryOutcome place w n op (firstIn us)) (binaryOutcome place w n op (firstIn us) (secondIn us))
+
+unfoldable pub operatorEffect : ℕ → ℕ → State → ℕ → Effect
+operatorEffect k place st op = cond (eqb k 1) (unaryEffect place st op) (binaryEffect place st op)
 
 -- an answer whose value can be pushed over the values below
 abbrev pub Pushes : ℕ → Answer → Type 0

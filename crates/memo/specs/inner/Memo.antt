@@ -5,7 +5,7 @@ use Prim.Native.Nat.{ℕ, zero, suc, _+_, _-_, _*_, _<_, _≤_}
 use mathlib.Core.Path.{_≡_}
 use mathlib.Core.Logic.{_⊎_}
 use mathlib.Core.List.{List, [], map}
-use lib.ListN.{length, getD, set}
+use lib.ListN.{length, getD}
 use Rattle.conv.specs.Types.{Ty}
 use Rattle.table.specs.Denote.{typeAt}
 use Rattle.table.specs.Placing.{Outcome, entering}
@@ -75,11 +75,10 @@ pub record Recalls (memo w : List ℕ) (n : ℕ) : Type 0 where
 pub record Recalled (memo : List ℕ) (key r : ℕ) : Type 0 where
   pub found : (r ≡ nothing) ⊎ ((r < 256) × ((i : ℕ) × (i < slots) × (getD memo i 0 ≡ slotOf key r)))
 
--- what a note promises: one slot has it, and every other is as it was
+-- what a note promises: a slot has it, or what some slot had
 pub record Noted (memo : List ℕ) (key t : ℕ) (after : List ℕ) : Type 0 where
-  pub slot : ℕ
-  pub below : slot < slots
-  pub words : after ≡ set memo slot (slotOf key t)
+  pub size : length after ≡ length memo
+  pub each : (i : ℕ) → i < slots → (getD after i 0 ≡ slotOf key t) ⊎ ((j : ℕ) × (j < slots) × (getD after i 0 ≡ getD memo j 0))
 
 -- what an item left is a value of the slice, below 256; and what noting it promises
 unfoldable pub Leaves : Did → List ℕ → Type 0

@@ -6,7 +6,7 @@ use mathlib.Core.List.{List, map}
 use lib.ListN.{length, getD, take, drop}
 use Rattle.frame.specs.declared.Item.{Item}
 use Rattle.step.specs.Effect.{most, State, height, operands, below, typeOf, onto, effectOf}
-use Rattle.memo.specs.Memo.{Question, codeOf, On, typed, keyOf}
+use Rattle.memo.specs.inner.Memo.{Question, codeOf, On, typed, keyOf}
 
 -- the values of the stack are bytes, as the numbers of a table of 256 entries are
 pub record Small (count : ℕ) (vals : List ℕ) : Type 0 where

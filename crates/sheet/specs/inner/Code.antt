@@ -5,8 +5,8 @@ use mathlib.Core.List.{List}
 use lib.ListN.{length}
 use Rattle.step.specs.declared.Did.{Did}
 use Rattle.step.specs.Effect.{most}
-use Rattle.step.specs.Code.{stateOf, effectBy, Ready}
-use Rattle.memo.specs.Memo.{Recalls}
+use Rattle.step.specs.inner.Code.{stateOf, effectBy, Ready}
+use Rattle.memo.specs.inner.Memo.{Recalls}
 use Rattle.frame.specs.Frame.{itemsFrom}
 use Rattle.sheet.specs.declared.Turn.{Turn}
 use Rattle.sheet.specs.declared.Turn.the-variants as turn
