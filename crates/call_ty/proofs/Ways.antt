@@ -11,7 +11,7 @@ use borrow.Author.Tests.{lt-ltb, le-ltb, eq-eqb, ne-eqb, eqb-true}
 use Rattle.conv.specs.Types.{Ty, u32}
 use Rattle.conv.specs.Types.Ty.{scalar}
 use Rattle.overload.specs.Rows.{judgeRow, rowAt}
-use Rattle.overload.specs.Code.{operand, codeOf}
+use Rattle.overload.specs.inner.Code.{operand, codeOf}
 use Rattle.overload.proofs.Operands.{and-left, allFormed, codesOf, judge-types}
 use Rattle.names.specs.Names.{overloadRows, ruleBitcast, ruleArrayLength, ruleLdexp}
 use Rattle.names.specs.Names.Known.{known, unknown}
