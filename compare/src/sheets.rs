@@ -3,11 +3,11 @@
 //! The machine is ours, for the crate has none. It is the plainest there is: a `Vec` of the crate's types, and a call into the crate for each item.
 
 use crate::call_ty::type_builtin_fn;
-use crate::ops_ty::{type_binary_op, type_unary_op};
 use crate::case::{Answer, Case, Operation};
+use crate::ops_ty::{type_binary_op, type_unary_op};
 use crate::oracle::{binary_operator, from_rust, to_rust, unary_operator};
-use crate::standard::Standard;
 use crate::ours::table::Table;
+use crate::standard::Standard;
 use crate::tplt::TpltParam;
 use crate::ty::Type;
 use crate::types::WType;

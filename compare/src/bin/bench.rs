@@ -263,7 +263,11 @@ fn hard() {
             black_box(rust_call(Operation::Binary(2), black_box(&operands)));
         };
         let mut ours = || {
-            black_box(side::call(&mut table, Operation::Binary(2), &[number, number]));
+            black_box(side::call(
+                &mut table,
+                Operation::Binary(2),
+                &[number, number],
+            ));
         };
         let ours: Option<&mut dyn FnMut()> = if side::IS { Some(&mut ours) } else { None };
         let what = format!("`f32 + f32`, arrays of {step} * i");
