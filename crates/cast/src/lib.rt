@@ -22,13 +22,6 @@ pub fn wide64(byte: u8) -> u64
     byte as u64
 }
 
-// A link as an index.
-pub fn half(link: u16) -> usize
-    ensures { λ r. ⌜ r ≡ link ⌝ }
-{
-    link as usize
-}
-
 // A word of a table as an index.
 pub fn word(value: u32) -> usize
     ensures { λ r. ⌜ r ≡ value ⌝ }
