@@ -6,6 +6,7 @@ pub mod Listing
 pub mod ListedOnce
 pub mod Places
 pub mod Found
+pub mod Counts
 pub mod Demand3
 pub mod Joins
 pub mod Resolving

@@ -1,4 +1,4 @@
--- No second answer meets the promise of `resolve`: where a row gives a type its number is the one that stands for it, and 8 and 13 are told apart.
+-- No second answer meets the promise of `operand_count` or of `resolve`: where a row gives a type its number is the one that stands for it, and 8 and 13 are told apart.
 -- Assumes nothing.
 use Prim.Native.Nat.{ℕ, _/_, _%_, _<_, _≤_}
 use native.Mathlib.Omega.{arith}
@@ -14,7 +14,7 @@ use Rattle.conv.specs.Rank.Shape.{one, vector, matrix, other}
 use Rattle.conv.proofs.Finite.{below}
 use Rattle.conv.proofs.Made.{shape-made, component-made}
 use Rattle.overload.specs.Overload.Judged.{gives}
-use Rattle.overload.specs.Rows.{judgeRow, rowAt}
+use Rattle.overload.specs.Rows.{judgeRow, rowAt, operandCount}
 use Rattle.overload.specs.Code.{shapeOfNo, shapeNo, operand, codeOf, outOf, judgedOf}
 use Rattle.overload.specs.declared.Out.{Out}
 use Rattle.overload.specs.declared.Out.the-variants.{Plain, Frexp, Modf}
@@ -119,3 +119,6 @@ resolve-one row xs NoneFits NonePreferred p q = absurd (let e = p ∙ sym q in l
 resolve-one row xs NonePreferred (Gives b) p q = absurd (let e = p ∙ sym q in let z : _≡_ {A = ℕ} 0 1 = cc in omega arith)
 resolve-one row xs NonePreferred NoneFits p q = absurd (let e = p ∙ sym q in let z : _≡_ {A = ℕ} 0 1 = cc in omega arith)
 resolve-one row xs NonePreferred NonePreferred p q = refl
+
+pub operand-count-one : (row r s : ℕ) → r ≡ operandCount (rowAt row) → s ≡ operandCount (rowAt row) → r ≡ s
+operand-count-one row r s p q = p ∙ sym q

@@ -5,7 +5,7 @@ use mathlib.Core.Logic.{_≢_}
 use mathlib.Core.Bool.{cond}
 use lib.Dec.{T, eqb}
 use mathlib.Core.List.{List, [], _∷_, _++_, map}
-use lib.ListN.{getD}
+use lib.ListN.{getD, length}
 use Rattle.conv.specs.Types.{Ty, bool, abstractInt, abstractFloat, i32, u32, f32, f16, handle, formed}
 use Rattle.conv.specs.Types.Ty.{scalar, vec, mat, array, runtime, atomic, ptr, ref, frexp, modf}
 use Rattle.conv.specs.Rank.{Shape, columnsOf, rowsOf, made}
@@ -390,6 +390,14 @@ overloadsOf r = ofFamilies (r .families)
 
 abbrev pub ofRow : Row → Overload → Type 0
 ofRow r = listed (overloadsOf r)
+
+-- how many parameters the overloads of a row have: as many as those of its first family, since all have one count (`one-count` in `proofs/Counts.antt`)
+unfoldable pub headCount : List Family → ℕ
+headCount [] = 0
+headCount (f ∷ fs) = length (f .params)
+
+abbrev pub operandCount : Row → ℕ
+operandCount r = headCount (r .families)
 
 -- UNARY `&` AND `*`: described, not listed. One overload for each reference type, not in space handle, to the pointer; one for each pointer type, to the reference
 

@@ -12,7 +12,7 @@ ghost use lib.ListN.{length};
 ghost use lib.Dec.{eqb};
 ghost use Rattle.conv.specs.Rank.{pick, both, none, converts, formOf, accepts};
 ghost use Rattle.overload.specs.Overload.{Resolved};
-ghost use Rattle.overload.specs.Rows.{ofRow, patternTy, wrapped, judgeRow, rowAt};
+ghost use Rattle.overload.specs.Rows.{ofRow, patternTy, wrapped, judgeRow, rowAt, operandCount};
 ghost use Rattle.overload.specs.Code.{shapeOfNo, operand, sizeOfNo, patternOfNo, askedOf, familyOf, wordOf, sizeAt, fitsAt, formsOf, familyAt, orNone, Word, Starts, outOf, judgedOf};
 
 // How many rows there are.
@@ -229,6 +229,13 @@ fn wide(x: u8) -> usize
     ensures { λ r. ⌜ r ≡ x ⌝ }
 {
     x as usize
+}
+
+// How many operands the overloads of a row take.
+pub fn operand_count(row: usize) -> usize
+    ensures { λ r. ⌜ r ≡ operandCount (rowAt row) ⌝ }
+{
+    tables::count_of(row)
 }
 
 // The judgment of a row at operands.

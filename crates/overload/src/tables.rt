@@ -2,6 +2,7 @@
 use conv::NONE;
 ghost use mathlib.Core.Path.{_≡_};
 ghost use Prim.Native.Nat.{_*_, _/_, _<_};
+ghost use Rattle.overload.specs.Rows.{rowAt, operandCount};
 ghost use Rattle.overload.specs.Code.{familyAt, familyOf, wordOf, askedOf, liftOf, orNone, Families, Word, Starts, Lifts};
 
 // By row, for the forms of the first and last operand (0 scalar, 1 vector, 2 matrix; 3 times the first plus the last): the family, or 77 for none.
@@ -58,6 +59,62 @@ fn families_of(row: usize) -> u64
         44 => 0o77_77_77_77_77_77_77_77_71,
         45 => 0o77_77_77_77_72_77_77_77_72,
         46 => 0o77_77_77_77_74_73_77_77_73,
+        _ => 0,
+    }
+}
+
+// By row: how many parameters its overloads have.
+pub fn count_of(row: usize) -> usize
+    ensures { λ r. ⌜ r ≡ operandCount (rowAt row) ⌝ }
+{
+    match row {
+        0 => 1,
+        1 => 1,
+        2 => 1,
+        3 => 2,
+        4 => 2,
+        5 => 2,
+        6 => 2,
+        7 => 2,
+        8 => 2,
+        9 => 2,
+        10 => 2,
+        11 => 2,
+        12 => 1,
+        13 => 2,
+        14 => 3,
+        15 => 3,
+        16 => 1,
+        17 => 2,
+        18 => 3,
+        19 => 1,
+        20 => 3,
+        21 => 4,
+        22 => 1,
+        23 => 2,
+        24 => 2,
+        25 => 1,
+        26 => 2,
+        27 => 3,
+        28 => 3,
+        29 => 2,
+        30 => 1,
+        31 => 1,
+        32 => 1,
+        33 => 1,
+        34 => 1,
+        35 => 1,
+        36 => 1,
+        37 => 1,
+        38 => 1,
+        39 => 1,
+        40 => 1,
+        41 => 1,
+        42 => 1,
+        43 => 2,
+        44 => 2,
+        45 => 1,
+        46 => 3,
         _ => 0,
     }
 }
