@@ -7,7 +7,7 @@ use mathlib.Core.List.{List, [], _∷_, _++_}
 use lib.ListN.{length, getD, length-append, List·getD-append}
 use lib.Seq.{getD-append-add, getD-at}
 use Rattle.names.specs.Names.{Name, names, noName, nameAt, count}
-use Rattle.names.specs.inner.Table.{ruleNumber, nameWidth, lineWidth, blank, filled, line, lines, table}
+use Rattle.names.specs.inner.Table.{ruleNumber, nameWidth, lineWidth, blank, filled, line, lines, nameTable}
 
 -- inside of a list it does not matter what stands past its end
 pub getD-in : (s : List ℕ) (i d e : ℕ) → i < length s → getD s i d ≡ getD s i e
@@ -59,9 +59,9 @@ lines-at (r ∷ rs) (suc k) i h l =
 abbrev pub at : ℕ → Name
 at k = getD names k noName
 
-module _ (rows : List ℕ) (lent : rows ≡ table) where
+module _ (rows : List ℕ) (lent : rows ≡ nameTable) where
   pub rows-length : length rows ≡ count * lineWidth
-  unfolding table
+  unfolding nameTable
   rows-length = ap length lent ∙ lines-length names
 
   pub rows-count : length rows / lineWidth ≡ count
@@ -70,7 +70,7 @@ module _ (rows : List ℕ) (lent : rows ≡ table) where
   module _ (k : ℕ) (h : k < count) where
     -- a letter of its name
     pub letter-at : (i : ℕ) → i < nameWidth → getD rows (k * lineWidth + i) 0 ≡ getD (nameAt k) i blank
-    unfolding table line nameAt
+    unfolding nameTable line nameAt
     letter-at i l =
         let a = filled-length nameWidth (at k .text) in
         ap (λ (s : List ℕ). getD s (k * lineWidth + i) 0) lent
@@ -80,7 +80,7 @@ module _ (rows : List ℕ) (lent : rows ≡ table) where
 
     -- and the number of its rule
     pub number-at : getD rows (k * lineWidth + nameWidth) 0 ≡ ruleNumber (at k .rule)
-    unfolding table line
+    unfolding nameTable line
     number-at =
         ap (λ (s : List ℕ). getD s (k * lineWidth + nameWidth) 0) lent
         ∙ lines-at names k nameWidth h (omega arith)

@@ -3,13 +3,13 @@ mod tables;
 
 use tables::LINE_WIDTH;
 use tables::NAME_WIDTH;
-pub use tables::table;
+pub use tables::name_table;
 ghost use mathlib.Core.Path.{_≡_};
 ghost use mathlib.Core.Bool.{false};
 ghost use Prim.Native.Nat.{_<_, _≤_};
 ghost use lib.ListN.{length, getD};
 ghost use Rattle.names.specs.Names.{count, nameAt, sameBytes, ruleOf};
-ghost use Rattle.names.specs.inner.Table.{table, blank, hasBlank, StandsAt, replied};
+ghost use Rattle.names.specs.inner.Table.{nameTable, blank, hasBlank, StandsAt, replied};
 
 // The crate rules' numbers. A number below the first is that of a row of overloads.
 pub const RULE_BITCAST: u8 = 100;
@@ -53,7 +53,7 @@ fn letter(name: &[u8], i: usize) -> u8
 
 // Whether a line's name is this one.
 fn is_named(rows: &[u8], row: usize, name: &[u8]) -> bool
-    requires { ⌜ (now rows ≡ table) × (row < count) × (length (now name) ≤ 32) × (hasBlank (now name) ≡ false) ⌝ }
+    requires { ⌜ (now rows ≡ nameTable) × (row < count) × (length (now name) ≤ 32) × (hasBlank (now name) ≡ false) ⌝ }
     ensures { λ r. ⌜ r ≡ sameBytes (nameAt row) (now (name .entry)) ⌝ }
 {
     let from = row * LINE_WIDTH;
@@ -69,7 +69,7 @@ fn is_named(rows: &[u8], row: usize, name: &[u8]) -> bool
 
 // The row that has this name, or their count where none has.
 fn row_of(rows: &[u8], name: &[u8], lines: usize) -> usize
-    requires { ⌜ (now rows ≡ table) × (length (now name) ≤ 32) × (hasBlank (now name) ≡ false) × (lines ≡ count) ⌝ }
+    requires { ⌜ (now rows ≡ nameTable) × (length (now name) ≤ 32) × (hasBlank (now name) ≡ false) × (lines ≡ count) ⌝ }
     ensures { λ r. ⌜ StandsAt (now (name .entry)) r ⌝ }
 {
     let mut row = 0;
@@ -84,7 +84,7 @@ fn row_of(rows: &[u8], name: &[u8], lines: usize) -> usize
 
 // The number of the rule that the name with these bytes has. For the crates above, which lend the table: a host calls nothing of this crate.
 pub fn rule_of(rows: &[u8], name: &[u8]) -> RuleNo
-    requires { ⌜ now rows ≡ table ⌝ }
+    requires { ⌜ now rows ≡ nameTable ⌝ }
     ensures { λ r. ⌜ r ≡ replied (ruleOf (now (name .entry))) ⌝ }
 {
     if NAME_WIDTH < name.len() {

@@ -1,6 +1,6 @@
 // The names, sorted by their bytes, as rows of one width: a line for each.
 ghost use mathlib.Core.Path.{_≡_};
-ghost use Rattle.names.specs.inner.Table.{table};
+ghost use Rattle.names.specs.inner.Table.{nameTable};
 
 // The width of a line: the longest name that a sheet holds, and the number of its rule.
 pub const NAME_WIDTH: usize = 32;
@@ -107,8 +107,8 @@ const NAMES: [u8; COUNT * LINE_WIDTH] = *b"\
         workgroupBarrier                \x67";
 
 // The table: made once where a run or a single call begins, and lent from there.
-pub fn table() -> [u8; COUNT * LINE_WIDTH]
-    ensures { λ r. ⌜ r ≡ table ⌝ }
+pub fn name_table() -> [u8; COUNT * LINE_WIDTH]
+    ensures { λ r. ⌜ r ≡ nameTable ⌝ }
 {
     NAMES
 }

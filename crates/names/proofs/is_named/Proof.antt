@@ -60,7 +60,7 @@ loop-again c =
     let l : i < nameWidth = let h = c .before .before .before .loop-test .taken in let k = s .pre .2 in omega arith in (
       search needs,
       below-more (λ (k : ℕ). getD (nameAt (a .row)) k blank ≡ getD (a .name .now) k blank) i (c .before .before .before .before .loop .inv .1)
-      (sym (letter-at (a .rows .now) (s .pre .0) (a .row) (s .pre .1) i l) ∙ c .if1 .left ∙ c .before .letter .ensures),
+          (sym (letter-at (a .rows .now) (s .pre .0) (a .row) (s .pre .1) i l) ∙ c .if1 .left ∙ c .before .letter .ensures),
     )
 
 returns-2 : tie.Need-returns-2 Inv-loop μ-loop

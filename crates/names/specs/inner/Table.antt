@@ -63,8 +63,8 @@ lines [] = []
 lines (r ∷ rs) = line r ++ lines rs
 
 -- THE TABLE, as it is lent
-unfoldable pub table : List ℕ
-table = lines names
+unfoldable pub nameTable : List ℕ
+nameTable = lines names
 
 -- a name with a blank in it is none of them
 unfoldable pub hasBlank : List ℕ → Bool
