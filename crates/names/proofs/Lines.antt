@@ -7,7 +7,7 @@ use mathlib.Core.List.{List, [], _∷_, _++_}
 use lib.ListN.{length, getD, length-append, List·getD-append}
 use lib.Seq.{getD-append-add, getD-at}
 use Rattle.names.specs.Names.{Name, names, noName, nameAt, count}
-use Rattle.names.specs.inner.Table.{ruleNumber, nameWidth, lineWidth, blank, filled, line, lines, nameTable}
+use Rattle.names.specs.inner.Table.{ruleNumber, nameWidth, lineWidth, blank, filled, line, linesOf, nameTable}
 
 -- inside of a list it does not matter what stands past its end
 pub getD-in : (s : List ℕ) (i d e : ℕ) → i < length s → getD s i d ≡ getD s i e
@@ -33,26 +33,26 @@ line-length : (r : Name) → length (line r) ≡ lineWidth
 unfolding line
 line-length r = length-append (filled nameWidth (r .text)) _ ∙ ap (λ (k : ℕ). k + 1) (filled-length nameWidth (r .text))
 
-lines-length : (rs : List Name) → length (lines rs) ≡ length rs * lineWidth
-unfolding lines
+lines-length : (rs : List Name) → length (linesOf rs) ≡ length rs * lineWidth
+unfolding linesOf
 lines-length [] = refl
 lines-length (r ∷ rs) =
     let a = line-length r in
     let b = lines-length rs in
-    length-append (line r) (lines rs) ∙ omega arith
+    length-append (line r) (linesOf rs) ∙ omega arith
 
 -- the place i of line k
-lines-at : (rs : List Name) (k i : ℕ) → k < length rs → i < lineWidth → getD (lines rs) (k * lineWidth + i) 0 ≡ getD (line (getD rs k noName)) i 0
-unfolding lines
+lines-at : (rs : List Name) (k i : ℕ) → k < length rs → i < lineWidth → getD (linesOf rs) (k * lineWidth + i) 0 ≡ getD (line (getD rs k noName)) i 0
+unfolding linesOf
 lines-at [] k i h l = absurd (not-suc-le-zero h)
 lines-at (r ∷ rs) zero i h l =
     let a = line-length r in
     let e : zero * lineWidth + i ≡ i = omega arith in
-    ap (λ (j : ℕ). getD (line r ++ lines rs) j 0) e ∙ List·getD-append (line r) (lines rs) 0 i (omega arith)
+    ap (λ (j : ℕ). getD (line r ++ linesOf rs) j 0) e ∙ List·getD-append (line r) (linesOf rs) 0 i (omega arith)
 lines-at (r ∷ rs) (suc k) i h l =
     let a = line-length r in
     let e : suc k * lineWidth + i ≡ length (line r) + (k * lineWidth + i) = omega arith in
-    ap (λ (j : ℕ). getD (line r ++ lines rs) j 0) e ∙ getD-append-add (line r) (lines rs) (k * lineWidth + i) 0 ∙ lines-at rs k i (le-of-suc-le-suc h) l
+    ap (λ (j : ℕ). getD (line r ++ linesOf rs) j 0) e ∙ getD-append-add (line r) (linesOf rs) (k * lineWidth + i) 0 ∙ lines-at rs k i (le-of-suc-le-suc h) l
 
 -- THE TABLE, lent as rows
 

@@ -58,13 +58,13 @@ filled (suc k) (c ∷ cs) = c ∷ filled k cs
 unfoldable pub line : Name → List ℕ
 line r = filled nameWidth (r .text) ++ (ruleNumber (r .rule) ∷ [])
 
-unfoldable pub lines : List Name → List ℕ
-lines [] = []
-lines (r ∷ rs) = line r ++ lines rs
+unfoldable pub linesOf : List Name → List ℕ
+linesOf [] = []
+linesOf (r ∷ rs) = line r ++ linesOf rs
 
 -- THE TABLE, as it is lent
 unfoldable pub nameTable : List ℕ
-nameTable = lines names
+nameTable = linesOf names
 
 -- a name with a blank in it is none of them
 unfoldable pub hasBlank : List ℕ → Bool
