@@ -4,7 +4,9 @@
 
 use crate::call_ty::type_builtin_fn;
 use crate::ops_ty::{type_binary_op, type_unary_op};
-use crate::oracle::{binary_operator, to_rust, unary_operator};
+use crate::case::{Answer, Case, Operation};
+use crate::oracle::{binary_operator, from_rust, to_rust, unary_operator};
+use crate::standard::Standard;
 use crate::ours::table::Table;
 use crate::tplt::TpltParam;
 use crate::ty::Type;
@@ -250,6 +252,94 @@ impl Pattern {
         }
         sheet
     }
+}
+
+/// A sheet of `kinds` different operators on vectors of three and scalars, in turn, as many as 60,000 bytes hold; each result is compared with itself, and all
+/// comparisons are joined. Both sides have one answer to each.
+pub fn kinds(kinds: usize) -> (Table, Vec<Type>, Sheet) {
+    const OPERATORS: [u8; 5] = [2, 3, 4, 5, 6];
+    const EQUAL: u8 = 7;
+    const AND: u8 = 14;
+    let types = crate::domain::simples();
+    let (table, rust, numbers) = table_with(&types, types.len());
+    let operands: Vec<Type> = types.iter().map(to_rust).collect();
+    let standard = Standard::default();
+    let width = |ty: &WType| ty.as_wide().map(|(width, _)| width);
+    let mut met: Vec<(u8, usize, usize, usize)> = Vec::new();
+    for op in OPERATORS {
+        for (a, one) in types.iter().enumerate() {
+            for (b, other) in types.iter().enumerate() {
+                if !matches!(
+                    (width(one), width(other)),
+                    (Some(3), Some(1 | 3)) | (Some(1), Some(3))
+                ) {
+                    continue;
+                }
+                let case = Case {
+                    operation: Operation::Binary(usize::from(op)),
+                    template: &[],
+                    operands: &[one, other],
+                };
+                let Answer::Type(made) = standard.answer(&case) else {
+                    continue;
+                };
+                let operator = binary_operator(usize::from(op));
+                let by_crate = type_binary_op(operator, &operands[a], &operands[b]);
+                if by_crate.is_ok_and(|ty| from_rust(&ty) == made) {
+                    let result = types.iter().position(|ty| *ty == made);
+                    met.push((op, a, b, result.expect("one of the 55")));
+                }
+            }
+        }
+    }
+    assert!(kinds <= met.len());
+    let bools = |ty: &WType| ty.to_string() == "vec3<bool>";
+    let bools = types.iter().position(bools).expect("one of the 55");
+    let mut sheet = Sheet::default();
+    sheet.push(numbers[bools]);
+    for (op, a, b, result) in met[..kinds].iter().cycle() {
+        if sheet.length() + 18 > MOST_BYTES {
+            break;
+        }
+        sheet.push(numbers[*a]);
+        sheet.push(numbers[*b]);
+        sheet.binary(*op);
+        sheet.push(numbers[*result]);
+        sheet.binary(EQUAL);
+        sheet.binary(AND);
+    }
+    (table, rust, sheet)
+}
+
+/// A sheet of two operators in turn whose keys have the same slots in the memo (`slot_of` of crates/memo/src/lib.rt), over a table of arrays and one vector.
+pub fn two_in_turn() -> (Table, Vec<Type>, Sheet) {
+    use crate::types::Scalar::{F32, I32};
+    let slot = |op: u8, a: u32, b: u32| {
+        let key = (u64::from(op) + 1) * 65_536 + u64::from(a) * 256 + u64::from(b);
+        key * 2_654_435_761 / 16_777_216 % 256
+    };
+    for arrays in 0..200 {
+        let array = |count| WType::Array(Box::new(WType::Scalar(I32)), Some(count));
+        let mut types: Vec<WType> = (1..=arrays).map(array).collect();
+        types.push(WType::Vector(3, F32));
+        let (table, rust, numbers) = table_with(&types, types.len() + 7);
+        let (vector, scalar) = (numbers[arrays as usize], F32 as u32);
+        for (one, other) in [(2, 3), (2, 4), (2, 5), (3, 4), (3, 5), (4, 5)] {
+            if slot(one, vector, vector) != slot(other, vector, scalar) {
+                continue;
+            }
+            let mut sheet = Sheet::default();
+            sheet.push(vector);
+            while sheet.length() + 12 <= MOST_BYTES {
+                sheet.push(vector);
+                sheet.binary(one);
+                sheet.push(scalar);
+                sheet.binary(other);
+            }
+            return (table, rust, sheet);
+        }
+    }
+    panic!("two keys of one slot");
 }
 
 #[cfg(test)]

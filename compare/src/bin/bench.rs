@@ -10,7 +10,7 @@ use compare::ops_ty::type_binary_op;
 use compare::oracle::{binary_operator, from_rust, to_rust};
 use compare::ours;
 use compare::ours::table::Table;
-use compare::sheets::{PATTERNS, Pattern, table_with, type_sheet};
+use compare::sheets::{PATTERNS, Pattern, kinds, table_with, two_in_turn, type_sheet};
 use compare::standard::Standard;
 use compare::ty::Type;
 use compare::types::WType;
@@ -248,6 +248,45 @@ fn sheets() {
     }
 }
 
+/// Inputs that were chosen to be slow: tables for the soundness test, and sheets for the memo.
+fn hard() {
+    head("chosen to be slow, ns a call or an item");
+    let f32 = WType::Scalar(compare::types::Scalar::F32);
+    let operands = [to_rust(&f32), to_rust(&f32)];
+    for step in [1, 256] {
+        let array = |i: u64| WType::Array(Box::new(f32.clone()), Some(step * i));
+        let arrays: Vec<WType> = (1..=200).map(array).collect();
+        let (mut table, _, _) = table_with(&arrays, arrays.len() + 7);
+        let number = table.number(&f32);
+        let entries = table.used as usize;
+        let mut rust = || {
+            black_box(rust_call(Operation::Binary(2), black_box(&operands)));
+        };
+        let mut ours = || {
+            black_box(side::call(&mut table, Operation::Binary(2), &[number, number]));
+        };
+        let ours: Option<&mut dyn FnMut()> = if side::IS { Some(&mut ours) } else { None };
+        let what = format!("`f32 + f32`, arrays of {step} * i");
+        line(&what, entries, 1.0, both(&mut rust, ours));
+    }
+    for (what, (mut table, rust_table, sheet)) in [
+        ("operators of 108 kinds", kinds(108)),
+        ("two keys of one slot in turn", two_in_turn()),
+    ] {
+        let entries = table.used as usize;
+        let bytes = sheet.bytes();
+        let mut rust = || {
+            black_box(rust_sheet(black_box(&rust_table), black_box(&bytes)));
+        };
+        let mut ours = || {
+            black_box(side::sheet(&mut table, black_box(&bytes)));
+        };
+        let ours: Option<&mut dyn FnMut()> = if side::IS { Some(&mut ours) } else { None };
+        let what = format!("{what}, {} items", sheet.items);
+        line(&what, entries, sheet.items as f64, both(&mut rust, ours));
+    }
+}
+
 /// Types one sheet on one side and writes its result, so that a counter of instructions sees nothing else in the function of that side.
 fn count(words: &[String]) -> Option<()> {
     let [which, pattern, items, entries] = words else {
@@ -287,6 +326,7 @@ fn main() {
     println!("median of {ROUNDS} rounds, both sides in turn; {library}");
     single_calls();
     sheets();
+    hard();
     println!(
         "
 Instructions, which do not depend on what else the machine does:

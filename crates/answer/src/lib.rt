@@ -1,4 +1,4 @@
-// The one answer that every call gives, built and numbered here alone.
+// The one answer that every call gives, and the numbers of its refusals.
 ghost use mathlib.Core.Path.{_≡_};
 ghost use Rattle.answer.specs.Answer.{reasonNo, usedOf, Accepted, WithoutValue, RefusedWith};
 

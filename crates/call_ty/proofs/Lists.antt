@@ -11,7 +11,7 @@ use borrow.Author.Tests.{ltb-true, lt-ltb, le-ltb}
 use Rattle.conv.specs.Types.{Ty, bool}
 use Rattle.conv.specs.Types.Ty.{scalar}
 use Rattle.conv.specs.Rank.{isReference}
-use Rattle.overload.specs.Code.{codeOf}
+use Rattle.overload.specs.inner.Code.{codeOf}
 use Rattle.overload.proofs.Operands.{and-left, and-right, allFormed, codesOf}
 use Rattle.table.specs.Table.{Sound}
 use Rattle.table.specs.Denote.{typeAt}

@@ -8,7 +8,7 @@ use borrow.Author.Tests.{ltb-true, ltb-false, lt-ltb, le-ltb, le-leb, lt-leb}
 use Rattle.conv.specs.Types.{Ty, formed, isWidth}
 use Rattle.conv.specs.Types.Ty.{scalar, vec, mat, array, runtime, atomic, ptr, ref, frexp, modf}
 use Rattle.conv.specs.Rank.{shapeOf, tagOf, componentOf}
-use Rattle.overload.specs.Code.{codeOf}
+use Rattle.overload.specs.inner.Code.{codeOf}
 use Rattle.overload.proofs.Operands.{code-scalar, code-vec, code-mat, code-other, between, float-small, and-left, and-right}
 use Rattle.table.proofs.KindLaws.{split}
 use Rattle.call_ty.specs.Calls.{isScalar, isVector, isNumeric, wideNumeric, ldexpTakes}

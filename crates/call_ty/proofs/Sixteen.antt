@@ -8,7 +8,7 @@ use Rattle.conv.specs.Types.{bool, abstractInt, abstractFloat, i32, u32, f32, f
 use Rattle.conv.specs.Types.Ty.{vec, frexp}
 use Rattle.conv.specs.Rank.{both, rankOf, shapeOf, componentOf, tagOf, firstOf, secondOf, elementOf, sameTy, conversionRank, made}
 use Rattle.overload.specs.Overload.{or, fits, noMore, less, sameTys, allYield, isPreferred, anyFits, chosen, judge}
-use Rattle.overload.specs.Rows.{formAt, componentAt, wrapped, atSizes, overSet, ofFamilies, headCount, judgeBy}
+use Rattle.overload.specs.Rows.{formAt, componentAt, wrapped, overSecond, atSizes, overSet, ofFamilies, headCount, judgeBy}
 use Rattle.names.specs.Names.{names, sameBytes, ruleIn}
 use Rattle.answer.specs.Answer.{accept}
 use Rattle.answer.specs.declared.Reason.the-variants.{NoOverload}
@@ -16,7 +16,7 @@ use Rattle.table.specs.Tools.{allBelow}
 use Rattle.table.specs.Table.{rowOk, chainBy, chain, baseOf, madeOk, entryOk, findIn, soundb}
 use Rattle.table.specs.Denote.{made as madeEntry, typeAt, kindOf, pOf, qOf}
 use Rattle.table.specs.Enter.{free}
-use Rattle.table.specs.Placing.{Outcome, turnedDown, standsIn, over, placed, entering}
+use Rattle.table.specs.Placing.{Outcome, turnedDown, standsIn, placedOver, placed, entering}
 use Rattle.ruled.specs.Call.{anyReference, judgedOutcome}
 use Rattle.call_ty.specs.Calls.{templateRight, operandsBy, operandsOf, givenBy, givenOutcome, byRule, allUnder, typeBuiltinFn}
 
@@ -57,7 +57,7 @@ pub record Six : Type 0 where
   pub sign : call "sign" (u32 ∷ []) ≡ turnedDown NoOverload 0 table 8
 
 pub six : Six
-unfolding table ascii isValue formed expOf both rankOf shapeOf componentOf tagOf firstOf secondOf elementOf sameTy conversionRank made or fits noMore less sameTys allYield isPreferred anyFits chosen judge formAt componentAt wrapped atSizes overSet ofFamilies headCount judgeBy names sameBytes ruleIn allBelow rowOk chainBy chain baseOf madeOk entryOk findIn soundb madeEntry typeAt kindOf pOf qOf free standsIn over placed entering anyReference judgedOutcome templateRight operandsBy operandsOf givenBy givenOutcome byRule allUnder typeBuiltinFn
+unfolding table ascii isValue formed expOf both rankOf shapeOf componentOf tagOf firstOf secondOf elementOf sameTy conversionRank made or fits noMore less sameTys allYield isPreferred anyFits chosen judge formAt componentAt wrapped overSecond atSizes overSet ofFamilies headCount judgeBy names sameBytes ruleIn allBelow rowOk chainBy chain baseOf madeOk entryOk findIn soundb madeEntry typeAt kindOf pOf qOf free standsIn placedOver placed entering anyReference judgedOutcome templateRight operandsBy operandsOf givenBy givenOutcome byRule allUnder typeBuiltinFn
 six =
     record {
       sqrt = refl;

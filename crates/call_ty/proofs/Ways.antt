@@ -13,7 +13,7 @@ use Rattle.conv.specs.Types.Ty.{scalar}
 use Rattle.overload.specs.Rows.{judgeRow, rowAt, operandCount, judgeBy}
 use Rattle.overload.specs.Rows.Ruling.{byRow}
 use Rattle.overload.proofs.Counts.{count-few}
-use Rattle.overload.specs.Code.{operand, codeOf}
+use Rattle.overload.specs.inner.Code.{operand, codeOf}
 use Rattle.overload.proofs.Operands.{and-left, allFormed, codesOf, judge-types}
 use Rattle.names.specs.Names.{Rule}
 use Rattle.names.specs.Names.Rule.{ruling, bitcast, arrayLength, ldexp, barrier}

@@ -86,7 +86,7 @@ pub fn enter(words: &mut [u32], n: usize, e: Entry) -> Entered
 }
 
 // `outer` with the element t.
-fn over(outer: Entry, t: usize) -> Entry
+fn container_of(outer: Entry, t: usize) -> Entry
     requires { ⌜ t ≤ ceiling ⌝ }
     ensures { λ r. ⌜ r ≡ container outer t ⌝ }
 {
@@ -107,7 +107,7 @@ fn enter_both(words: &mut [u32], n: usize, inner: Entry, outer: Entry) -> Entere
         return Entered::Full;
     }
     put_entry(words, n, inner);
-    put_entry(words, n + 1, over(outer, n));
+    put_entry(words, n + 1, container_of(outer, n));
     Entered::There(TypeNo(n + 1), n + 2)
 }
 
@@ -118,7 +118,7 @@ pub fn enter_two(words: &mut [u32], n: usize, inner: Entry, outer: Entry) -> Ent
 {
     let f = find(words, n, inner);
     match f {
-        Found::At(t) => enter(words, n, over(outer, t.0)),
+        Found::At(t) => enter(words, n, container_of(outer, t.0)),
         Found::Nothing => enter_both(words, n, inner, outer),
     }
 }

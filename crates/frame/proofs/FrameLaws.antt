@@ -4,7 +4,7 @@
 use Prim.Native.Nat.{ℕ, _+_, _-_, _<_, _≤_}
 use mathlib.Core.Path.{_≡_, refl, ap}
 use mathlib.Core.List.{List}
-use mathlib.Core.Bool.{Bool, true, false, _&&_}
+use mathlib.Core.Bool.{Bool, true, false, _&&_, cond}
 use native.Mathlib.Omega.{arith}
 use lib.ListN.{length, getD, length-take, length-drop}
 use lib.Dec.{ltb, leb, eqb}
@@ -13,59 +13,62 @@ use Rattle.frame.specs.declared.Part.{Part}
 use Rattle.frame.specs.declared.Item.{Item}
 use Rattle.frame.specs.declared.Item.the-variants.{Push, Unary, Binary, Call, CallTemplate, Take, End, Bad}
 use Rattle.frame.specs.declared.Placed.{Placed}
-use Rattle.frame.specs.Frame.{pick, place, typeNo, part, still, follows, payloadItem, payloadAt, itemAt, isItem, nameOf, namePart, Within, headerOk, headerSize, longest, lengthOf}
+use Rattle.frame.specs.Frame.{place, typeNo, part, still, follows, payloadItem, payloadAt, itemAt, isItem, nameOf, namePart, Within, version, headerOk, headerSize, longest, lengthOf}
 
 -- a property of both sides, each where its test holds, is one of the choice
-pub pick-elim : {A : Type 0} (P : A → Type 0) (b : Bool) {x y : A} → (b ≡ true → P x) → (b ≡ false → P y) → P (pick b x y)
-pick-elim P true h k = h refl
-pick-elim P false h k = k refl
+pub cond-elim : {A : Type 0} (P : A → Type 0) (b : Bool) {x y : A} → (b ≡ true → P x) → (b ≡ false → P y) → P (cond b x y)
+cond-elim P true h k = h refl
+cond-elim P false h k = k refl
 
 -- two truth values are two
 absurd : {X : Type 0} → true ≡ false → X
 absurd e = let z : _≡_ {A = ℕ} 0 1 = cc in let f : ⊥ = omega arith in elim f [ ]
 
--- a call's name has 1 to 32 bytes and ends where the next item begins
-abbrev pub NameEnds : Item → ℕ → Type 0
-NameEnds (Push t) n = Unit {0}
-NameEnds (Unary o) n = Unit {0}
-NameEnds (Binary o) n = Unit {0}
-NameEnds (Call count name) n = (name .start .0 + name .length ≡ n) × (1 ≤ name .length) × (name .length ≤ 32)
-NameEnds (CallTemplate t count name) n = (name .start .0 + name .length ≡ n) × (1 ≤ name .length) × (name .length ≤ 32)
-NameEnds (Take kind p q elem) n = Unit {0}
-NameEnds End n = Unit {0}
-NameEnds Bad n = Unit {0}
+-- a call's name has 1 to 32 bytes, begins after the item's two first bytes, and ends where the next item begins
+abbrev pub Named : Part → ℕ → ℕ → Type 0
+Named name at n = (name .start .0 + name .length ≡ n) × (1 ≤ name .length) × (name .length ≤ 32) × (at + 2 < name .start .0)
+
+abbrev pub NameEnds : Item → ℕ → ℕ → Type 0
+NameEnds (Push t) at n = Unit {0}
+NameEnds (Unary o) at n = Unit {0}
+NameEnds (Binary o) at n = Unit {0}
+NameEnds (Call count name) at n = Named name at n
+NameEnds (CallTemplate t count name) at n = Named name at n
+NameEnds (Take kind p q elem) at n = Unit {0}
+NameEnds End at n = Unit {0}
+NameEnds Bad at n = Unit {0}
 
 -- a property that holds of bad framing and of every item with a right name holds of what a kind and a payload give
-module _ (at : ℕ) (p : List ℕ) (P : Placed → Type 0) (bad : P (still Bad at)) (item : (i : Item) → isItem i ≡ true → NameEnds i (at + 2 + length p) → P (follows at p i)) where
-  sized : (n : ℕ) (i : Item) → isItem i ≡ true → NameEnds i (at + 2 + length p) → P (pick (eqb (length p) n) (follows at p i) (still Bad at))
-  sized n i e h = pick-elim P (eqb (length p) n) (λ _. item i e h) (λ _. bad)
+module _ (at : ℕ) (p : List ℕ) (P : Placed → Type 0) (bad : P (still Bad at)) (item : (i : Item) → isItem i ≡ true → NameEnds i at (at + 2 + length p) → P (follows at p i)) where
+  sized : (n : ℕ) (i : Item) → isItem i ≡ true → NameEnds i at (at + 2 + length p) → P (cond (eqb (length p) n) (follows at p i) (still Bad at))
+  sized n i e h = cond-elim P (eqb (length p) n) (λ _. item i e h) (λ _. bad)
 
   -- a name after k numbers
   abbrev name : ℕ → Part
   name k = part (at + 2 + k) (length p - k)
 
-  named : (k : ℕ) (i : Item) → isItem i ≡ true → (((name k .start .0 + name k .length ≡ at + 2 + length p) × (1 ≤ name k .length) × (name k .length ≤ 32)) → NameEnds i (at + 2 + length p))
-      → P (pick (ltb k (length p)) (pick (leb (length p) (k + 32)) (follows at p i) (still Bad at)) (still Bad at))
-  named k i e h =
-      pick-elim P (ltb k (length p)) (λ a. pick-elim P (leb (length p) (k + 32))
-      (λ b. item i e (h (omega (arith, ltb-true), omega (arith, ltb-true), omega (arith, leb-true)))) (λ _. bad)) (λ _. bad)
+  named : (k : ℕ) (i : Item) → 1 ≤ k → isItem i ≡ true → (Named (name k) at (at + 2 + length p) → NameEnds i at (at + 2 + length p))
+      → P (cond (ltb k (length p)) (cond (leb (length p) (k + 32)) (follows at p i) (still Bad at)) (still Bad at))
+  named k i l e h =
+      cond-elim P (ltb k (length p)) (λ a. cond-elim P (leb (length p) (k + 32))
+      (λ b. item i e (h (omega (arith, ltb-true), omega (arith, ltb-true), omega (arith, leb-true), omega arith))) (λ _. bad)) (λ _. bad)
 
   payload-elim : (k : ℕ) → P (payloadItem at p k)
   unfolding payloadItem
   payload-elim k =
-      pick-elim P (eqb k 1) (λ _. sized 1 (Push (typeNo (getD p 0 0))) refl tt) (λ _.
-      pick-elim P (eqb k 2) (λ _. sized 1 (Unary (getD p 0 0)) refl tt) (λ _.
-      pick-elim P (eqb k 3) (λ _. sized 1 (Binary (getD p 0 0)) refl tt) (λ _.
-      pick-elim P (eqb k 4) (λ _. named 1 (Call (getD p 0 0) (name 1)) refl (λ h. h)) (λ _.
-      pick-elim P (eqb k 5) (λ _. named 2 (CallTemplate (typeNo (getD p 0 0)) (getD p 1 0) (name 2)) refl (λ h. h)) (λ _.
-      pick-elim P (eqb k 6) (λ _. sized 7 (Take (getD p 0 0) _ (getD p 5 0) (getD p 6 0)) refl tt) (λ _. bad))))))
+      cond-elim P (eqb k 1) (λ _. sized 1 (Push (typeNo (getD p 0 0))) refl tt) (λ _.
+      cond-elim P (eqb k 2) (λ _. sized 1 (Unary (getD p 0 0)) refl tt) (λ _.
+      cond-elim P (eqb k 3) (λ _. sized 1 (Binary (getD p 0 0)) refl tt) (λ _.
+      cond-elim P (eqb k 4) (λ _. named 1 (Call (getD p 0 0) (name 1)) (omega arith) refl (λ h. h)) (λ _.
+      cond-elim P (eqb k 5) (λ _. named 2 (CallTemplate (typeNo (getD p 0 0)) (getD p 1 0) (name 2)) (omega arith) refl (λ h. h)) (λ _.
+      cond-elim P (eqb k 6) (λ _. sized 7 (Take (getD p 0 0) _ (getD p 5 0) (getD p 6 0)) refl tt) (λ _. bad))))))
 
 -- an item i that stands at a place of a sheet, with the next place n
 pub record Framed (s : List ℕ) (at : ℕ) (i : Item) (n : ℕ) : Type 0 where
   pub begins : headerSize ≤ at
   pub after : at < n
   pub within : n ≤ length s
-  pub name : NameEnds i n
+  pub name : NameEnds i at n
 
 -- a property of bad framing, of the end and of every well-framed item holds of what stands at a place
 module _ (s : List ℕ) (at : ℕ) (P : Placed → Type 0) (bad : P (still Bad at)) (ending : length s ≤ at → P (still End at))
@@ -73,10 +76,10 @@ module _ (s : List ℕ) (at : ℕ) (P : Placed → Type 0) (bad : P (still Bad a
   pub item-elim : P (itemAt s at)
   unfolding itemAt
   item-elim =
-      pick-elim P (ltb at headerSize) (λ _. bad) (λ a.
-      pick-elim P (leb (length s) at) (λ b. ending (leb-true _ _ b)) (λ b.
-      pick-elim P (eqb (getD s at 0) 0) (λ _. bad) (λ d.
-      pick-elim P (ltb (length s) (at + 1 + getD s at 0)) (λ _. bad) (λ f.
+      cond-elim P (ltb at headerSize) (λ _. bad) (λ a.
+      cond-elim P (leb (length s) at) (λ b. ending (leb-true _ _ b)) (λ b.
+      cond-elim P (eqb (getD s at 0) 0) (λ _. bad) (λ d.
+      cond-elim P (ltb (length s) (at + 1 + getD s at 0)) (λ _. bad) (λ f.
       let some : getD s at 0 ≡ 0 → ⊥ = eqb-false _ _ d in
       let n : length (payloadAt s at) ≡ getD s at 0 - 1 = simp (length-take, length-drop) (omega (arith, ltb-false, leb-false)) in
       payload-elim at (payloadAt s at) P bad (λ i e h. item i (at + 2 + length (payloadAt s at)) e (record {
@@ -134,6 +137,9 @@ headed v s e =
     both : (x y : Bool) → x && y ≡ true → (x ≡ true) × (y ≡ true)
     both true y h = (refl, h)
     both false y h = absurd (cc)
+
+pub headed-long : (s : List ℕ) → headerOk version s ≡ true → headerSize ≤ length s
+headed-long s e = omega (arith, headed version s e .whole)
 
 -- in a sheet with a right header, an item ends after it begins and within 3 + L
 pub headed-next : (v : ℕ) (s : List ℕ) (at : ℕ) → headerOk v s ≡ true → isItem (itemAt s at .item) ≡ true

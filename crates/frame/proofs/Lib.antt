@@ -1,4 +1,5 @@
 pub mod Parts
+pub mod Reading
 pub mod FrameLaws
 pub mod ItemsLaws
 pub mod OneReply

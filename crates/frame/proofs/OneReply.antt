@@ -7,7 +7,9 @@ use mathlib.Core.Bool.{Bool}
 use denote.Ref.{RefT, now}
 use Rattle.frame.specs.declared.Part.{Part}
 use Rattle.frame.specs.declared.Placed.{Placed}
+use Rattle.frame.specs.declared.Short.{Short}
 use Rattle.frame.specs.Frame.{version, headerOk, itemAt, namePart, IsPart}
+use Rattle.frame.specs.inner.Items.{sheetOf, shortOf, inItems}
 
 -- what equals one thing is one thing
 one : {A : Type 0} {x a b : A} → a ≡ x → b ≡ x → a ≡ b
@@ -19,11 +21,20 @@ header-one s p q = one p q
 pub item-at-one : (s : List ℕ) (at : ℕ) {a b : Placed} → a ≡ itemAt s at → b ≡ itemAt s at → a ≡ b
 item-at-one s at p q = one p q
 
+pub item-in-one : (items : List ℕ) (at : ℕ) {a b : Placed} → a ≡ itemAt (sheetOf items) at → b ≡ itemAt (sheetOf items) at → a ≡ b
+item-in-one items at p q = one p q
+
+pub short-in-one : (items : List ℕ) (at : ℕ) {a b : Short} → a ≡ shortOf (itemAt (sheetOf items) at .item) → b ≡ shortOf (itemAt (sheetOf items) at .item) → a ≡ b
+short-in-one items at p q = one p q
+
 pub call-part-one : (s : List ℕ) (at : ℕ) {a b : Part} → a ≡ namePart s at → b ≡ namePart s at → a ≡ b
 call-part-one s at p q = one p q
 
 pub part-of-one : {s : RefT (List ℕ)} {p : Part} {a b : RefT (List ℕ)} → IsPart s p a → IsPart s p b → (a .ptr ≡ b .ptr) × (now a ≡ now b)
 part-of-one x y = (one (x .begins) (y .begins), one (x .bytes) (y .bytes))
+
+pub name-in-one : {items : RefT (List ℕ)} (p : Part) {a b : RefT (List ℕ)} → IsPart items (inItems p) a → IsPart items (inItems p) b → (a .ptr ≡ b .ptr) × (now a ≡ now b)
+name-in-one p x y = part-of-one x y
 
 pub call-name-one : (s : RefT (List ℕ)) (at : ℕ) {a b : RefT (List ℕ)} → IsPart s (namePart (now s) at) a → IsPart s (namePart (now s) at) b → (a .ptr ≡ b .ptr) × (now a ≡ now b)
 call-name-one s at x y = part-of-one x y

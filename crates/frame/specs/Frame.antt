@@ -2,7 +2,7 @@
 use Prim.Native.Nat.{ℕ, zero, suc, _+_, _-_, _*_, _≤_}
 use mathlib.Core.Path.{_≡_}
 use mathlib.Core.List.{List, [], _∷_}
-use mathlib.Core.Bool.{Bool, true, false, _&&_}
+use mathlib.Core.Bool.{Bool, true, false, _&&_, cond}
 use lib.ListN.{length, getD, take, drop}
 use lib.Dec.{ltb, leb, eqb}
 use denote.Ref.{RefT, now}
@@ -12,10 +12,6 @@ use Rattle.frame.specs.declared.Part.{Part}
 use Rattle.frame.specs.declared.Item.{Item}
 use Rattle.frame.specs.declared.Item.the-variants.{Push, Unary, Binary, Call, CallTemplate, Take, End, Bad}
 use Rattle.frame.specs.declared.Placed.{Placed}
-
-abbrev pub pick : {A : Type 0} → Bool → A → A → A
-pick true a b = a
-pick false a b = b
 
 -- two and four bytes as a number, big-endian
 abbrev pub be16 : ℕ → ℕ → ℕ
@@ -82,22 +78,22 @@ module _ (at : ℕ) (p : List ℕ) where
 
   -- a payload of n bytes and no other
   abbrev pub exactly : ℕ → Item → Placed
-  exactly n i = pick (eqb (length p) n) (follows i) (still Bad at)
+  exactly n i = cond (eqb (length p) n) (follows i) (still Bad at)
 
   -- a payload of k numbers and a name of 1 to 32 bytes, which ends it
   abbrev pub naming : ℕ → (Part → Item) → Placed
-  naming k i = pick (ltb k (length p)) (pick (leb (length p) (k + 32)) (follows (i (part (at + 2 + k) (length p - k)))) (still Bad at)) (still Bad at)
+  naming k i = cond (ltb k (length p)) (cond (leb (length p) (k + 32)) (follows (i (part (at + 2 + k) (length p - k)))) (still Bad at)) (still Bad at)
 
   -- 1 push (type number); 2 unary and 3 binary (operator); 4 call (operand count, name); 5 call with template (type number, operand
   -- count, name); 6 take (kind, p, q, elem). Numbers are one byte, p four, big-endian
   unfoldable pub payloadItem : ℕ → Placed
   payloadItem k =
-      pick (eqb k kindPush) (exactly 1 (Push (typeNo (getD p 0 0))))
-      (pick (eqb k kindUnary) (exactly 1 (Unary (getD p 0 0)))
-      (pick (eqb k kindBinary) (exactly 1 (Binary (getD p 0 0)))
-      (pick (eqb k kindCall) (naming 1 (λ name. Call (getD p 0 0) name))
-      (pick (eqb k kindTemplate) (naming 2 (λ name. CallTemplate (typeNo (getD p 0 0)) (getD p 1 0) name))
-      (pick (eqb k kindTake) (exactly 7 (Take (getD p 0 0) (be32 (getD p 1 0) (getD p 2 0) (getD p 3 0) (getD p 4 0)) (getD p 5 0) (getD p 6 0)))
+      cond (eqb k kindPush) (exactly 1 (Push (typeNo (getD p 0 0))))
+      (cond (eqb k kindUnary) (exactly 1 (Unary (getD p 0 0)))
+      (cond (eqb k kindBinary) (exactly 1 (Binary (getD p 0 0)))
+      (cond (eqb k kindCall) (naming 1 (λ name. Call (getD p 0 0) name))
+      (cond (eqb k kindTemplate) (naming 2 (λ name. CallTemplate (typeNo (getD p 0 0)) (getD p 1 0) name))
+      (cond (eqb k kindTake) (exactly 7 (Take (getD p 0 0) (be32 (getD p 1 0) (getD p 2 0) (getD p 3 0) (getD p 4 0)) (getD p 5 0) (getD p 6 0)))
       (still Bad at))))))
 
 -- the payload of the item at a place: of the bytes that follow its length byte, those after the kind
@@ -108,10 +104,10 @@ payloadAt s at = take (getD s at 0 - 1) (drop (at + 2) s)
 -- the kind, and does not run past the end
 unfoldable pub itemAt : List ℕ → ℕ → Placed
 itemAt s at =
-    pick (ltb at headerSize) (still Bad at)
-    (pick (leb (length s) at) (still End at)
-    (pick (eqb (getD s at 0) 0) (still Bad at)
-    (pick (ltb (length s) (at + 1 + getD s at 0)) (still Bad at)
+    cond (ltb at headerSize) (still Bad at)
+    (cond (leb (length s) at) (still End at)
+    (cond (eqb (getD s at 0) 0) (still Bad at)
+    (cond (ltb (length s) (at + 1 + getD s at 0)) (still Bad at)
     (payloadItem at (payloadAt s at) (getD s (at + 1) 0)))))
 
 -- the part that a call shows as its name; for all else the empty part at the start of the sheet
@@ -151,7 +147,7 @@ isItem Bad = false
 -- what stands from a place on, in n steps and no more: after an item comes what stands from the next place; the end and bad framing are the last
 unfoldable pub itemsWithin : ℕ → List ℕ → ℕ → List Placed
 itemsWithin zero s at = itemAt s at ∷ []
-itemsWithin (suc n) s at = itemAt s at ∷ pick (isItem (itemAt s at .item)) (itemsWithin n s (itemAt s at .next .0)) []
+itemsWithin (suc n) s at = itemAt s at ∷ cond (isItem (itemAt s at .item)) (itemsWithin n s (itemAt s at .next .0)) []
 
 -- an item has at least two bytes, so as many steps as the sheet has bytes reach the last
 unfoldable pub itemsFrom : List ℕ → ℕ → List Placed

@@ -2,7 +2,8 @@
 ghost use mathlib.Core.Path.{_≡_};
 ghost use Prim.Native.Nat.{_+_, _<_, _^_};
 ghost use lib.ListN.{length};
-ghost use Rattle.frame.specs.Frame.{version, headerOk, be32, payloadItem, itemAt, namePart, Within, IsPart};
+ghost use Rattle.frame.specs.Frame.{version, headerOk, be32, still, payloadItem, itemAt, namePart, Within, IsPart};
+ghost use Rattle.frame.specs.inner.Items.{sheetOf, shortOf, inItems, LiesIn};
 use answer::Place;
 use answer::TypeNo;
 use cast::wide;
@@ -39,6 +40,11 @@ const CALL_NUMBERS: usize = 1;
 const TEMPLATE_NUMBERS: usize = 2;
 
 const NAME_LONGEST: usize = 32;
+
+// How many bytes a push and an operator have, and how many of them follow the length byte.
+pub const SHORT_BYTES: usize = 3;
+
+const SHORT_FOLLOWING: u8 = 2;
 
 // A part of the lent sheet: where it begins and how many bytes it has.
 pub struct Part {
@@ -77,6 +83,12 @@ pub struct Placed {
     pub next: Place,
 }
 
+// A push or an operator, by its kind and its number; kind 0 for all else.
+pub struct Short {
+    pub kind: u8,
+    pub number: u8,
+}
+
 // Whether the header is right: the version, a length that is not too large, and as many bytes after the header.
 pub fn header(sheet: &[u8]) -> bool
     ensures { λ r. ⌜ r ≡ headerOk version (now (sheet .entry)) ⌝ }
@@ -101,50 +113,44 @@ fn number(a: u8, b: u8, c: u8, d: u8) -> u32
     ((wide32(a) * 256 + wide32(b)) * 256 + wide32(c)) * 256 + wide32(d)
 }
 
-// The item at a place, by its kind and its payload, a part of the sheet.
-fn payload_item(at: usize, kind: u8, p: &[u8]) -> Placed
-    requires { ⌜ at + 2 + length (now p) < 2 ^ 64 ⌝ }
-    ensures { λ r. ⌜ r ≡ payloadItem at (now (p .entry)) kind ⌝ }
+// Where no item stands: the end, or bad framing.
+fn no_item(item: Item, at: Place) -> Placed
+    ensures { λ r. ⌜ r ≡ still item (at .0) ⌝ }
 {
-    let here = Place(at);
-    let from = at + 2;
+    Placed { item, at, next: at }
+}
+
+// The item at a place, by its kind and its payload, a part of the sheet.
+fn payload_item(at: Place, kind: u8, p: &[u8]) -> Placed
+    requires { ⌜ at .0 + 2 + length (now p) < 2 ^ 64 ⌝ }
+    ensures { λ r. ⌜ r ≡ payloadItem (at .0) (now (p .entry)) kind ⌝ }
+{
+    let from = at.0 + 2;
     let next = Place(from + p.len());
     let bad = Placed {
         item: Item::Bad,
-        at: here,
-        next: here,
+        at,
+        next: at,
     };
     match kind {
         ITEM_PUSH => {
             if p.len() == ONE_NUMBER {
                 let item = Item::Push(TypeNo(wide(p[0])));
-                return Placed {
-                    item,
-                    at: here,
-                    next,
-                };
+                return Placed { item, at, next };
             }
             bad
         }
         ITEM_UNARY => {
             if p.len() == ONE_NUMBER {
                 let item = Item::Unary(p[0]);
-                return Placed {
-                    item,
-                    at: here,
-                    next,
-                };
+                return Placed { item, at, next };
             }
             bad
         }
         ITEM_BINARY => {
             if p.len() == ONE_NUMBER {
                 let item = Item::Binary(p[0]);
-                return Placed {
-                    item,
-                    at: here,
-                    next,
-                };
+                return Placed { item, at, next };
             }
             bad
         }
@@ -160,11 +166,7 @@ fn payload_item(at: usize, kind: u8, p: &[u8]) -> Placed
                 length: p.len() - CALL_NUMBERS,
             };
             let item = Item::Call { count: p[0], name };
-            Placed {
-                item,
-                at: here,
-                next,
-            }
+            Placed { item, at, next }
         }
         ITEM_TEMPLATE => {
             if p.len() <= TEMPLATE_NUMBERS {
@@ -182,11 +184,7 @@ fn payload_item(at: usize, kind: u8, p: &[u8]) -> Placed
                 count: p[1],
                 name,
             };
-            Placed {
-                item,
-                at: here,
-                next,
-            }
+            Placed { item, at, next }
         }
         ITEM_TAKE => {
             if p.len() == ENTRY_NUMBERS {
@@ -196,11 +194,7 @@ fn payload_item(at: usize, kind: u8, p: &[u8]) -> Placed
                     q: p[5],
                     elem: p[6],
                 };
-                return Placed {
-                    item,
-                    at: here,
-                    next,
-                };
+                return Placed { item, at, next };
             }
             bad
         }
@@ -208,46 +202,69 @@ fn payload_item(at: usize, kind: u8, p: &[u8]) -> Placed
     }
 }
 
-// What stands at a place of a sheet.
-pub fn item_at(sheet: &[u8], at: Place) -> Placed
-    ensures { λ r. ⌜ r ≡ itemAt (now (sheet .entry)) (at .0) ⌝ }
+// THE PART AFTER THE HEADER is handed on as `items`. Places are counted from the sheet's first byte there too.
+
+// What stands at a place of a sheet, read in the part after its header.
+pub fn item_in(items: &[u8], at: Place) -> Placed
+    ensures { λ r. ⌜ r ≡ itemAt (sheetOf (now (items .entry))) (at .0) ⌝ }
 {
-    let place = at.0;
-    if place < HEADER {
-        return Placed {
-            item: Item::Bad,
-            at,
-            next: at,
-        };
+    if at.0 < HEADER {
+        return no_item(Item::Bad, at);
     }
-    if sheet.len() <= place {
-        return Placed {
-            item: Item::End,
-            at,
-            next: at,
-        };
+    let first = at.0 - HEADER;
+    if items.len() <= first {
+        return no_item(Item::End, at);
     }
-    let items = &sheet[HEADER..];
-    let first = place - HEADER;
     let len = wide(items[first]);
     if len == 0 {
-        return Placed {
-            item: Item::Bad,
-            at,
-            next: at,
-        };
+        return no_item(Item::Bad, at);
     }
     if items.len() - first <= len {
-        return Placed {
-            item: Item::Bad,
-            at,
-            next: at,
-        };
+        return no_item(Item::Bad, at);
     }
     let kind = items[first + 1];
     let from = first + 2;
     let to = first + 1 + len;
-    payload_item(place, kind, &items[from..to])
+    payload_item(at, kind, &items[from..to])
+}
+
+// The push or the operator at a place, read in the part after the header.
+pub fn short_in(items: &[u8], at: Place) -> Short
+    ensures { λ r. ⌜ r ≡ shortOf (itemAt (sheetOf (now (items .entry))) (at .0) .item) ⌝ }
+{
+    let none = Short { kind: 0, number: 0 };
+    if at.0 < HEADER {
+        return none;
+    }
+    let first = at.0 - HEADER;
+    if items.len() < first + SHORT_BYTES {
+        return none;
+    }
+    if items[first] != SHORT_FOLLOWING {
+        return none;
+    }
+    let kind = items[first + 1];
+    if kind < ITEM_PUSH {
+        return none;
+    }
+    if ITEM_BINARY < kind {
+        return none;
+    }
+    let number = items[first + 2];
+    Short { kind, number }
+}
+
+// What stands at a place of a sheet.
+pub fn item_at(sheet: &[u8], at: Place) -> Placed
+    ensures { λ r. ⌜ r ≡ itemAt (now (sheet .entry)) (at .0) ⌝ }
+{
+    if at.0 < HEADER {
+        return no_item(Item::Bad, at);
+    }
+    if sheet.len() < HEADER {
+        return no_item(Item::End, at);
+    }
+    item_in(&sheet[HEADER..], at)
 }
 
 // The name of the call that stands at a place, by its start and its length; the empty part where no well-framed call begins.
@@ -279,6 +296,21 @@ pub fn part_of(sheet: &[u8], part: Part) -> &[u8]
     let from = start.0;
     let to = from + part.length;
     &sheet[from..to]
+}
+
+// A name that lies in the part after the header, as that part of it.
+pub fn name_in(items: &[u8], name: Part) -> &[u8]
+    requires { ⌜ LiesIn (length (now items)) name ⌝ }
+    ensures { λ r. ⌜ IsPart (items .entry) (inItems name) r ⌝ }
+{
+    let start = name.start;
+    part_of(
+        items,
+        Part {
+            start: Place(start.0 - HEADER),
+            length: name.length,
+        },
+    )
 }
 
 // The name of the call that stands at a place, as that part of the sheet; empty where no well-framed call begins.

@@ -31,14 +31,14 @@ use Rattle.frame.specs.declared.Item.the-variants.{Unary, Binary, Call}
 use Rattle.step.specs.declared.Did.{Did}
 use Rattle.step.specs.declared.Did.the-variants as did
 use Rattle.step.specs.Effect.{most, State, height, operands, below, goes, silent, stops, pushed, onto, bytesOf, unaryEffect, binaryEffect, callEffect, effectOf}
-use Rattle.step.specs.Code.{stateOf, Ready, effectBy, Counted, Does}
+use Rattle.step.specs.inner.Code.{stateOf, Ready, effectBy, Counted, Does}
 use Rattle.step.specs.Kept.{Grew}
 use Rattle.step.proofs.StackLaws.{sized, below-them, operands-lent, value-in, under-drop}
 use Rattle.step.proofs.Effects.{settled, settle-value, value-under}
 use Rattle.step.proofs.Keeping.{item-kept}
-use Rattle.memo.specs.Memo.{nothing, Question, codeOf, On, typed, keyOf, slotOf, Holds, Recalls, Recalled, Leaves, NotedStep, AfterStep}
-use Rattle.memo.specs.Memo.Question.{binary, unary, builtin}
-use Rattle.memo.specs.Asking.{Small, Coded, AskedBy, Asks, lastOf, KeyedBy, Keyed}
+use Rattle.memo.specs.inner.Memo.{nothing, Question, codeOf, On, typed, keyOf, slotOf, Holds, Recalls, Recalled, Leaves, NotedStep, AfterStep}
+use Rattle.memo.specs.inner.Memo.Question.{binary, unary, builtin}
+use Rattle.memo.specs.inner.Asking.{Small, Coded, AskedBy, Asks, lastOf, KeyedBy, Keyed}
 use Rattle.memo.proofs.MemoLaws.{slot-with, value-noted, recalls-on, recalls-noted}
 
 impossible : {P : Type 0} → _≡_ {A = ℕ} 0 1 → P

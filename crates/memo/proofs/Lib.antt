@@ -1,5 +1,4 @@
 pub mod MemoLaws
 pub mod Asking
 pub mod QuickLaws
-pub mod Short
 pub mod OneReply

@@ -6,7 +6,7 @@ use mathlib.Core.Bool.{true}
 use mathlib.Core.List.{List, [], _∷_, map}
 use native.Mathlib.Omega.{arith}
 use lib.Dec.{ltb, eqb}
-use lib.ListN.{length, getD, length-set}
+use lib.ListN.{length, getD, set, length-set}
 use lib.Seq.{getD-set-other, getD-set-same, ext-getD}
 use borrow.Author.Tests.{eqb-true, eqb-false, ltb-true, ltb-false}
 use Rattle.conv.specs.Types.{Ty, formed}
@@ -39,8 +39,8 @@ use Rattle.call_ty.proofs.Lists.{types-formed}
 use Rattle.call_ty.proofs.Ends.{Ends, rule-call-ends}
 use Rattle.call_ty.proofs.Ends.Ends.{refused, silent, valued}
 use Rattle.step.specs.Kept.{Grew}
-use Rattle.memo.specs.Memo.{slots, nothing, Question, codeOf, On, typed, Gives, keyUp, keyOf, slotOf, Holds, Recalls, Recalled, Noted}
-use Rattle.memo.specs.Memo.Question.{binary, unary, builtin}
+use Rattle.memo.specs.inner.Memo.{slots, nothing, Question, codeOf, On, typed, Gives, keyUp, keyOf, slotOf, Holds, Recalls, Recalled, Noted}
+use Rattle.memo.specs.inner.Memo.Question.{binary, unary, builtin}
 
 impossible : {P : Type 0} → _≡_ {A = ℕ} 0 1 → P
 impossible e = absurd (omega arith)
@@ -149,15 +149,28 @@ module _ (w : List ℕ) (n : ℕ) (v : List ℕ) (m : ℕ) (g : Grew w n v m) wh
   pub recalls-on : (memo : List ℕ) → Recalls memo w n → Recalls memo v m
   recalls-on memo r = record { size = r .size; holds = λ i h. holds-on (getD memo i 0) (r .holds i h) }
 
--- noting keeps what the other slots say
+-- noting keeps what the slots say
 pub recalls-noted : (memo w : List ℕ) (n key t : ℕ) (after : List ℕ) → Recalls memo w n → Holds w n (slotOf key t) → Noted memo key t after → Recalls after w n
-recalls-noted memo w n key t after r h d =
+recalls-noted memo w n key t after r h d = record { size = d .size ∙ r .size; holds = λ i l. go i (d .each i l) }
+  where
+    go : (i : ℕ) → (getD after i 0 ≡ slotOf key t) ⊎ ((j : ℕ) × (j < slots) × (getD after i 0 ≡ getD memo j 0)) → Holds w n (getD after i 0)
+    go i (inl e) = rw e h
+    go i (inr z) = rw (z .2) (r .holds (z .0) (z .1))
+
+-- a note in the first of two slots, with what that had in the second
+pub noted-first : (memo : List ℕ) (k key t x : ℕ) → x ≡ slotOf key t → length memo ≡ slots → k + 1 < slots → Noted memo key t (set (set memo (k + 1) (getD memo k 0)) k x)
+noted-first memo k key t x e l h =
+    let moved = set memo (k + 1) (getD memo k 0) in
+    let m : length moved ≡ length memo = length-set memo (k + 1) (getD memo k 0) in
     record {
-      size = ap length (d .words) ∙ length-set memo (d .slot) (slotOf key t) ∙ r .size;
-      holds = λ i l. subst (λ (x : List ℕ). Holds w n (getD x i 0)) (sym (d .words))
-          (split (eqb i (d .slot))
-          (λ b. let q : i ≡ d .slot = eqb-true i (d .slot) b in rw (q, getD-set-same memo (d .slot) (slotOf key t) 0 (omega (arith, r .size, d .below))) h)
-          (λ b. let q : i ≢ d .slot = eqb-false i (d .slot) b in rw (getD-set-other memo (d .slot) i (slotOf key t) 0 q) (r .holds i l)));
+      size = length-set moved k x ∙ m;
+      each = λ i b.
+          split (eqb i k)
+          (λ q. let z : i ≡ k = eqb-true i k q in inl (rw z (getD-set-same moved k x 0 (omega (arith, m, l)) ∙ e)))
+          (λ q. let z : i ≢ k = eqb-false i k q in
+          split (eqb i (k + 1))
+          (λ p. let y : i ≡ k + 1 = eqb-true i (k + 1) p in inr (k, omega arith, getD-set-other moved k i x 0 z ∙ rw y (getD-set-same memo (k + 1) (getD memo k 0) 0 (omega (arith, l)))))
+          (λ p. let y : i ≢ k + 1 = eqb-false i (k + 1) p in inr (i, b, getD-set-other moved k i x 0 z ∙ getD-set-other memo (k + 1) i (getD memo k 0) 0 y)));
     }
 
 -- a memo of empty slots, which a test finds

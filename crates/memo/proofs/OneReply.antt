@@ -5,10 +5,10 @@ use mathlib.Core.Path.{_≡_, sym, _∙_}
 use mathlib.Core.List.{List}
 use Rattle.step.specs.declared.Did.{Did}
 use Rattle.step.specs.Effect.{Effect, goes}
-use Rattle.step.specs.Code.{stateOf, effectBy, Does}
+use Rattle.step.specs.inner.Code.{stateOf, effectBy, Does}
 use Rattle.step.proofs.OneReply.{step-one}
-use Rattle.memo.specs.Memo.{AfterStep}
-use Rattle.memo.specs.Quick.{WentAt}
+use Rattle.memo.specs.inner.Memo.{AfterStep}
+use Rattle.memo.specs.inner.Quick.{WentAt}
 
 pub noted-one : (memo memo' : List ℕ) {e : Effect} {r q : Did} {vals vals' w w' : List ℕ} → Does e r vals w × AfterStep r memo w → Does e q vals' w' × AfterStep q memo' w'
     → effectBy r vals w ≡ effectBy q vals' w'

@@ -1,74 +1,70 @@
 -- Quick items: the item of a number, what it asks, and the stack after it. Assumes nothing.
-use Prim.Native.Nat.{ℕ, _+_, _*_, _/_, _%_, _<_, _≤_}
+use Prim.Native.Nat.{ℕ, _+_, _<_, _≤_}
 use mathlib.Core.Path.{_≡_, refl, sym, _∙_, ap, subst}
 use mathlib.Core.Logic.{_⊎_, inl, inr, _≢_}
 use mathlib.Core.List.{List, []}
 use native.Mathlib.Omega.{arith}
 use lib.ListN.{length, set}
-use Rattle.frame.specs.Frame.{itemAt}
-use Rattle.frame.specs.Frame.{place as atPlace}
+use Rattle.frame.specs.Frame.{itemAt, kindPush, kindUnary, kindBinary}
+use Rattle.frame.specs.inner.Items.{short, shortOf, itemOf}
+use Rattle.frame.specs.declared.Short.{Short}
+use Rattle.frame.proofs.Reading.{short-item}
 use Rattle.frame.specs.declared.Item.{Item}
 use Rattle.frame.specs.declared.Item.the-variants.{Unary, Binary}
-use Rattle.frame.specs.declared.Placed.{Placed}
 use Rattle.ops_ty.specs.Ops.{unaryOps, binaryOps}
-use Rattle.step.specs.Effect.{most, goes, effectOf}
-use Rattle.step.specs.Code.{stateOf, Ready, effectBy}
+use Rattle.step.specs.Effect.{most, State, goes, effectOf}
+use Rattle.step.specs.inner.Code.{stateOf, Ready, effectBy}
 use Rattle.step.proofs.Effects.{push-does}
-use Rattle.memo.specs.Memo.{nothing, Recalls, Recalled}
-use Rattle.memo.specs.Asking.{AskedBy, Asks, Keyed}
-use Rattle.memo.specs.Quick.{itemOf, ShortAt, AsksShort, Quick, QuickAt}
+use Rattle.memo.specs.inner.Memo.{nothing, Recalls, Recalled}
+use Rattle.memo.specs.inner.Asking.{AskedBy, Asks, Keyed}
+use Rattle.memo.specs.inner.Quick.{AsksShort, Quick, QuickAt}
 use Rattle.memo.proofs.Asking.{binary-asks, unary-asks, base-room, recalled-does}
 
 impossible : {P : Type 0} → _≡_ {A = ℕ} 0 1 → P
 impossible e = absurd (omega arith)
 
--- WHAT A NUMBER ASKS
+-- WHAT IT ASKS
 
-item-binary : (x : ℕ) → x / 256 ≡ 3 → itemOf x ≡ Binary (x % 256)
+item-binary : (x : Short) → x .kind ≡ kindBinary → itemOf x ≡ Binary (x .number)
 unfolding itemOf
 item-binary x e = rw e
 
-item-unary : (x : ℕ) → x / 256 ≡ 2 → itemOf x ≡ Unary (x % 256)
+item-unary : (x : Short) → x .kind ≡ kindUnary → itemOf x ≡ Unary (x .number)
 unfolding itemOf
 item-unary x e = rw e
 
 asks-as : (s : List ℕ) (i j : Item) (a b k : ℕ) → i ≡ j → a ≡ b → AskedBy s i a k → Asks s j b k
 asks-as s i j a b k e f h = record { asks = inr (rw (← e, ← f) h) }
 
-pub short-binary : (x code : ℕ) → x / 256 ≡ 3 → x % 256 < binaryOps → code ≡ 1 + x % 256 → AsksShort x code 2
-short-binary x code e h c =
-    let z : x % 256 + 1 ≡ code = omega arith in
-    record { asks = λ s. asks-as s (Binary (x % 256)) (itemOf x) (x % 256 + 1) code 2 (sym (item-binary x e)) z (binary-asks s (x % 256) h) }
+module _ (x : Short) (code op : ℕ) (n : op ≡ x .number) where
+  pub short-binary : x .kind ≡ kindBinary → op < binaryOps → code ≡ 1 + op → AsksShort x code 2
+  short-binary e h c =
+      let z : x .number + 1 ≡ code = omega (arith, n, c) in
+      record { asks = λ s. asks-as s (Binary (x .number)) (itemOf x) (x .number + 1) code 2 (sym (item-binary x e)) z (binary-asks s (x .number) (omega (arith, n))) }
 
-pub short-unary : (x code : ℕ) → x / 256 ≡ 2 → x % 256 < unaryOps → code ≡ 19 + x % 256 → AsksShort x code 1
-short-unary x code e h c =
-    let z : x % 256 + 19 ≡ code = omega arith in
-    record { asks = λ s. asks-as s (Unary (x % 256)) (itemOf x) (x % 256 + 19) code 1 (sym (item-unary x e)) z (unary-asks s (x % 256) h) }
+  pub short-unary : x .kind ≡ kindUnary → op < unaryOps → code ≡ 19 + op → AsksShort x code 1
+  short-unary e h c =
+      let z : x .number + 19 ≡ code = omega (arith, n, c) in
+      record { asks = λ s. asks-as s (Unary (x .number)) (itemOf x) (x .number + 19) code 1 (sym (item-unary x e)) z (unary-asks s (x .number) (omega (arith, n))) }
 
-pub short-none : (x : ℕ) → AsksShort x 0 0
+pub short-none : (x : Short) → AsksShort x 0 0
 short-none x = record { asks = λ s. record { asks = inl refl } }
 
 -- and the item that it stands for
-pub asks-binary : (s : List ℕ) (op x code k : ℕ) → op < 256 → x ≡ 3 * 256 + op → AsksShort x code k → Asks s (Binary op) code k
-asks-binary s op x code k h e a =
-    let d : x / 256 ≡ 3 = omega arith in
-    let m : x % 256 ≡ op = omega arith in
-    subst (λ (i : Item). Asks s i code k) (item-binary x d ∙ ap Binary m) (a .asks s)
+pub asks-binary : (s : List ℕ) (op code k : ℕ) → AsksShort (short kindBinary op) code k → Asks s (Binary op) code k
+asks-binary s op code k a = subst (λ (i : Item). Asks s i code k) (item-binary (short kindBinary op) refl) (a .asks s)
 
-pub asks-unary : (s : List ℕ) (op x code k : ℕ) → op < 256 → x ≡ 2 * 256 + op → AsksShort x code k → Asks s (Unary op) code k
-asks-unary s op x code k h e a =
-    let d : x / 256 ≡ 2 = omega arith in
-    let m : x % 256 ≡ op = omega arith in
-    subst (λ (i : Item). Asks s i code k) (item-unary x d ∙ ap Unary m) (a .asks s)
+pub asks-unary : (s : List ℕ) (op code k : ℕ) → AsksShort (short kindUnary op) code k → Asks s (Unary op) code k
+asks-unary s op code k a = subst (λ (i : Item). Asks s i code k) (item-unary (short kindUnary op) refl) (a .asks s)
 
 -- THE STACK AFTER IT
 
 module _ (count : ℕ) (vals : List ℕ) (used : ℕ) (w : List ℕ) (ready : Ready count vals used w) where
-  pub quick-push : (x v : ℕ) → v ≡ x % 256 → x / 256 ≡ 1 → x % 256 < used → count < most → Quick x count vals used w (count + 1) (set vals count v)
+  pub quick-push : (x : Short) (t v : ℕ) → t ≡ x .number → v ≡ t → x .kind ≡ kindPush → t < used → count < most → Quick x count vals used w (count + 1) (set vals count v)
   unfolding effectOf itemOf effectBy
-  quick-push x v e k h f = record { went = inr (omega arith, omega arith, λ at s. rw k (sym (push-does (record { 0 = at }) count vals used w ready (x % 256) v e h f .effect))) }
+  quick-push x t v n e k h f = record { went = inr (omega arith, omega arith, λ at s. rw (k, ← n) (sym (push-does (record { 0 = at }) count vals used w ready t v e h f .effect))) }
 
-  pub quick-recalled : (memo : List ℕ) → Recalls memo w used → (x code k key base t : ℕ) → AsksShort x code k → Keyed code k count vals key base → key ≢ 0
+  pub quick-recalled : (memo : List ℕ) → Recalls memo w used → (x : Short) (code k key base t : ℕ) → AsksShort x code k → Keyed code k count vals key base → key ≢ 0
       → Recalled memo key t → t ≢ nothing → Quick x count vals used w (base + 1) (set vals base t)
   unfolding effectBy
   quick-recalled memo r x code k key base t a b m f n =
@@ -81,24 +77,26 @@ module _ (count : ℕ) (vals : List ℕ) (used : ℕ) (w : List ℕ) (ready : Re
         );
       }
 
--- a number that went is the one of the item at the place
-pub quick-there : (s : List ℕ) (at x count : ℕ) (vals : List ℕ) (used : ℕ) (w : List ℕ) (r : ℕ) (after : List ℕ) → ShortAt s at x → Quick x count vals used w r after
-    → QuickAt s at count vals used w r after
+-- what went is the item at the place
+bad-stays : (at : ℕ) (st st' : State) (s : List ℕ) (x : Short) → x .kind ≡ 0 → effectOf at st s (itemOf x) ≡ goes st' → ⊥
 unfolding effectOf itemOf
-quick-there s at x count vals used w r after h q = go (h .found) (q .went)
+bad-stays at st st' s x e h = let y = rw e at h in impossible (cc)
+
+pub quick-there : (s : List ℕ) (at : ℕ) (x : Short) (count : ℕ) (vals : List ℕ) (used : ℕ) (w : List ℕ) (r : ℕ) (after : List ℕ) → x ≡ shortOf (itemAt s at .item)
+    → Quick x count vals used w r after → QuickAt s at count vals used w r after
+quick-there s at x count vals used w r after h q = go (q .went)
   where
-    go : (x ≡ 0) ⊎ ((at + 3 ≤ length s) × (itemAt s at ≡ record { item = itemOf x; at = atPlace at; next = atPlace (at + 3) }))
-        → ((r ≡ 0) × (after ≡ vals)) ⊎ ((1 ≤ r) × (r ≤ most) × ((k : ℕ) (t : List ℕ) → effectOf k (stateOf count vals used w) t (itemOf x) ≡ goes (stateOf r after used w)))
+    go : ((r ≡ 0) × (after ≡ vals)) ⊎ ((1 ≤ r) × (r ≤ most) × ((k : ℕ) (t : List ℕ) → effectOf k (stateOf count vals used w) t (itemOf x) ≡ goes (stateOf r after used w)))
         → QuickAt s at count vals used w r after
-    go a (inl z) = record { went = inl z }
-    go (inl e) (inr z) = let y = rw e at (z .2 at s) in impossible (cc)
-    go (inr e) (inr z) =
+    go (inl z) = record { went = inl z }
+    go (inr z) =
+        let e = short-item s at x h (λ k. bad-stays at (stateOf count vals used w) (stateOf r after used w) s x k (z .2 at s)) in
         record {
           went = inr (record {
             some = z .0;
             high = z .1;
             within = e .0;
-            next = ap (λ (y : Placed). y .next .0) (e .1);
-            effect = ap (λ (y : Placed). effectOf at (stateOf count vals used w) s (y .item)) (e .1) ∙ z .2 at s;
+            next = e .1;
+            effect = ap (effectOf at (stateOf count vals used w) s) (e .2) ∙ z .2 at s;
           });
         }

@@ -1,3 +1,1 @@
-pub mod Memo
-pub mod Asking
-pub mod Quick
+pub mod inner

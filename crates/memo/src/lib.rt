@@ -3,44 +3,34 @@
 use cast::wide;
 use cast::wide32;
 use cast::word64;
-use frame::HEADER;
 use frame::ITEM_BINARY;
 use frame::ITEM_PUSH;
+use frame::ITEM_UNARY;
 use frame::Item;
 use frame::Part;
+use frame::Short;
 use names::Rule;
 use step::Did;
 use step::VALUES;
 use table::Place;
 use table::TypeNo;
 ghost use mathlib.Core.Path.{_≡_};
-ghost use Prim.Native.Nat.{_/_, _<_, _≤_, _^_};
+ghost use Prim.Native.Nat.{_+_, _<_, _≤_, _^_};
 ghost use lib.ListN.{length};
-ghost use Rattle.frame.specs.Frame.{nameOf, Within};
+ghost use Rattle.frame.specs.Frame.{kindPush};
+ghost use Rattle.frame.specs.inner.Items.{sheetOf, LiesIn, NameIn};
 ghost use Rattle.frame.specs.declared.Item.the-variants.{Call};
 ghost use Rattle.call_ty.specs.Codes.{Under};
 ghost use Rattle.step.specs.Effect.{effectOf};
-ghost use Rattle.step.specs.Code.{stateOf, Ready, Does};
-ghost use Rattle.memo.specs.Memo.{keyOf, Recalls, Recalled, Noted, Leaves, NotedStep, AfterStep};
-ghost use Rattle.memo.specs.Asking.{Small, Coded, Asks, Keyed};
-ghost use Rattle.memo.specs.Quick.{ShortAt, AsksShort, Quick, QuickAt};
+ghost use Rattle.step.specs.inner.Code.{stateOf, Ready, Does};
+ghost use Rattle.memo.specs.inner.Memo.{keyOf, Recalls, Recalled, Noted, Leaves, NotedStep, AfterStep};
+ghost use Rattle.memo.specs.inner.Asking.{Small, Coded, Asks, Keyed};
+ghost use Rattle.memo.specs.inner.Quick.{AsksShort, Quick, QuickAt};
 
 // How many values the memo holds, and what it answers where it has none.
 pub const SLOTS: usize = 256;
 
 const NOTHING: u32 = 256;
-
-// How many bytes a push and an operator have, and how many of them follow the length byte.
-pub const SHORT: usize = 3;
-
-const FOLLOWING: u8 = 2;
-
-// The kinds of those items, as the first part of their numbers.
-const PUSH: u32 = 1;
-
-const UNARY: u32 = 2;
-
-const BINARY: u32 = 3;
 
 // How many operators there are, below which number the rules of builtins are, and how many operands of a call are looked at.
 const BINARY_OPS: u32 = 18;
@@ -72,12 +62,12 @@ pub struct Key {
 
 // THE MEMO
 
-// The slot of a key. Any would do: a slot says itself what it holds.
+// The first of the two slots of a key. Any would do: a slot says itself what it holds.
 fn slot_of(key: u64) -> usize
     requires { ⌜ key < 2 ^ 32 ⌝ }
-    ensures { λ r. ⌜ r < 256 ⌝ }
+    ensures { λ r. ⌜ r + 1 < 256 ⌝ }
 {
-    (key * 2654435761 / 16777216 % 256) as usize
+    (key * 2654435761 / 33554432 % 128 * 2) as usize
 }
 
 // The value that the memo has for a key, or NOTHING.
@@ -85,19 +75,25 @@ fn recall(memo: &[u64], key: u64) -> u32
     requires { ⌜ (length (now memo) ≡ 256) × (key < 2 ^ 32) ⌝ }
     ensures { λ r. ⌜ Recalled (now (memo .entry)) key r ⌝ }
 {
-    let v = memo[slot_of(key)];
+    let i = slot_of(key);
+    let v = memo[i];
     if v / 256 == key {
         return (v % 256) as u32;
+    }
+    let u = memo[i + 1];
+    if u / 256 == key {
+        return (u % 256) as u32;
     }
     NOTHING
 }
 
-// Notes the value for a key.
+// Notes the value for a key in its first slot; what that had moves to the second.
 fn note(memo: &mut [u64], key: u64, t: u32)
     requires { ⌜ (length (now memo) ≡ 256) × (key < 2 ^ 32) × (t < 256) ⌝ }
     ensures { λ _. ⌜ Noted (now (memo .entry)) key t (now (memo .exit)) ⌝ }
 {
     let i = slot_of(key);
+    memo[i + 1] = memo[i];
     memo[i] = key * 256 + word64(t);
 }
 
@@ -114,13 +110,13 @@ fn note_did(memo: &mut [u64], key: u64, d: Did, stack: &[u32])
     }
 }
 
-// WHAT IS ASKED. An operator is one number there: the kind times 256, and its own number.
+// WHAT IS ASKED
 
-fn asked_short(x: u32) -> Ask
+fn asked_short(x: Short) -> Ask
     ensures { λ r. ⌜ AsksShort x (r .code) (r .operands) ⌝ }
 {
-    let op = x % 256;
-    if x / 256 == BINARY {
+    let op = wide32(x.number);
+    if x.kind == ITEM_BINARY {
         if BINARY_OPS <= op {
             return Ask {
                 code: 0,
@@ -132,7 +128,7 @@ fn asked_short(x: u32) -> Ask
             operands: 2,
         };
     }
-    if x / 256 == UNARY {
+    if x.kind == ITEM_UNARY {
         if UNARY_OPS <= op {
             return Ask {
                 code: 0,
@@ -151,9 +147,9 @@ fn asked_short(x: u32) -> Ask
 }
 
 // A call of a builtin asks by the rule of its name.
-fn asked_call(sheet: &[u8], name: Part, k: u8) -> Ask
-    requires { ⌜ Within (length (now sheet)) name ⌝ }
-    ensures { λ r. ⌜ Asks (now (sheet .entry)) (Call k name) (r .code) (r .operands) ⌝ }
+fn asked_call(items: &[u8], name: Part, k: u8) -> Ask
+    requires { ⌜ LiesIn (length (now items)) name ⌝ }
+    ensures { λ r. ⌜ Asks (sheetOf (now (items .entry))) (Call k name) (r .code) (r .operands) ⌝ }
 {
     if (k < 1) | (OPERANDS < k) {
         return Ask {
@@ -161,7 +157,7 @@ fn asked_call(sheet: &[u8], name: Part, k: u8) -> Ask
             operands: 0,
         };
     }
-    match names::rule_of(frame::part_of(sheet, name)) {
+    match names::rule_of(frame::name_in(items, name)) {
         Rule::Is(rule) => {
             if RULES <= rule {
                 return Ask {
@@ -181,14 +177,20 @@ fn asked_call(sheet: &[u8], name: Part, k: u8) -> Ask
     }
 }
 
-fn asked(sheet: &[u8], item: Item) -> Ask
-    requires { ⌜ Within (length (now sheet)) (nameOf item) ⌝ }
-    ensures { λ r. ⌜ Asks (now (sheet .entry)) item (r .code) (r .operands) ⌝ }
+fn asked(items: &[u8], item: Item) -> Ask
+    requires { ⌜ NameIn (length (now items)) item ⌝ }
+    ensures { λ r. ⌜ Asks (sheetOf (now (items .entry))) item (r .code) (r .operands) ⌝ }
 {
     match item {
-        Item::Unary(op) => asked_short(UNARY * 256 + wide32(op)),
-        Item::Binary(op) => asked_short(BINARY * 256 + wide32(op)),
-        Item::Call { count: k, name } => asked_call(sheet, name, k),
+        Item::Unary(op) => asked_short(Short {
+            kind: ITEM_UNARY,
+            number: op,
+        }),
+        Item::Binary(op) => asked_short(Short {
+            kind: ITEM_BINARY,
+            number: op,
+        }),
+        Item::Call { count: k, name } => asked_call(items, name, k),
         _ => Ask {
             code: 0,
             operands: 0,
@@ -228,33 +230,16 @@ fn keyed(a: Ask, stack: &[u32], count: usize) -> Key
 
 // QUICK ITEMS: a push, and an operator that the memo has, change the stack alone.
 
-// The number of the push or the operator at a place; 0 where none is, or a badly framed one.
-fn short_at(sheet: &[u8], at: usize) -> u32
-    ensures { λ r. ⌜ ShortAt (now (sheet .entry)) at r ⌝ }
-{
-    if (at < HEADER) | (sheet.len() <= at) {
-        return 0;
-    }
-    if sheet.len() - at < SHORT {
-        return 0;
-    }
-    if sheet[at] != FOLLOWING {
-        return 0;
-    }
-    let kind = sheet[at + 1];
-    if (kind < ITEM_PUSH) | (ITEM_BINARY < kind) {
-        return 0;
-    }
-    wide32(kind) * 256 + wide32(sheet[at + 2])
-}
-
 // A push: how many values stand then, or 0 where it cannot be.
-fn quick_push(x: u32, stack: &mut [u32], count: usize, table: &[u32], used: usize) -> usize
-    requires { ⌜ Ready count (now stack) used (now table) × (x / 256 ≡ 1) ⌝ }
+fn quick_push(x: Short, stack: &mut [u32], count: usize, table: &[u32], used: usize) -> usize
+    requires { ⌜ Ready count (now stack) used (now table) × (x .kind ≡ kindPush) ⌝ }
     ensures { λ r. ⌜ Quick x count (now (stack .entry)) used (now (table .entry)) r (now (stack .exit)) ⌝ }
 {
-    let t = TypeNo((x % 256) as usize);
-    if (used <= t.0) | (VALUES <= count) {
+    let t = TypeNo(wide(x.number));
+    if used <= t.0 {
+        return 0;
+    }
+    if VALUES <= count {
         return 0;
     }
     stack[count] = held::value(t);
@@ -262,11 +247,18 @@ fn quick_push(x: u32, stack: &mut [u32], count: usize, table: &[u32], used: usiz
 }
 
 // The same of an operator, by the memo.
-fn quick(x: u32, stack: &mut [u32], count: usize, table: &[u32], used: usize, memo: &[u64]) -> usize
+fn quick(
+    x: Short,
+    stack: &mut [u32],
+    count: usize,
+    table: &[u32],
+    used: usize,
+    memo: &[u64],
+) -> usize
     requires { ⌜ Ready count (now stack) used (now table) × Recalls (now memo) (now table) used ⌝ }
     ensures { λ r. ⌜ Quick x count (now (stack .entry)) used (now (table .entry)) r (now (stack .exit)) ⌝ }
 {
-    if x / 256 == PUSH {
+    if x.kind == ITEM_PUSH {
         return quick_push(x, stack, count, table, used);
     }
     let a = keyed(asked_short(x), stack, count);
@@ -284,7 +276,7 @@ fn quick(x: u32, stack: &mut [u32], count: usize, table: &[u32], used: usize, me
 
 // The item at a place, where it is a quick one: how many values stand then; else 0.
 pub fn quick_at(
-    sheet: &[u8],
+    items: &[u8],
     at: Place,
     stack: &mut [u32],
     count: usize,
@@ -293,29 +285,28 @@ pub fn quick_at(
     memo: &[u64],
 ) -> usize
     requires { ⌜ Ready count (now stack) used (now table) × Recalls (now memo) (now table) used ⌝ }
-    ensures { λ r. ⌜ QuickAt (now (sheet .entry)) (at .0) count (now (stack .entry)) used (now (table .entry)) r (now (stack .exit)) ⌝ }
+    ensures { λ r. ⌜ QuickAt (sheetOf (now (items .entry))) (at .0) count (now (stack .entry)) used (now (table .entry)) r (now (stack .exit)) ⌝ }
 {
-    let x = short_at(sheet, at.0);
-    quick(x, stack, count, table, used, memo)
+    quick(frame::short_in(items, at), stack, count, table, used, memo)
 }
 
 // What stands at a place of the sheet: recalled where the memo has it, else typed, and noted.
 pub fn noted_step(
-    sheet: &[u8],
+    items: &[u8],
     item: Item,
-    place: Place,
+    at: Place,
     stack: &mut [u32],
     count: usize,
     table: &mut [u32],
     used: usize,
     memo: &mut [u64],
 ) -> Did
-    requires { ⌜ Ready count (now stack) used (now table) × Within (length (now sheet)) (nameOf item) × Recalls (now memo) (now table) used ⌝ }
-    ensures { λ r. ⌜ Does (effectOf (place .0) (stateOf count (now (stack .entry)) used (now (table .entry))) (now (sheet .entry)) item) r (now (stack .exit)) (now (table .exit)) × AfterStep r (now (memo .exit)) (now (table .exit)) ⌝ }
+    requires { ⌜ Ready count (now stack) used (now table) × NameIn (length (now items)) item × Recalls (now memo) (now table) used ⌝ }
+    ensures { λ r. ⌜ Does (effectOf (at .0) (stateOf count (now (stack .entry)) used (now (table .entry))) (sheetOf (now (items .entry))) item) r (now (stack .exit)) (now (table .exit)) × AfterStep r (now (memo .exit)) (now (table .exit)) ⌝ }
 {
-    let a = keyed(asked(sheet, item), stack, count);
+    let a = keyed(asked(items, item), stack, count);
     if a.number == 0 {
-        return step::step(sheet, item, place, stack, count, table, used);
+        return step::step(items, item, at, stack, count, table, used);
     }
     let t = recall(memo, a.number);
     if t != NOTHING {
@@ -326,7 +317,7 @@ pub fn noted_step(
             used,
         };
     }
-    let d = step::step(sheet, item, place, stack, count, table, used);
+    let d = step::step(items, item, at, stack, count, table, used);
     note_did(memo, a.number, d, stack);
     d
 }

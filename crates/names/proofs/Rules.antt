@@ -5,7 +5,7 @@ use mathlib.Core.Path.{_≡_, refl, sym, _∙_, ap, subst}
 use mathlib.Core.Bool.{Bool, true, false, cond}
 use mathlib.Core.List.{List, [], _∷_, map}
 use lib.Dec.{eqb, ltb}
-use lib.ListN.{List·getD-eq-default}
+use lib.ListN.{length, List·getD-eq-default}
 use borrow.Author.Tests.{lt-ltb, le-ltb, eq-eqb, ne-eqb, ltb-true, ltb-false}
 use Rattle.overload.specs.Rows.{Row, rows, noRow, rowAt, Ruling, Known}
 use Rattle.overload.specs.Rows.Ruling.{byRow, address, indirection}
@@ -106,8 +106,8 @@ ruling-known s indirection e = tt
 
 -- so is a ruling that a number has
 
-none : (k : ℕ) → 47 ≤ k → rowAt k ≡ noRow
-unfolding rows rowAt
+none : (k : ℕ) → length rows ≤ k → rowAt k ≡ noRow
+unfolding rowAt
 none k h = List·getD-eq-default rows noRow h
 
 no-row : Known (byRow noRow)
@@ -115,11 +115,11 @@ unfolding Known rows rowAt
 no-row = refl
 
 row-number : (k : ℕ) → Known (byRow (rowAt k))
-row-number k = go (ltb k 47) refl
+row-number k = go (ltb k (length rows)) refl
   where
-    go : (b : Bool) → ltb k 47 ≡ b → Known (byRow (rowAt k))
-    go true e = row-known k (ltb-true k 47 e)
-    go false e = subst (λ (r : Row). Known (byRow r)) (sym (none k (ltb-false k 47 e))) no-row
+    go : (b : Bool) → ltb k (length rows) ≡ b → Known (byRow (rowAt k))
+    go true e = row-known k (ltb-true k (length rows) e)
+    go false e = subst (λ (r : Row). Known (byRow r)) (sym (none k (ltb-false k (length rows) e))) no-row
 
 pub number-known : (k : ℕ) (r : Ruling) → numbered k ≡ ruling r → Known r
 unfolding numbered

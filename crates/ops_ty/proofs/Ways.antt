@@ -11,7 +11,7 @@ use Rattle.conv.specs.Rank.{isReference}
 use Rattle.overload.specs.Rows.{rows, rowAt, Ruling, judgeRow, judgeAddress, judgeIndirection, alone, judgeBy, Known}
 use Rattle.overload.specs.Rows.Ruling.{byRow}
 use Rattle.overload.proofs.Rulings.{known-rows}
-use Rattle.overload.specs.Code.{operand, codeOf}
+use Rattle.overload.specs.inner.Code.{operand, codeOf}
 use Rattle.overload.proofs.Operands.{allFormed}
 use Rattle.table.specs.Table.{soundb, Sound}
 use Rattle.table.proofs.FormedLaws.{formed-at}

@@ -1,220 +1,226 @@
 -- DEMAND 3: "a call is accepted exactly when an overload fits, all operands converting to its parameters. The result is that of one fitting
 -- overload under which no operand costs more, by WGSL's conversion ranks, than under any other fitting overload; every other costs more at
--- some operand." Proved for every listed row and all operands; no second judgment meets it, and refusal 13 is never given. Assumes nothing.
-use Prim.Native.Nat.{ℕ, _/_, _<_, _≤_}
+-- some operand." Proved of any family that passes the test, and of any row: where an overload fits the one of the first T and the first I, in the order
+-- of preference, at which the operands fit is preferred to every other, and no other family of the row fits. Assumes nothing.
+use Prim.Native.Nat.{ℕ, zero, suc, _+_, _*_, _<_, _≤_}
 use native.Mathlib.Omega.{arith}
-use mathlib.Core.Path.{_≡_, refl, sym, _∙_, ap, subst}
+use native.Mathlib.Nat.{le-of-suc-le-suc, not-suc-le-zero}
+use mathlib.Core.Path.{_≡_, refl, sym, _∙_, ap, ap₂, subst}
 use mathlib.Core.Logic.{_⊎_, _≢_, inl, inr, ⊎-elim}
-use mathlib.Core.Bool.{Bool, true, false}
+use mathlib.Core.Bool.{Bool, true, false, not}
 use mathlib.Core.List.{List, [], _∷_, map, List·Memᴰ}
-use lib.Dec.{T, eqb, ltb, eqb→eq, ltb→lt}
+use lib.Dec.{T, eqb, leb, ltb, eqb→eq, leb→le, ltb→lt, lt→ltb, T-not}
 use lib.ListN.{length, getD}
 use borrow.Author.Tests.{eqb-true, eqb-false}
-use Rattle.conv.specs.Rank.{pick, both, none, formOf}
-use Rattle.conv.proofs.Finite.{both-left, both-right, both-pair, below}
+use Rattle.conv.specs.Types.{Ty}
+use Rattle.conv.specs.Rank.{both, none, rankOf, formOf, shapeOf, componentOf, sameShape, converts}
+use Rattle.conv.proofs.Finite.{both-left, both-right, both-pair, all, below}
 use Rattle.conv.proofs.Ranks.{order}
-use Rattle.overload.specs.Overload.{Overload, or, fits, Preferred, Resolved}
-use Rattle.overload.specs.Overload.Judged.{noneFits}
-use Rattle.overload.specs.Rows.{Family, formAt, patternTy, overload, rows, overloadsOf, ofRow, rowAt}
-use Rattle.overload.specs.Code.{shapeOfNo, shapeNo, operand, sizeOfNo, familyOf, noFamily, firstParam, familyAt, pivotNo, sizeAt, wordOf, member, firstOf, preference, fitsAt, firstX, lastX, formsOf}
-use Rattle.overload.proofs.Preference.{Sized, or-cases, Beats, beats}
-use Rattle.overload.proofs.Slots.{sized-no}
-use Rattle.overload.proofs.Families.{good, param-small}
-use Rattle.overload.proofs.Listing.{to-listed, row-family}
-use Rattle.overload.proofs.Places.{Inside, inside, size-small, size-proper, size-listed}
-use Rattle.overload.proofs.Found.{Found, complete, fits-at, shape-of-fit, shape-back, pivot-word}
+use Rattle.conv.proofs.Made.{same-shape-self}
+use Rattle.overload.specs.Overload.{Overload, or, fits, listed, Preferred, Resolved}
+use Rattle.overload.specs.Overload.Judged.{gives, noneFits, nonePreferred}
+use Rattle.overload.specs.Rows.{Size, Component, Pattern, Family, Row, formAt, componentAt, patternTy, overload, ofFamily, rows, noRow, overloadsOf, ofRow, rowAt}
+use Rattle.overload.specs.Rows.Component.{ofT, ofI, expT, just}
+use Rattle.overload.specs.inner.Code as code
+use Rattle.overload.specs.inner.Code.{member, firstOf, preference, reaches, noFamily, formsAt, placeOf, stopOf, noPlace}
+use Rattle.overload.proofs.Preference.{Sized, Upto, Beats, beats-T, beats-I, fine, allFine, isI, some, isT, one-only, not-before, or-cases, or-left, or-right, form-small, from-small}
+use Rattle.overload.proofs.First.{none-passes, first-passes, first-upto}
+use Rattle.overload.proofs.Families.{Good, Fair, good-in, every, every-at, every-in}
+use Rattle.overload.proofs.Fitting.{sizeOfXs, size-of-fit, count-of-fit, forms-of-fit, shape-of-fit, component-of-fit, firstTy, lastTy}
+use Rattle.overload.proofs.Listing.{Of, of-family, to-family, listed-of, to-listed}
 
--- THE FIRST OF A LIST that passes a test
+-- A FAMILY at operands
 
-later : ℕ → List ℕ → Bool
-later t [] = true
-later t (u ∷ us) = both (ltb (order t) (order u)) (later t us)
+-- the operands' sets of T and of I: P and Q say where they fit
+abbrev pub Fitted : Family → Size → List Ty → (ℕ → Bool) → (ℕ → Bool) → Type 0
+Fitted f z xs P Q = (t i : ℕ) → t < 7 → i < 7 → fits (map (patternTy z t i) (f .params)) xs ≡ both (P t) (Q i)
 
-rising : List ℕ → Bool
-rising [] = true
-rising (t ∷ ts) = both (both (ltb t 7) (later t ts)) (rising ts)
+-- those of the family's sets
+abbrev pub takes : List ℕ → (ℕ → Bool) → ℕ → Bool
+takes set P t = both (member t set) (P t)
 
-later-at : (t : ℕ) (us : List ℕ) → T (later t us) → (u : ℕ) → T (member u us) → T (ltb (order t) (order u))
-unfolding later member
-later-at t [] h u m = absurd m
-later-at t (v ∷ vs) h u m =
-    ⊎-elim (λ e. subst (λ (w : ℕ). T (ltb (order t) (order w))) (sym (eqb→eq u v e)) (both-left _ _ h))
-    (λ n. later-at t vs (both-right (ltb (order t) (order v)) _ h) u n)
-    (or-cases (eqb u v) (member u vs) m)
-
-module _ (g : ℕ → Bool) where
-  pub first-some : (ts : List ℕ) → firstOf ts g ≢ none → T (g (firstOf ts g))
-  unfolding firstOf
-  first-some [] h = absurd (h refl)
-  first-some (t ∷ ts) h = go (g t) refl (first-some ts)
-    where
-      go : (b : Bool) → g t ≡ b → (firstOf ts g ≢ none → T (g (firstOf ts g))) → T (g (pick (g t) t (firstOf ts g)))
-      go true e ih = rw (e, e) tt
-      go false e ih = rw e (ih (λ q. h (rw e q)))
-
-  first-none : (ts : List ℕ) → T (rising ts) → firstOf ts g ≡ none → (u : ℕ) → T (member u ts) → T (g u) → ⊥
-  unfolding firstOf rising member
-  first-none [] r e u m h = m
-  first-none (t ∷ ts) r e u m h = go (g t) refl (first-none ts (both-right (both (ltb t 7) (later t ts)) _ r))
-    where
-      go : (b : Bool) → g t ≡ b → (firstOf ts g ≡ none → (u : ℕ) → T (member u ts) → T (g u) → ⊥) → ⊥
-      go true q ih =
-          let l = ltb→lt t 7 (both-left _ _ (both-left _ _ r)) in
-          let z : t ≡ none = rw q at e in omega arith
-      go false q ih =
-          ⊎-elim (λ s. subst T (ap g (eqb→eq u t s) ∙ q) h) (λ n. ih (rw q at e) u n h) (or-cases (eqb u t) (member u ts) m)
-
-  first-least : (ts : List ℕ) → T (rising ts) → (u : ℕ) → T (member u ts) → T (g u) → (u ≡ firstOf ts g) ⊎ T (ltb (order (firstOf ts g)) (order u))
-  unfolding firstOf rising member
-  first-least [] r u m h = absurd m
-  first-least (t ∷ ts) r u m h = go (g t) refl (first-least ts (both-right (both (ltb t 7) (later t ts)) _ r) u)
-    where
-      go : (b : Bool) → g t ≡ b → (T (member u ts) → T (g u) → (u ≡ firstOf ts g) ⊎ T (ltb (order (firstOf ts g)) (order u)))
-          → (u ≡ pick (g t) t (firstOf ts g)) ⊎ T (ltb (order (pick (g t) t (firstOf ts g))) (order u))
-      go true q ih =
-          ⊎-elim (λ s. inl (rw q (eqb→eq u t s))) (λ n. inr (rw q (later-at t ts (both-right (ltb t 7) _ (both-left _ _ r)) u n))) (or-cases (eqb u t) (member u ts) m)
-      go false q ih = ⊎-elim (λ s. absurd (subst T (ap g (eqb→eq u t s) ∙ q) h)) (λ n. rw q (ih n h)) (or-cases (eqb u t) (member u ts) m)
-
-small-in : (ts : List ℕ) → T (rising ts) → (t : ℕ) → T (member t ts) → t < 7
-unfolding rising member
-small-in [] r t m = absurd m
-small-in (u ∷ us) r t m =
-    ⊎-elim (λ e. let q = eqb→eq t u e in let l = ltb→lt u 7 (both-left _ _ (both-left _ _ r)) in omega arith)
-    (λ n. small-in us (both-right (both (ltb u 7) (later u us)) _ r) t n)
-    (or-cases (eqb t u) (member t us) m)
-
-rising-preference : T (rising preference)
-unfolding rising later both
-rising-preference = tt
-
-in-preference : (u : ℕ) → u < 7 → T (member u preference)
-unfolding both member or
-in-preference u h = below 7 (λ u. member u preference) tt u h
-
-pub preference-small : (t : ℕ) → T (member t preference) → t < 7
-preference-small t m = small-in preference rising-preference t m
-
--- A FAMILY AND A SIZE that the operands' shapes give
-
-pub record At (row : ℕ) (xs : List ℕ) (f n : ℕ) : Type 0 where
-  pub row-below : row < 47
-  pub inside : Inside row f
-  pub count : length xs ≡ length (familyOf f .params)
-  pub family : familyAt row (formsOf xs) ≡ f
-  pub size : sizeAt (wordOf f 7) (firstX xs / 7) (lastX xs / 7) ≡ n
-  pub low : wordOf f 8 ≤ n
-  pub high : n ≤ wordOf f 9
-
--- T is of the set, and the operands fit at T
-abbrev pub takes : ℕ → ℕ → List ℕ → ℕ → Bool
-takes f n xs t = both (member t (familyOf f .set)) (fitsAt f n t xs)
-
-module _ (row : ℕ) (xs : List ℕ) (f n : ℕ) (a : At row xs f n) where
-  -- every fitting overload of the row is of this family and this size
-  pub of-here : (p : Overload) → List·Memᴰ p (overloadsOf (rowAt row)) → T (fits (p .params) (map operand xs))
-      → (t : ℕ) × T (takes f n xs t) × (t < 7) × (p ≡ overload (familyOf f) t (sizeOfNo n))
-  of-here p m h =
-      let c = complete row xs p h m in
-      let ef : c .f ≡ f = sym (c .family) ∙ a .family in
-      let en : c .n ≡ n = sym (c .size) ∙ ap (λ (k : ℕ). sizeAt (wordOf k 7) (firstX xs / 7) (lastX xs / 7)) ef ∙ a .size in (
-        c .t,
-        both-pair _ _ (subst (λ (k : ℕ). T (member (c .t) (familyOf k .set))) ef (c .inSet)) (subst (λ (k : ℕ). T (fitsAt f k (c .t) xs)) en (subst (λ (k : ℕ). T (fitsAt k (c .n) (c .t) xs)) ef (c .fitting))),
-        good (c .f) (c .below) .set (c .t) (c .inSet),
-        c .is ∙ (λ j. overload (familyOf (ef j)) (c .t) (sizeOfNo (en j))),
-      )
-
-  -- where no T takes the operands no overload of the row fits
-  pub none-takes : firstOf preference (takes f n xs) ≡ none → Resolved (ofRow (rowAt row)) (map operand xs) noneFits
+module _ (f : Family) (g : Good f) (xs : List Ty) where
+  -- another count, or a size that is none of the family's
+  pub count-apart : length xs ≢ length (f .params) → Resolved (listed (ofFamily f)) xs noneFits
   unfolding Resolved
-  none-takes e p m h =
-      let q = of-here p m h in
-      first-none (takes f n xs) preference rising-preference e (q .0) (in-preference (q .0) (q .2)) (q .1)
+  count-apart n p m h = n (count-of-fit f g p (of-family f p m) xs h)
 
-  hf : f < 61
-  hf = a .inside .below
+  pub size-apart : (List·Memᴰ (sizeOfXs f xs) (f .sizes) → ⊥) → Resolved (listed (ofFamily f)) xs noneFits
+  unfolding Resolved
+  size-apart n p m h =
+      let q = of-family f p m in
+      n (subst (λ (z : Size). List·Memᴰ z (f .sizes)) (size-of-fit f g p q xs h) (q .inSizes))
 
-  first-shape : (t : ℕ) → T (takes f n xs t) → pivotNo (familyOf f) ≡ 0 → shapeNo (formAt (firstParam (familyOf f) .form) (sizeOfNo n)) ≡ n
-  unfolding sizeAt
-  first-shape t h e =
-      let g = good f hf in
-      let some : 1 ≤ length (familyOf f .params) = g .some in
-      let hz : Sized (sizeOfNo n) = sized-no n (size-small f n hf (a .low) (a .high)) (size-proper f n hf (a .low) (a .high)) in
-      shape-back (firstX xs / 7) (formAt (firstParam (familyOf f) .form) (sizeOfNo n))
-      (shape-of-fit (firstX xs) (sizeOfNo n) t (firstParam (familyOf f)) hz (g .set t (both-left _ _ h)) (param-small f 0 hf (omega arith))
-      (fits-at (patternTy (sizeOfNo n) t) (familyOf f .params) xs (both-right (member t (familyOf f .set)) _ h) 0 (omega arith)))
-      ∙ sym (ap (λ (k : ℕ). sizeAt k (firstX xs / 7) (lastX xs / 7)) (pivot-word f ∙ e))
-      ∙ a .size
+  module _ (z : Size) (e : z ≡ sizeOfXs f xs) (mz : List·Memᴰ z (f .sizes)) (P Q : ℕ → Bool) (law : Fitted f z xs P Q) where
+    -- every fitting overload is of this size, at a T and an I of the operands' sets
+    record Here (p : Overload) : Type 0 where
+      t : ℕ
+      i : ℕ
+      ht : t < 7
+      hi : i < 7
+      inT : T (takes (f .set) P t)
+      inI : T (takes (f .second) Q i)
+      is : p ≡ overload f t i z
 
-  here : (t : ℕ) → T (takes f n xs t) → List·Memᴰ (overload (familyOf f) t (sizeOfNo n)) (overloadsOf (rowAt row))
-  here t h =
-      let i = a .inside .i in
-      let e : familyOf f ≡ getD (rowAt row .families) i noFamily = ap familyOf (a .inside .is) ∙ row-family row i (a .inside .within) in
-      subst (λ (k : Family). List·Memᴰ (overload k t (sizeOfNo n)) (overloadsOf (rowAt row))) (sym e)
-      (to-listed (rowAt row .families) i t (sizeOfNo n) (a .inside .within)
-      (subst (λ (k : Family). T (member t (k .set))) e (both-left _ _ h))
-      (subst (λ (k : Family). List·Memᴰ (sizeOfNo n) (k .sizes)) e (size-listed f n hf (a .low) (a .high) (first-shape t h))))
+    here : (p : Overload) → List·Memᴰ p (ofFamily f) → T (fits (p .params) xs) → Here p
+    here p m h =
+        let q = of-family f p m in
+        let is : p ≡ overload f (q .t) (q .i) z = q .is ∙ ap (overload f (q .t) (q .i)) (size-of-fit f g p q xs h ∙ sym e) in
+        let a = g .set (q .t) (q .inSet) in
+        let b = g .second (q .i) (q .inSecond) in
+        let k = subst T (law (q .t) (q .i) a b) (subst (λ (o : Overload). T (fits (o .params) xs)) is h) in
+        record {
+          t = q .t;
+          i = q .i;
+          ht = a;
+          hi = b;
+          inT = both-pair _ _ (q .inSet) (both-left _ _ k);
+          inI = both-pair _ _ (q .inSecond) (both-right (P (q .t)) _ k);
+          is = is;
+        }
 
-  pub first-preferred-takes : (t : ℕ) → firstOf preference (takes f n xs) ≡ t → t ≢ none → T (takes f n xs t)
-  first-preferred-takes t e h = subst (λ (u : ℕ). T (takes f n xs u)) e (first-some (takes f n xs) preference (λ q. h (sym e ∙ q)))
+    -- no T, or no I
+    pub no-T : firstOf preference (takes (f .set) P) ≡ none → Resolved (listed (ofFamily f)) xs noneFits
+    unfolding Resolved
+    no-T n p m h = let q = here p m h in none-passes (takes (f .set) P) n (q .t) (q .ht) (q .inT)
 
-  -- where one does, the overload of the first in the order of preference is preferred
-  pub first-preferred : (t : ℕ) → firstOf preference (takes f n xs) ≡ t → t ≢ none → Preferred (ofRow (rowAt row)) (map operand xs) (overload (familyOf f) t (sizeOfNo n))
-  first-preferred t e h =
-      let g = good f hf in
-      let k : T (takes f n xs t) = first-preferred-takes t e h in
-      let ht = g .set t (both-left _ _ k) in
-      let hz : Sized (sizeOfNo n) = sized-no n (size-small f n hf (a .low) (a .high)) (size-proper f n hf (a .low) (a .high)) in
-      record {
-        among = here t k;
-        fitting = both-right (member t (familyOf f .set)) _ k;
-        over = λ p m fp.
-            let q = of-here p m fp in
-            ⊎-elim (λ s. inl (q .3 ∙ ap (λ (u : ℕ). overload (familyOf f) u (sizeOfNo n)) (s ∙ e)))
-            (λ s. inr (subst (λ (r : Overload). Beats (map operand xs) (overload (familyOf f) t (sizeOfNo n) .params) (r .params)) (sym (q .3))
-            (beats (sizeOfNo n) t (q .0) hz ht (q .2) (subst (λ (u : ℕ). T (ltb (order u) (order (q .0)))) e s) (map operand xs) (familyOf f .params) (g .small) (g .ofSomeT)
-            (both-right (member t (familyOf f .set)) _ k) (both-right (member (q .0) (familyOf f .set)) _ (q .1)))))
-            (first-least (takes f n xs) preference rising-preference (q .0) (in-preference (q .0) (q .2)) (q .1));
-      }
+    pub no-I : firstOf preference (takes (f .second) Q) ≡ none → Resolved (listed (ofFamily f)) xs noneFits
+    unfolding Resolved
+    no-I n p m h = let q = here p m h in none-passes (takes (f .second) Q) n (q .i) (q .hi) (q .inI)
 
-pub no-fit : (row : ℕ) (xs : List ℕ) → Resolved (ofRow (rowAt row)) (map operand xs) noneFits → (p : Overload) → List·Memᴰ p (overloadsOf (rowAt row)) → T (fits (p .params) (map operand xs)) → ⊥
+    -- the overload of the first T and the first I
+    module _ (t i : ℕ) (et : firstOf preference (takes (f .set) P) ≡ t) (ei : firstOf preference (takes (f .second) Q) ≡ i) (nt : t ≢ none) (ni : i ≢ none) where
+      inT : T (takes (f .set) P t)
+      inT = subst (λ (k : ℕ). T (takes (f .set) P k)) et (first-passes (takes (f .set) P) (λ q. nt (sym et ∙ q)))
+
+      inI : T (takes (f .second) Q i)
+      inI = subst (λ (k : ℕ). T (takes (f .second) Q k)) ei (first-passes (takes (f .second) Q) (λ q. ni (sym ei ∙ q)))
+
+      pub small-T : t < 7
+      small-T = g .set t (both-left _ _ inT)
+
+      pub small-I : i < 7
+      small-I = g .second i (both-left _ _ inI)
+
+      fit : T (fits (map (patternTy z t i) (f .params)) xs)
+      fit = subst T (sym (law t i small-T small-I)) (both-pair _ _ (both-right (member t (f .set)) _ inT) (both-right (member i (f .second)) _ inI))
+
+      over : (p : Overload) → Here p → T (fits (p .params) xs) → (p ≡ overload f t i z) ⊎ Beats xs (overload f t i z .params) (p .params)
+      over p q h = go upT upI
+        where
+          upT : Upto t (q .t)
+          upT = subst (λ (k : ℕ). Upto k (q .t)) et (first-upto (takes (f .set) P) (q .t) (q .ht) (q .inT))
+
+          upI : Upto i (q .i)
+          upI = subst (λ (k : ℕ). Upto k (q .i)) ei (first-upto (takes (f .second) Q) (q .i) (q .hi) (q .inI))
+
+          other : T (fits (map (patternTy z (q .t) (q .i)) (f .params)) xs)
+          other = subst (λ (o : Overload). T (fits (o .params) xs)) (q .is) h
+
+          won : Beats xs (map (patternTy z t i) (f .params)) (map (patternTy z (q .t) (q .i)) (f .params)) → (p ≡ overload f t i z) ⊎ Beats xs (overload f t i z .params) (p .params)
+          won b = inr (subst (λ (o : Overload). Beats xs (overload f t i z .params) (o .params)) (sym (q .is)) b)
+
+          sized : Sized z
+          sized = g .fair z mz .sized
+
+          byT : T (ltb (order t) (order (q .t))) → Beats xs (map (patternTy z t i) (f .params)) (map (patternTy z (q .t) (q .i)) (f .params))
+          byT l =
+              ⊎-elim (λ o. absurd (not-before t (q .t) (one-only (f .set) o t (q .t) (both-left _ _ inT) (both-left _ _ (q .inT))) l))
+              (λ o. beats-T z (f .set) t (q .t) i (q .i) sized (both-left _ _ inT) (both-left _ _ (q .inT)) small-T (q .ht) small-I (q .hi) upT upI xs (f .params) (g .small) fit other l o)
+              (or-cases (leb (length (f .set)) 1) (some isT (f .params)) (g .ofSomeT))
+
+          byI : T (ltb (order i) (order (q .i))) → Beats xs (map (patternTy z t i) (f .params)) (map (patternTy z (q .t) (q .i)) (f .params))
+          byI l =
+              ⊎-elim (λ o. absurd (not-before i (q .i) (one-only (f .second) o i (q .i) (both-left _ _ inI) (both-left _ _ (q .inI))) l))
+              (λ o. beats-I z (f .set) t (q .t) i (q .i) sized (both-left _ _ inT) (both-left _ _ (q .inT)) small-T (q .ht) small-I (q .hi) upT upI xs (f .params) (g .small) fit other l o)
+              (or-cases (leb (length (f .second)) 1) (some isI (f .params)) (g .ofSomeI))
+
+          go : Upto t (q .t) → Upto i (q .i) → (p ≡ overload f t i z) ⊎ Beats xs (overload f t i z .params) (p .params)
+          go (inr l) b = won (byT l)
+          go (inl a) (inr l) = won (byI l)
+          go (inl a) (inl b) = inl (q .is ∙ (λ j. overload f (sym a j) (sym b j) z))
+
+      pub first-preferred : Preferred (listed (ofFamily f)) xs (overload f t i z)
+      first-preferred =
+          record {
+            among = to-family f t i z (both-left _ _ inT) (both-left _ _ inI) mz;
+            fitting = fit;
+            over = λ p m h. over p (here p m h) h;
+          }
+
+-- the sets of any operands: those at which the parameters that are not of I fit, and those that are
+unfoldable partT : Size → ℕ → List Pattern → List Ty → Bool
+partT z t [] [] = true
+partT z t [] (x ∷ xs) = false
+partT z t (p ∷ ps) [] = false
+partT z t (p ∷ ps) (x ∷ xs) = both (or (isI (p .of)) (converts x (patternTy z t 0 p))) (partT z t ps xs)
+
+unfoldable partI : Size → ℕ → List Pattern → List Ty → Bool
+partI z i [] [] = true
+partI z i [] (x ∷ xs) = true
+partI z i (p ∷ ps) [] = true
+partI z i (p ∷ ps) (x ∷ xs) = both (or (not (isI (p .of))) (converts x (patternTy z 0 i p))) (partI z i ps xs)
+
+both-yes : (a : Bool) → a ≡ both a true
+unfolding both
+both-yes true = refl
+both-yes false = refl
+
+-- no operand depends on both
+slot-parts : (x : Ty) (z : Size) (t i : ℕ) (fm : _) (c : Component)
+    → converts x (patternTy z t i (record { form = fm; of = c })) ≡ both (or (isI c) (converts x (patternTy z t 0 (record { form = fm; of = c })))) (or (not (isI c)) (converts x (patternTy z 0 i (record { form = fm; of = c }))))
+unfolding componentAt or both
+slot-parts x z t i fm ofT = both-yes _
+slot-parts x z t i fm ofI = refl
+slot-parts x z t i fm expT = both-yes _
+slot-parts x z t i fm (just s) = both-yes _
+
+shuffle : (a b c d : Bool) → both (both a b) (both c d) ≡ both (both a c) (both b d)
+unfolding both
+shuffle true true c d = refl
+shuffle true false true d = refl
+shuffle true false false d = refl
+shuffle false b c d = refl
+
+parts : (z : Size) (t i : ℕ) (ps : List Pattern) (xs : List Ty) → fits (map (patternTy z t i) ps) xs ≡ both (partT z t ps xs) (partI z i ps xs)
+unfolding fits partT partI both
+parts z t i [] [] = refl
+parts z t i [] (x ∷ xs) = refl
+parts z t i (p ∷ ps) [] = refl
+parts z t i (p ∷ ps) (x ∷ xs) =
+    ap₂ both (slot-parts x z t i (p .form) (p .of)) (parts z t i ps xs)
+    ∙ shuffle (or (isI (p .of)) (converts x (patternTy z t 0 p))) (or (not (isI (p .of))) (converts x (patternTy z 0 i p))) (partT z t ps xs) (partI z i ps xs)
+
+-- so where an overload of a family fits one is preferred
+pub family-preferred : (f : Family) → Good f → (xs : List Ty) (p : Overload) → List·Memᴰ p (ofFamily f) → T (fits (p .params) xs) → (o : Overload) × Preferred (listed (ofFamily f)) xs o
 unfolding Resolved
-no-fit row xs r = r
-
--- a fitting overload gives the place
-module _ (row : ℕ) (xs : List ℕ) (p : Overload) (c : Found row xs p) where
-  forms-below : formsOf xs < 9
-  forms-below =
-      let a = ltb→lt (formOf (shapeOfNo (firstX xs / 7))) 3 (c .first) in
-      let b = ltb→lt (formOf (shapeOfNo (lastX xs / 7))) 3 (c .last) in omega arith
-
-  found-at : At row xs (c .f) (c .n)
-  found-at =
-      record {
-        row-below = c .row-below;
-        inside = subst (Inside row) (c .family) (inside row (formsOf xs) (c .row-below) forms-below (λ e. let l = c .below in let q = sym (c .family) ∙ e in omega arith));
-        count = c .count;
-        family = c .family;
-        size = c .size;
-        low = c .low;
-        high = c .high;
-      }
-
--- where an overload of a row fits one is preferred
-pub some-preferred : (row : ℕ) (xs : List ℕ) (p : Overload) → List·Memᴰ p (overloadsOf (rowAt row)) → T (fits (p .params) (map operand xs))
-    → (o : Overload) × Preferred (ofRow (rowAt row)) (map operand xs) o
-some-preferred row xs p m h = go (eqb (firstOf preference (takes (c .f) (c .n) xs)) none) refl
+family-preferred f g xs p m h = go (eqb t none) refl (eqb i none) refl
   where
-    c : Found row xs p
-    c = complete row xs p h m
+    q : Of f p
+    q = of-family f p m
 
-    a : At row xs (c .f) (c .n)
-    a = found-at row xs p c
+    z : Size
+    z = q .z
 
-    nothing : Resolved (ofRow (rowAt row)) (map operand xs) noneFits → (o : Overload) × Preferred (ofRow (rowAt row)) (map operand xs) o
-    nothing r = absurd (no-fit row xs r p m h)
+    P : ℕ → Bool
+    P t = partT z t (f .params) xs
 
-    go : (b : Bool) → eqb (firstOf preference (takes (c .f) (c .n) xs)) none ≡ b → (o : Overload) × Preferred (ofRow (rowAt row)) (map operand xs) o
-    go true e = nothing (none-takes row xs (c .f) (c .n) a (eqb-true _ none e))
-    go false e =
-        let t = firstOf preference (takes (c .f) (c .n) xs) in
-        (overload (familyOf (c .f)) t (sizeOfNo (c .n)), first-preferred row xs (c .f) (c .n) a t refl (eqb-false _ none e))
+    Q : ℕ → Bool
+    Q i = partI z i (f .params) xs
+
+    e : z ≡ sizeOfXs f xs
+    e = size-of-fit f g p q xs h
+
+    law : Fitted f z xs P Q
+    law t i a b = parts z t i (f .params) xs
+
+    t : ℕ
+    t = firstOf preference (takes (f .set) P)
+
+    i : ℕ
+    i = firstOf preference (takes (f .second) Q)
+
+    go : (a : Bool) → eqb t none ≡ a → (b : Bool) → eqb i none ≡ b → (o : Overload) × Preferred (listed (ofFamily f)) xs o
+    go true a b c = absurd (no-T f g xs z e (q .inSizes) P Q law (eqb-true t none a) p m h)
+    go false a true c = absurd (no-I f g xs z e (q .inSizes) P Q law (eqb-true i none c) p m h)
+    go false a false c = (overload f t i z, first-preferred f g xs z e (q .inSizes) P Q law t i refl refl (eqb-false t none a) (eqb-false i none c))

@@ -1,65 +1,89 @@
 -- The lines of the tables: what a number has as its entries, by tests that antt computes. Assumes nothing.
-use Prim.Native.Nat.{ℕ, _*_, _/_, _^_, _<_, _≤_}
+use Prim.Native.Nat.{ℕ, zero, suc, _+_, _*_, _/_, _<_, _≤_}
+use native.Mathlib.Omega.{arith}
+use native.Mathlib.Nat.{not-suc-le-zero}
 use mathlib.Core.Path.{_≡_, refl, sym, _∙_, ap, subst}
-use mathlib.Core.Logic.{_≢_, _⊎_, inl, inr}
-use mathlib.Core.Bool.{Bool, true, false}
+use mathlib.Core.Bool.{Bool}
 use mathlib.Core.List.{List, []}
 use lib.Dec.{T, eqb, ltb, eqb→eq, lt→ltb}
-use lib.ListN.{getD, List·getD-eq-default}
-use borrow.Author.Tests.{eqb-true, eqb-false}
-use Rattle.conv.specs.Rank.{pick, none}
-use Rattle.conv.proofs.Finite.{implies, modus, all, below}
-use Rattle.overload.specs.Rows.{Family, rows, rowAt}
-use Rattle.overload.specs.Code as code
-use Rattle.overload.specs.Code.{noFamily, familyOf, familyAt, encode, askedOf, liftOf, entry, orNone, sets, setOf, Families, Word, Starts, Lifts}
+use lib.ListN.{length, getD, List·getD-eq-default}
+use Rattle.conv.specs.Rank.{pick}
+use Rattle.conv.proofs.Finite.{implies, modus, same, same-eq, all, below, below₂}
+use Rattle.overload.specs.Rows.{Size, Family, Row, rows, rowAt, noRow, operandCount}
+use Rattle.overload.specs.inner.Code as code
+use Rattle.overload.specs.inner.Code.{noFamily, familyOf, families, startOf, placeOf, stopOf, encode, askedOf, entry, has, member, sets, setOf, sizeLists, sizesOf, memSize, sizeOfNo, slotT, RowLine, Word, Starts, Sizes, Scalars, Reached}
+use Rattle.overload.proofs.Listing.{row-family}
 
 -- a line whose entries pass the test has them
 pub line : (b n : ℕ) (g : ℕ → ℕ) (w : ℕ) → T (all n (λ i. eqb (entry b w i) (g i))) → (i : ℕ) → i < n → entry b w i ≡ g i
 line b n g w t i h = eqb→eq _ _ (below n (λ i. eqb (entry b w i) (g i)) t i h)
 
--- A LINE OF EACH TABLE: of the row k, the family k, the size k, the set k
+-- A LINE OF EACH TABLE: of the row k, the family k, the size k, the list of sizes k, the set k
 
-pub families-line : (k : ℕ) {w row : ℕ} → T (all 9 (λ i. eqb (entry 6 w i) (orNone 63 (familyAt k i)))) → row ≡ k → Families row w
-families-line k {w} t e =
-    subst (λ (row : ℕ). Families row w) (sym e) (record { family = line 6 9 (λ i. orNone 63 (familyAt k i)) w t })
-
-pub word-of : (g : Family) {w f : ℕ} → T (all 10 (λ i. eqb (entry 6 w i) (getD (encode g) i 0))) → setOf (w / 2 ^ 60) ≡ g .set → familyOf f ≡ g → Word f w
-word-of g {w} t s e =
+line-of : (r : Row) {w row : ℕ} → T (all 9 (λ i. eqb (entry 4 w i) (placeOf i (r .families) 0))) → entry 4 w 9 ≡ stopOf (r .families) → entry 4 w 12 ≡ operandCount r
+    → ((i : ℕ) → i < length (r .families) → familyOf (entry 8 w 5 + i) ≡ getD (r .families) i noFamily) → rowAt row ≡ r → RowLine row w
+line-of r {w} {row} t s c f e =
     record {
-      words = λ i h. line 6 10 (λ i. getD (encode g) i 0) w t i h ∙ ap (λ (g : Family). getD (encode g) i 0) (sym e);
-      set = s ∙ ap (λ (g : Family). g .set) (sym e);
+      place = λ i h. line 4 9 (λ i. placeOf i (r .families) 0) w t i h ∙ ap (λ (x : Row). placeOf i (x .families) 0) (sym e);
+      stop = s ∙ ap (λ (x : Row). stopOf (x .families)) (sym e);
+      family = λ i h. f i (subst (λ (x : Row). i < length (x .families)) e h) ∙ ap (λ (x : Row). getD (x .families) i noFamily) (sym e);
+      count = c ∙ ap operandCount (sym e);
     }
 
-pub word-line : (k : ℕ) {w f : ℕ} → T (all 10 (λ i. eqb (entry 6 w i) (getD (encode (familyOf k)) i 0))) → setOf (w / 2 ^ 60) ≡ familyOf k .set → f ≡ k → Word f w
-word-line k t s e = word-of (familyOf k) t s (ap familyOf e)
+pub row-line : (k : ℕ) {w row : ℕ} → T (all 9 (λ i. eqb (entry 4 w i) (placeOf i (rowAt k .families) 0))) → entry 4 w 9 ≡ stopOf (rowAt k .families) → entry 8 w 5 ≡ startOf k
+    → entry 4 w 12 ≡ operandCount (rowAt k) → row ≡ k → RowLine row w
+row-line k t s b c e = line-of (rowAt k) t s c (λ i h. ap (λ (n : ℕ). familyOf (n + i)) b ∙ row-family k i h) (ap rowAt e)
+
+-- past the last row
+pub no-row-line : {w row : ℕ} → T (all 9 (λ i. eqb (entry 4 w i) (placeOf i [] 0))) → entry 4 w 9 ≡ stopOf [] → entry 4 w 12 ≡ operandCount noRow → length rows ≤ row → RowLine row w
+unfolding rowAt
+no-row-line t s c h = line-of noRow t s c (λ i l. absurd (not-suc-le-zero l)) (List·getD-eq-default rows noRow h)
+
+word-of : (g : Family) {w f : ℕ} → T (all 13 (λ i. eqb (entry 4 w i) (getD (encode g) i 0))) → sizesOf (entry 4 w 13) ≡ g .sizes → setOf (entry 4 w 14) ≡ g .set → setOf (entry 4 w 15) ≡ g .second
+    → familyOf f ≡ g → Word f w
+word-of g {w} t z s v e =
+    record {
+      digits = λ i h. line 4 13 (λ i. getD (encode g) i 0) w t i h ∙ ap (λ (g : Family). getD (encode g) i 0) (sym e);
+      sizes = z ∙ ap (λ (g : Family). g .sizes) (sym e);
+      set = s ∙ ap (λ (g : Family). g .set) (sym e);
+      second = v ∙ ap (λ (g : Family). g .second) (sym e);
+    }
+
+pub word-line : (k : ℕ) {w f : ℕ} → T (all 13 (λ i. eqb (entry 4 w i) (getD (encode (familyOf k)) i 0))) → sizesOf (entry 4 w 13) ≡ familyOf k .sizes → setOf (entry 4 w 14) ≡ familyOf k .set
+    → setOf (entry 4 w 15) ≡ familyOf k .second → f ≡ k → Word f w
+word-line k t z s v e = word-of (familyOf k) t z s v (ap familyOf e)
 
 -- past the last family
-pub no-family : (f : ℕ) → 61 ≤ f → familyOf f ≡ noFamily
-unfolding rows rowAt code.joined code.families familyOf
-no-family f h = List·getD-eq-default code.families noFamily h
+pub no-word-line : {w f : ℕ} → T (all 13 (λ i. eqb (entry 4 w i) (getD (encode noFamily) i 0))) → sizesOf (entry 4 w 13) ≡ [] → setOf (entry 4 w 14) ≡ [] → setOf (entry 4 w 15) ≡ [] → length families ≤ f → Word f w
+unfolding familyOf
+no-word-line t z s v h = word-of noFamily t z s v (List·getD-eq-default families noFamily h)
 
-pub starts-line : (k : ℕ) {w n : ℕ} → T (all 8 (λ i. implies (ltb (askedOf i k) 13) (eqb (entry 8 w i) (7 * askedOf i k)))) → n ≡ k → Starts n w
+pub starts-line : (k : ℕ) {w n : ℕ} → T (all 7 (λ i. implies (ltb (askedOf i k) 13) (eqb (entry 8 w i) (7 * askedOf i k)))) → n ≡ k → Starts n w
 starts-line k {w} t e =
     subst (λ (n : ℕ). Starts n w) (sym e)
     (record {
-      start = λ i h a. eqb→eq _ _ (modus _ _ (below 8 (λ i. implies (ltb (askedOf i k) 13) (eqb (entry 8 w i) (7 * askedOf i k))) t i h) (lt→ltb (askedOf i k) 13 a));
+      start = λ i h a. eqb→eq _ _ (modus _ _ (below 7 (λ i. implies (ltb (askedOf i k) 13) (eqb (entry 8 w i) (7 * askedOf i k))) t i h) (lt→ltb (askedOf i k) 13 a));
     })
 
-pub lifts-of : (us : List ℕ) {w set : ℕ} → T (all 7 (λ s. eqb (entry 3 w s) (orNone 7 (liftOf us s)))) → setOf set ≡ us → Lifts set w
-lifts-of us {w} t e =
-    record { lift = λ s h. line 3 7 (λ s. orNone 7 (liftOf us s)) w t s h ∙ ap (λ (us : List ℕ). orNone 7 (liftOf us s)) (sym e) }
+sizes-of : (zs : List Size) {w k : ℕ} → T (all 41 (λ n. same (has w n) (memSize (sizeOfNo n) zs))) → sizesOf k ≡ zs → Sizes k w
+sizes-of zs {w} t e =
+    record { within = λ n h. same-eq _ _ (below 41 (λ n. same (has w n) (memSize (sizeOfNo n) zs)) t n h) ∙ ap (memSize (sizeOfNo n)) (sym e) }
 
-pub lifts-line : (k : ℕ) {w set : ℕ} → T (all 7 (λ s. eqb (entry 3 w s) (orNone 7 (liftOf (setOf k) s)))) → set ≡ k → Lifts set w
-lifts-line k t e = lifts-of (setOf k) t (ap setOf e)
+pub sizes-line : (k : ℕ) {w l : ℕ} → T (all 41 (λ n. same (has w n) (memSize (sizeOfNo n) (sizesOf k)))) → l ≡ k → Sizes l w
+sizes-line k t e = sizes-of (sizesOf k) t (ap sizesOf e)
 
--- past the last set
-pub no-set : (k : ℕ) → 11 ≤ k → setOf k ≡ []
-no-set k h = List·getD-eq-default sets [] h
+pub no-sizes-line : {w l : ℕ} → T (all 41 (λ n. same (has w n) (memSize (sizeOfNo n) []))) → length sizeLists ≤ l → Sizes l w
+no-sizes-line t h = sizes-of [] t (List·getD-eq-default sizeLists [] h)
 
--- an entry that may be none
-pub entry-cases : (top k r : ℕ) → r ≡ orNone top k → ((k ≡ none) × (r ≡ top)) ⊎ ((k ≢ none) × (r ≡ k))
-entry-cases top k r e = go (eqb k none) refl
-  where
-    go : (b : Bool) → eqb k none ≡ b → ((k ≡ none) × (r ≡ top)) ⊎ ((k ≢ none) × (r ≡ k))
-    go true q = inl (eqb-true k none q, e ∙ ap (λ (b : Bool). pick b top k) q)
-    go false q = inr (eqb-false k none q, e ∙ ap (λ (b : Bool). pick b top k) q)
+set-of : (us : List ℕ) {w k : ℕ} → T (all 7 (λ s. same (has w s) (member s us))) → setOf k ≡ us → Scalars k w
+set-of us {w} t e = record { within = λ s h. same-eq _ _ (below 7 (λ s. same (has w s) (member s us)) t s h) ∙ ap (member s) (sym e) }
+
+pub set-line : (k : ℕ) {w l : ℕ} → T (all 7 (λ s. same (has w s) (member s (setOf k)))) → l ≡ k → Scalars l w
+set-line k t e = set-of (setOf k) t (ap setOf e)
+
+pub no-set-line : {w l : ℕ} → T (all 7 (λ s. same (has w s) (member s []))) → length sets ≤ l → Scalars l w
+no-set-line t h = set-of [] t (List·getD-eq-default sets [] h)
+
+pub reached-line : (k : ℕ) {w of : ℕ} → T (all 7 (λ s. all 7 (λ t. same (has (entry 8 w s) t) (slotT k s t)))) → of ≡ k → Reached of w
+reached-line k {w} t e =
+    subst (λ (of : ℕ). Reached of w) (sym e) (record { within = λ s u hs hu. same-eq _ _ (below₂ 7 7 (λ s u. same (has (entry 8 w s) u) (slotT k s u)) t s u hs hu) })

@@ -1,13 +1,13 @@
 -- "Each choice of T, width and shape is one overload, listed once": no row has an overload twice, which antt computes. Assumes nothing.
-use Prim.Native.Nat.{ℕ, _<_}
+use Prim.Native.Nat.{ℕ}
 use mathlib.Core.Bool.{Bool, true, false, not}
 use mathlib.Core.List.{List, [], _∷_}
 use lib.Dec.{T}
 use Rattle.conv.specs.Rank.{both, tagOf, firstOf, secondOf, elementOf, made, componentOf, sameTy}
-use Rattle.conv.proofs.Finite.{below}
 use Rattle.overload.specs.Overload.{Overload, or, sameTys, sameOverload}
+use Rattle.overload.proofs.Families.{every, every-at}
 use Rattle.overload.specs.Rows as rows
-use Rattle.overload.specs.Rows.{overloadsOf, rowAt, rows}
+use Rattle.overload.specs.Rows.{Row, noRow, overloadsOf, rowAt, rows}
 
 pub stands : Overload → List Overload → Bool
 stands o [] = false
@@ -17,6 +17,17 @@ pub once : List Overload → Bool
 once [] = true
 once (o ∷ os) = both (not (stands o os)) (once os)
 
-pub listed-once : (row : ℕ) → row < 47 → T (once (overloadsOf (rowAt row)))
-unfolding stands once or both sameTys sameTy tagOf firstOf secondOf elementOf made componentOf rows rowAt rows.formAt rows.componentAt rows.ofFamilies rows.overSet rows.atSizes
-listed-once row h = below 47 (λ row. once (overloadsOf (rowAt row))) tt row h
+rowOnce : Row → Bool
+rowOnce r = once (overloadsOf r)
+
+computed : T (every rowOnce rows)
+unfolding every rowOnce stands once or both sameTys sameTy tagOf firstOf secondOf elementOf made componentOf rows rowAt rows.formAt rows.componentAt rows.ofFamilies rows.overSet rows.atSizes rows.overSecond
+computed = tt
+
+no-row : T (rowOnce noRow)
+unfolding rowOnce once rows.ofFamilies
+no-row = tt
+
+pub listed-once : (row : ℕ) → T (once (overloadsOf (rowAt row)))
+unfolding rowAt rowOnce
+listed-once row = every-at rowOnce noRow rows no-row computed row

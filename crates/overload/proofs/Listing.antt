@@ -1,4 +1,4 @@
--- What stands in the list of a row's overloads: one overload for each family, T of its set and size. Assumes nothing.
+-- What stands in the list of a row's overloads: one overload for each family, T of its set, size and I of its second set. Assumes nothing.
 use Prim.Native.Nat.{ℕ, zero, suc, _+_, _<_}
 use native.Mathlib.Omega.{arith}
 use native.Mathlib.Nat.{le-of-suc-le-suc, not-suc-le-zero, zero-add, add-assoc}
@@ -9,23 +9,33 @@ use lib.Dec.{T, eqb, eqb→eq, eqb-refl}
 use lib.ListN.{length, getD, take, length-append, List·getD-append}
 use lib.Seq.{getD-append-add}
 use Rattle.overload.specs.Overload.{Overload}
-use Rattle.overload.specs.Rows.{Size, Family, overload, atSizes, overSet, ofFamilies, Row, noRow, rows, rowAt}
-use Rattle.overload.specs.Code.{joined, families, familyOf, startOf, noFamily, member}
+use Rattle.overload.specs.Rows.{Size, Family, overload, overSecond, atSizes, overSet, ofFamily, ofFamilies, Row, noRow, rows, rowAt}
+use Rattle.overload.specs.inner.Code.{joined, families, familyOf, startOf, noFamily, member}
 use Rattle.overload.proofs.Preference.{or-cases, or-left, or-right}
 
 -- an overload of a family
 pub record Of (f : Family) (o : Overload) : Type 0 where
   pub t : ℕ
+  pub i : ℕ
   pub z : Size
   pub inSet : T (member t (f .set))
+  pub inSecond : T (member i (f .second))
   pub inSizes : List·Memᴰ z (f .sizes)
-  pub is : o ≡ overload f t z
+  pub is : o ≡ overload f t i z
 
-at-size : (f : Family) (t : ℕ) (zs : List Size) (o : Overload) → List·Memᴰ o (atSizes f t zs) → (z : Size) × List·Memᴰ z zs × (o ≡ overload f t z)
+over-second : (f : Family) (t : ℕ) (z : Size) (is : List ℕ) (o : Overload) → List·Memᴰ o (overSecond f t z is) → (i : ℕ) × T (member i is) × (o ≡ overload f t i z)
+unfolding overSecond member
+over-second f t z [] o m = absurd (List·Memᴰ·not-nil m)
+over-second f t z (i ∷ is) o m =
+    ⊎-elim (λ e. (i, or-left (eqb i i) (member i is) (eqb-refl i), e))
+    (λ n. let r = over-second f t z is o n in (r .0, or-right (eqb (r .0) i) (member (r .0) is) (r .1), r .2))
+    (List·Memᴰ·cases-cons m)
+
+at-size : (f : Family) (t : ℕ) (zs : List Size) (o : Overload) → List·Memᴰ o (atSizes f t zs) → (z : Size) × List·Memᴰ z zs × List·Memᴰ o (overSecond f t z (f .second))
 unfolding atSizes
 at-size f t [] o m = absurd (List·Memᴰ·not-nil m)
 at-size f t (z ∷ zs) o m =
-    ⊎-elim (λ e. (z, List·Memᴰ·head refl, e)) (λ n. let r = at-size f t zs o n in (r .0, List·Memᴰ·tail (r .1), r .2)) (List·Memᴰ·cases-cons m)
+    ⊎-elim (λ e. (z, List·Memᴰ·head refl, e)) (λ n. let r = at-size f t zs o n in (r .0, List·Memᴰ·tail (r .1), r .2)) (List·Memᴰ·append-cases (overSecond f t z (f .second)) m)
 
 over-set : (f : Family) (ts : List ℕ) (o : Overload) → List·Memᴰ o (overSet f ts) → (t : ℕ) × T (member t ts) × List·Memᴰ o (atSizes f t (f .sizes))
 unfolding overSet member
@@ -35,40 +45,53 @@ over-set f (t ∷ ts) o m =
     (λ b. let r = over-set f ts o b in (r .0, or-right (eqb (r .0) t) (member (r .0) ts) (r .1), r .2))
     (List·Memᴰ·append-cases (atSizes f t (f .sizes)) m)
 
-of-family : (f : Family) (o : Overload) → List·Memᴰ o (overSet f (f .set)) → Of f o
+pub of-family : (f : Family) (o : Overload) → List·Memᴰ o (ofFamily f) → Of f o
 of-family f o m =
     let r = over-set f (f .set) o m in
     let q = at-size f (r .0) (f .sizes) o (r .2) in
-    record { t = r .0; z = q .0; inSet = r .1; inSizes = q .1; is = q .2 }
+    let w = over-second f (r .0) (q .0) (f .second) o (q .2) in
+    record { t = r .0; i = w .0; z = q .0; inSet = r .1; inSecond = w .1; inSizes = q .1; is = w .2 }
 
 -- an overload of a list of families is one of the family at some place
-pub listed-of : (fs : List Family) (o : Overload) → List·Memᴰ o (ofFamilies fs) → (i : ℕ) × (i < length fs) × Of (getD fs i noFamily) o
+pub listed-of : (fs : List Family) (o : Overload) → List·Memᴰ o (ofFamilies fs) → (k : ℕ) × (k < length fs) × List·Memᴰ o (ofFamily (getD fs k noFamily))
 unfolding ofFamilies
 listed-of [] o m = absurd (List·Memᴰ·not-nil m)
 listed-of (f ∷ fs) o m =
-    ⊎-elim (λ a. (0, omega arith, of-family f o a)) (λ b. let r = listed-of fs o b in let l = r .1 in (suc (r .0), omega arith, r .2)) (List·Memᴰ·append-cases (overSet f (f .set)) m)
+    ⊎-elim (λ a. (0, omega arith, a)) (λ b. let r = listed-of fs o b in let l = r .1 in (suc (r .0), omega arith, r .2)) (List·Memᴰ·append-cases (ofFamily f) m)
 
 -- and the other way
-to-size : (f : Family) (t : ℕ) (zs : List Size) (z : Size) → List·Memᴰ z zs → List·Memᴰ (overload f t z) (atSizes f t zs)
-unfolding atSizes
-to-size f t [] z m = absurd (List·Memᴰ·not-nil m)
-to-size f t (y ∷ zs) z m = ⊎-elim (λ e. List·Memᴰ·head (ap (overload f t) e)) (λ n. List·Memᴰ·tail (to-size f t zs z n)) (List·Memᴰ·cases-cons m)
+to-second : (f : Family) (t : ℕ) (z : Size) (is : List ℕ) (i : ℕ) → T (member i is) → List·Memᴰ (overload f t i z) (overSecond f t z is)
+unfolding overSecond member
+to-second f t z [] i m = absurd m
+to-second f t z (j ∷ is) i m =
+    ⊎-elim (λ e. List·Memᴰ·head (ap (λ (k : ℕ). overload f t k z) (eqb→eq i j e))) (λ n. List·Memᴰ·tail (to-second f t z is i n)) (or-cases (eqb i j) (member i is) m)
 
-to-set : (f : Family) (ts : List ℕ) (t : ℕ) (z : Size) → T (member t ts) → List·Memᴰ z (f .sizes) → List·Memᴰ (overload f t z) (overSet f ts)
-unfolding overSet member
-to-set f [] t z h m = absurd h
-to-set f (u ∷ ts) t z h m =
+to-size : (f : Family) (t i : ℕ) (zs : List Size) (z : Size) → T (member i (f .second)) → List·Memᴰ z zs → List·Memᴰ (overload f t i z) (atSizes f t zs)
+unfolding atSizes
+to-size f t i [] z h m = absurd (List·Memᴰ·not-nil m)
+to-size f t i (y ∷ zs) z h m =
     ⊎-elim
-    (λ e. Memᴰ·append-left (overSet f ts) (subst (λ (v : ℕ). List·Memᴰ (overload f t z) (atSizes f v (f .sizes))) (eqb→eq t u e) (to-size f t (f .sizes) z m)))
-    (λ n. Memᴰ·append-right (atSizes f u (f .sizes)) (to-set f ts t z n m))
+    (λ e. Memᴰ·append-left (atSizes f t zs) (subst (λ (w : Size). List·Memᴰ (overload f t i z) (overSecond f t w (f .second))) e (to-second f t z (f .second) i h)))
+    (λ n. Memᴰ·append-right (overSecond f t y (f .second)) (to-size f t i zs z h n))
+    (List·Memᴰ·cases-cons m)
+
+to-set : (f : Family) (ts : List ℕ) (t i : ℕ) (z : Size) → T (member t ts) → T (member i (f .second)) → List·Memᴰ z (f .sizes) → List·Memᴰ (overload f t i z) (overSet f ts)
+unfolding overSet member
+to-set f [] t i z h g m = absurd h
+to-set f (u ∷ ts) t i z h g m =
+    ⊎-elim
+    (λ e. Memᴰ·append-left (overSet f ts) (subst (λ (v : ℕ). List·Memᴰ (overload f t i z) (atSizes f v (f .sizes))) (eqb→eq t u e) (to-size f t i (f .sizes) z g m)))
+    (λ n. Memᴰ·append-right (atSizes f u (f .sizes)) (to-set f ts t i z n g m))
     (or-cases (eqb t u) (member t ts) h)
 
-pub to-listed : (fs : List Family) (i t : ℕ) (z : Size) → i < length fs → T (member t (getD fs i noFamily .set)) → List·Memᴰ z (getD fs i noFamily .sizes)
-    → List·Memᴰ (overload (getD fs i noFamily) t z) (ofFamilies fs)
+pub to-family : (f : Family) (t i : ℕ) (z : Size) → T (member t (f .set)) → T (member i (f .second)) → List·Memᴰ z (f .sizes) → List·Memᴰ (overload f t i z) (ofFamily f)
+to-family f t i z h g m = to-set f (f .set) t i z h g m
+
+pub to-listed : (fs : List Family) (k : ℕ) (o : Overload) → k < length fs → List·Memᴰ o (ofFamily (getD fs k noFamily)) → List·Memᴰ o (ofFamilies fs)
 unfolding ofFamilies
-to-listed [] i t z h s m = absurd (not-suc-le-zero h)
-to-listed (f ∷ fs) zero t z h s m = Memᴰ·append-left (ofFamilies fs) (to-set f (f .set) t z s m)
-to-listed (f ∷ fs) (suc i) t z h s m = Memᴰ·append-right (overSet f (f .set)) (to-listed fs i t z (le-of-suc-le-suc h) s m)
+to-listed [] k o h m = absurd (not-suc-le-zero h)
+to-listed (f ∷ fs) zero o h m = Memᴰ·append-left (ofFamilies fs) m
+to-listed (f ∷ fs) (suc k) o h m = Memᴰ·append-right (ofFamily f) (to-listed fs k o (le-of-suc-le-suc h) m)
 
 -- the families of a row stand together in the list of all
 

@@ -15,13 +15,13 @@ use Rattle.conv.proofs.Finite.{below}
 use Rattle.conv.proofs.Made.{shape-made, component-made}
 use Rattle.overload.specs.Overload.Judged.{gives}
 use Rattle.overload.specs.Rows.{judgeRow, rowAt, operandCount}
-use Rattle.overload.specs.Code.{shapeOfNo, shapeNo, operand, codeOf, outOf, judgedOf}
+use Rattle.overload.specs.inner.Code.{shapeOfNo, shapeNo, operand, codeOf, outOf, judgedOf}
 use Rattle.overload.specs.declared.Out.{Out}
 use Rattle.overload.specs.declared.Out.the-variants.{Plain, Frexp, Modf}
 use Rattle.overload.specs.declared.Resolution.{Resolution}
 use Rattle.overload.specs.declared.Resolution.the-variants.{Gives, NoneFits, NonePreferred}
 use Rattle.overload.proofs.Operands.{code-of, and-left}
-use Rattle.overload.proofs.Found.{shape-numbers, beyond}
+use Rattle.overload.proofs.Resolving.{shape-numbers, beyond}
 use Rattle.overload.proofs.Results.{gives-formed}
 use lib.Dec.{eqb→eq}
 

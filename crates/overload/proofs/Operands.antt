@@ -7,7 +7,6 @@ use mathlib.Core.Logic.{_⊎_, inl, inr, ⊎-elim}
 use mathlib.Core.Bool.{Bool, true, false, _&&_, _||_}
 use mathlib.Core.List.{List, [], _∷_, map, List·Memᴰ}
 use lib.Dec.{T, eqb, leb, ltb}
-use lib.ListN.{getD}
 use borrow.Author.Tests.{ne-eqb, lt-ltb, le-ltb, ltb-true, leb-true, eqb-true}
 use Rattle.conv.specs.Types.{Ty, isWidth, isFloat, formed}
 use Rattle.conv.specs.Types.Ty.{scalar, vec, mat, array, runtime, atomic, ptr, ref, frexp, modf}
@@ -17,15 +16,13 @@ use Rattle.conv.proofs.Finite.{both-left, both-right}
 use Rattle.conv.proofs.Made.{made-rank, shape-made}
 use Rattle.overload.specs.Overload.{Overload, fits, noMore, less, or, Preferred, Judged, Resolved}
 use Rattle.overload.specs.Overload.Judged.{gives, noneFits, nonePreferred}
-use Rattle.overload.specs.Rows.{Size, Pattern, formAt, componentAt, patternTy, rows, overloadsOf, ofRow, judgeRow, rowAt}
-use Rattle.overload.specs.Code.{shapeOfNo, shapeNo, operand, codeOf, sizeNo, startOf, noFamily}
-use Rattle.overload.proofs.Preference.{Sized, smallC, allSmall, form-small, component-small}
-use Rattle.overload.proofs.Slots.{by-shape, sized-no}
-use Rattle.overload.proofs.Families.{Good, good}
-use Rattle.overload.proofs.Listing.{listed-of, row-family}
-use Rattle.overload.proofs.Places.{way}
-use Rattle.overload.proofs.Found.{row-in, total}
-use Rattle.overload.proofs.Demand3.{some-preferred}
+use Rattle.overload.specs.Rows.{Size, Pattern, formAt, componentAt, patternTy, overloadsOf, ofRow, judgeRow, rowAt}
+use Rattle.overload.specs.inner.Code.{shapeOfNo, shapeNo, operand, codeOf}
+use Rattle.overload.proofs.Preference.{Sized, fine, allFine, form-small, component-small}
+use Rattle.overload.proofs.Slots.{by-shape}
+use Rattle.overload.proofs.Families.{good-in}
+use Rattle.overload.proofs.Listing.{listed-of, of-family}
+use Rattle.overload.proofs.Apart.{familyAt, row-never}
 use Rattle.overload.proofs.Judge.{judge-resolved, judge-is}
 
 -- THE NUMBER OF A TYPE
@@ -171,87 +168,60 @@ allFormed (t ∷ ts) = formed t && allFormed ts
 abbrev pub codesOf : List Ty → List ℕ
 codesOf ts = map codeOf ts
 
--- parameters of a listed row
-pub record Params (ps : List Ty) : Type 0 where
-  pub t : ℕ
-  pub z : Size
-  pub patterns : List Pattern
-  pub sized : Sized z
-  pub scalar : t < 7
-  pub small : T (allSmall patterns)
-  pub are : ps ≡ map (patternTy z t) patterns
+-- a parameter that is a scalar, a vector or a matrix
+abbrev pub Made : Ty → Type 0
+Made p = (q : Shape) × (s : ℕ) × T (ltb (formOf q) 3) × (s < 7) × (p ≡ made q s)
 
-rank-alike : (x : Ty) (z : Size) (t : ℕ) (p : Pattern) → formed x ≡ true → Sized z → t < 7 → T (smallC (p .of))
-    → conversionRank x (patternTy z t p) ≡ conversionRank (operand (codeOf x)) (patternTy z t p)
-rank-alike x z t p f hz ht hs =
-    code-alike x f (formAt (p .form) z) (componentAt (p .of) t) (form-small (p .form) z hz) (component-small (p .of) t ht hs)
+unfoldable pub AllMade : List Ty → Type 0
+AllMade [] = Unit {0}
+AllMade (p ∷ ps) = Made p × AllMade ps
 
-module _ (z : Size) (t : ℕ) (hz : Sized z) (ht : t < 7) where
-  fits-by : (ps : List Pattern) (ts : List Ty) → T (allSmall ps) → allFormed ts ≡ true → fits (map (patternTy z t) ps) ts ≡ fits (map (patternTy z t) ps) (map operand (codesOf ts))
-  unfolding fits allFormed
-  fits-by [] [] s f = refl
-  fits-by [] (x ∷ xs) s f = refl
-  fits-by (p ∷ ps) [] s f = refl
-  fits-by (p ∷ ps) (x ∷ xs) s f =
-      ap₂ (λ (r : ℕ) (b : Bool). both (ltb r none) b) (rank-alike x z t p (and-left _ _ f) hz ht (both-left _ _ s))
-      (fits-by ps xs (both-right (smallC (p .of)) _ s) (and-right (formed x) _ f))
+rank-alike : (x p : Ty) → formed x ≡ true → Made p → conversionRank x p ≡ conversionRank (operand (codeOf x)) p
+rank-alike x p f m =
+    subst (λ (q : Ty). conversionRank x q ≡ conversionRank (operand (codeOf x)) q) (sym (m .4)) (code-alike x f (m .0) (m .1) (m .2) (m .3))
 
-  module _ (y : Size) (u : ℕ) (hy : Sized y) (hu : u < 7) where
-    no-more-by : (ts : List Ty) (ps qs : List Pattern) → T (allSmall ps) → T (allSmall qs) → allFormed ts ≡ true
-        → noMore ts (map (patternTy z t) ps) (map (patternTy y u) qs) ≡ noMore (map operand (codesOf ts)) (map (patternTy z t) ps) (map (patternTy y u) qs)
-    unfolding noMore allFormed
-    no-more-by [] ps qs s v f = refl
-    no-more-by (x ∷ xs) [] qs s v f = refl
-    no-more-by (x ∷ xs) (p ∷ ps) [] s v f = refl
-    no-more-by (x ∷ xs) (p ∷ ps) (q ∷ qs) s v f =
-        (λ i. both (leb (rank-alike x z t p (and-left _ _ f) hz ht (both-left _ _ s) i) (rank-alike x y u q (and-left _ _ f) hy hu (both-left _ _ v) i))
-        (no-more-by xs ps qs (both-right (smallC (p .of)) _ s) (both-right (smallC (q .of)) _ v) (and-right (formed x) _ f) i))
+-- the parameters of a pattern's list are such
+patterns-made : (set : List ℕ) (z : Size) (t i : ℕ) (ps : List Pattern) → Sized z → t < 7 → i < 7 → T (allFine set ps) → AllMade (map (patternTy z t i) ps)
+unfolding AllMade
+patterns-made set z t i [] hz ht hi s = tt
+patterns-made set z t i (p ∷ ps) hz ht hi s =
+    ((formAt (p .form) z, componentAt (p .of) t i, form-small (p .form) z hz, component-small set (p .of) t i ht hi (both-left _ _ s), refl), patterns-made set z t i ps hz ht hi (both-right (fine set (p .of)) _ s))
 
-    less-by : (ts : List Ty) (ps qs : List Pattern) → T (allSmall ps) → T (allSmall qs) → allFormed ts ≡ true
-        → less ts (map (patternTy z t) ps) (map (patternTy y u) qs) ≡ less (map operand (codesOf ts)) (map (patternTy z t) ps) (map (patternTy y u) qs)
-    unfolding less allFormed
-    less-by [] ps qs s v f = refl
-    less-by (x ∷ xs) [] qs s v f = refl
-    less-by (x ∷ xs) (p ∷ ps) [] s v f = refl
-    less-by (x ∷ xs) (p ∷ ps) (q ∷ qs) s v f =
-        (λ i. or (ltb (rank-alike x z t p (and-left _ _ f) hz ht (both-left _ _ s) i) (rank-alike x y u q (and-left _ _ f) hy hu (both-left _ _ v) i))
-        (less-by xs ps qs (both-right (smallC (p .of)) _ s) (both-right (smallC (q .of)) _ v) (and-right (formed x) _ f) i))
-
--- the parameters of an overload of a row
-pub params-of : (row : ℕ) (o : Overload) → List·Memᴰ o (overloadsOf (rowAt row)) → Params (o .params)
+-- and so are those of an overload of a row
+pub params-of : (row : ℕ) (o : Overload) → List·Memᴰ o (overloadsOf (rowAt row)) → AllMade (o .params)
 params-of row o m =
     let r = listed-of (rowAt row .families) o m in
-    let hr = row-in row o m in
-    let q = r .2 in
-    let w = way row (r .0) (q .z) hr (r .1) (q .inSizes) in
-    let e = row-family row (r .0) (r .1) in
-    let g : Good (getD (rowAt row .families) (r .0) noFamily) = subst Good e (good (startOf row + r .0) (total row (r .0) hr (r .1))) in
-    record {
-      t = q .t;
-      z = q .z;
-      patterns = getD (rowAt row .families) (r .0) noFamily .params;
-      sized = subst Sized (w .back) (sized-no (sizeNo (q .z)) (w .small) (w .proper));
-      scalar = g .set (q .t) (q .inSet);
-      small = g .small;
-      are = ap (λ (k : Overload). k .params) (q .is);
-    }
+    let f = familyAt row (r .0) in
+    let q = of-family f o (r .2) in
+    let g = good-in row (r .0) in
+    subst (λ (p : Overload). AllMade (p .params)) (sym (q .is))
+    (patterns-made (f .set) (q .z) (q .t) (q .i) (f .params) (g .fair (q .z) (q .inSizes) .sized) (g .set (q .t) (q .inSet)) (g .second (q .i) (q .inSecond)) (g .small))
+
+fits-by : (ps ts : List Ty) → AllMade ps → allFormed ts ≡ true → fits ps ts ≡ fits ps (map operand (codesOf ts))
+unfolding fits allFormed AllMade
+fits-by [] [] m f = refl
+fits-by [] (x ∷ xs) m f = refl
+fits-by (p ∷ ps) [] m f = refl
+fits-by (p ∷ ps) (x ∷ xs) m f =
+    ap₂ (λ (r : ℕ) (b : Bool). both (ltb r none) b) (rank-alike x p (and-left _ _ f) (m .0)) (fits-by ps xs (m .1) (and-right (formed x) _ f))
+
+no-more-by : (ts ps qs : List Ty) → AllMade ps → AllMade qs → allFormed ts ≡ true → noMore ts ps qs ≡ noMore (map operand (codesOf ts)) ps qs
+unfolding noMore allFormed AllMade
+no-more-by [] ps qs m n f = refl
+no-more-by (x ∷ xs) [] qs m n f = refl
+no-more-by (x ∷ xs) (p ∷ ps) [] m n f = refl
+no-more-by (x ∷ xs) (p ∷ ps) (q ∷ qs) m n f =
+    (λ i. both (leb (rank-alike x p (and-left _ _ f) (m .0) i) (rank-alike x q (and-left _ _ f) (n .0) i)) (no-more-by xs ps qs (m .1) (n .1) (and-right (formed x) _ f) i))
+
+less-by : (ts ps qs : List Ty) → AllMade ps → AllMade qs → allFormed ts ≡ true → less ts ps qs ≡ less (map operand (codesOf ts)) ps qs
+unfolding less allFormed AllMade
+less-by [] ps qs m n f = refl
+less-by (x ∷ xs) [] qs m n f = refl
+less-by (x ∷ xs) (p ∷ ps) [] m n f = refl
+less-by (x ∷ xs) (p ∷ ps) (q ∷ qs) m n f =
+    (λ i. or (ltb (rank-alike x p (and-left _ _ f) (m .0) i) (rank-alike x q (and-left _ _ f) (n .0) i)) (less-by xs ps qs (m .1) (n .1) (and-right (formed x) _ f) i))
 
 module _ (ts : List Ty) (f : allFormed ts ≡ true) where
-  fits-same : (ps : List Ty) → Params ps → fits ps ts ≡ fits ps (map operand (codesOf ts))
-  fits-same ps a = subst (λ (qs : List Ty). fits qs ts ≡ fits qs (map operand (codesOf ts))) (sym (a .are)) (fits-by (a .z) (a .t) (a .sized) (a .scalar) (a .patterns) ts (a .small) f)
-
-  no-more-same : (ps qs : List Ty) → Params ps → Params qs → noMore ts ps qs ≡ noMore (map operand (codesOf ts)) ps qs
-  no-more-same ps qs a b =
-      subst (λ (rs : List Ty). noMore ts rs qs ≡ noMore (map operand (codesOf ts)) rs qs) (sym (a .are))
-      (subst (λ (rs : List Ty). noMore ts (map (patternTy (a .z) (a .t)) (a .patterns)) rs ≡ noMore (map operand (codesOf ts)) (map (patternTy (a .z) (a .t)) (a .patterns)) rs) (sym (b .are))
-      (no-more-by (a .z) (a .t) (a .sized) (a .scalar) (b .z) (b .t) (b .sized) (b .scalar) ts (a .patterns) (b .patterns) (a .small) (b .small) f))
-
-  less-same : (ps qs : List Ty) → Params ps → Params qs → less ts ps qs ≡ less (map operand (codesOf ts)) ps qs
-  less-same ps qs a b =
-      subst (λ (rs : List Ty). less ts rs qs ≡ less (map operand (codesOf ts)) rs qs) (sym (a .are))
-      (subst (λ (rs : List Ty). less ts (map (patternTy (a .z) (a .t)) (a .patterns)) rs ≡ less (map operand (codesOf ts)) (map (patternTy (a .z) (a .t)) (a .patterns)) rs) (sym (b .are))
-      (less-by (a .z) (a .t) (a .sized) (a .scalar) (b .z) (b .t) (b .sized) (b .scalar) ts (a .patterns) (b .patterns) (a .small) (b .small) f))
-
   module _ (row : ℕ) where
     -- what is preferred by the numbers is preferred by the types
     pub preferred-types : (o : Overload) → Preferred (ofRow (rowAt row)) (map operand (codesOf ts)) o → Preferred (ofRow (rowAt row)) ts o
@@ -259,29 +229,23 @@ module _ (ts : List Ty) (f : allFormed ts ≡ true) where
         let a = params-of row o (q .among) in
         record {
           among = q .among;
-          fitting = subst T (sym (fits-same (o .params) a)) (q .fitting);
+          fitting = subst T (sym (fits-by (o .params) ts a f)) (q .fitting);
           over = λ p m h.
               let b = params-of row p m in
-              ⊎-elim inl (λ l. inr (subst T (sym (no-more-same (o .params) (p .params) a b)) (l .0), subst T (sym (less-same (o .params) (p .params) a b)) (l .1)))
-              (q .over p m (subst T (fits-same (p .params) b) h));
+              ⊎-elim inl (λ l. inr (subst T (sym (no-more-by ts (o .params) (p .params) a b f)) (l .0), subst T (sym (less-by ts (o .params) (p .params) a b f)) (l .1)))
+              (q .over p m (subst T (fits-by (p .params) ts b f) h));
         }
 
     -- and every judgment by the numbers is one by the types
     pub resolved-types : (r : Judged) → Resolved (ofRow (rowAt row)) (map operand (codesOf ts)) r → Resolved (ofRow (rowAt row)) ts r
     unfolding Resolved
     resolved-types (gives t) q = (q .0, preferred-types (q .0) (q .1), q .2)
-    resolved-types noneFits q = λ p m h. q p m (subst T (fits-same (p .params) (params-of row p m)) h)
-    resolved-types nonePreferred q =
-        let o = some-preferred row (codesOf ts) (q .0 .0) (q .0 .1) (q .0 .2) in absurd (q .1 (o .0) (o .1))
+    resolved-types noneFits q = λ p m h. q p m (subst T (fits-by (p .params) ts (params-of row p m) f) h)
+    resolved-types nonePreferred q = absurd (row-never row (map operand (codesOf ts)) q)
 
     -- REFUSAL 13 IS NEVER GIVEN: where overloads of a row fit one is preferred
     pub never-thirteen : Resolved (ofRow (rowAt row)) ts nonePreferred → ⊥
-    unfolding Resolved
-    never-thirteen q =
-        let p = q .0 .0 in
-        let m = q .0 .1 in
-        let o = some-preferred row (codesOf ts) p m (subst T (fits-same (p .params) (params-of row p m)) (q .0 .2)) in
-        q .1 (o .0) (preferred-types (o .0) (o .1))
+    never-thirteen q = row-never row ts q
 
     -- so the definition judges the types as it judges the numbers
     pub judge-types : judgeRow (rowAt row) (map operand (codesOf ts)) ≡ judgeRow (rowAt row) ts

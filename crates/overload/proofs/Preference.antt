@@ -1,23 +1,25 @@
 -- Demand 3, over any set of overloads: no two are preferred, so no second judgment meets `Resolved`. And within a family at one size the
--- overload of the earlier T, in the order of preference, beats that of the later one wherever both fit. Assumes nothing.
+-- overload of the earlier choices, in the order of preference, beats that of the later ones wherever both fit. Assumes nothing.
 use Prim.Native.Nat.{ℕ, _<_}
 use native.Mathlib.Omega.{arith}
 use mathlib.Core.Path.{_≡_, refl, sym, _∙_, ap, subst}
 use mathlib.Core.Logic.{_⊎_, inl, inr, ⊎-elim}
-use mathlib.Core.Bool.{Bool, true, false}
+use mathlib.Core.Bool.{Bool, true, false, cond}
 use mathlib.Core.List.{List, [], _∷_, map}
-use lib.Dec.{T, leb, ltb, ltb→lt, leb→le, le→leb}
+use lib.Dec.{T, eqb, leb, ltb, eqb→eq, ltb→lt, leb→le, le→leb}
+use lib.ListN.{length}
 use borrow.Author.Tests.{ltb-true, ltb-false}
-use Rattle.conv.specs.Types.{Ty}
+use Rattle.conv.specs.Types.{Ty, isFloat, isAbstract, exponent}
 use Rattle.conv.specs.Rank.{pick, both, none, rankOf, formOf, shapeOf, componentOf, sameShape, conversionRank, converts, made}
-use Rattle.conv.proofs.Finite.{both-left, both-right, both-pair}
+use Rattle.conv.proofs.Finite.{both-left, both-right, both-pair, implies, modus, below₃}
 use Rattle.conv.proofs.Ranks.{rank-from, order, rises}
 use Rattle.conv.proofs.Made.{made-rank}
 use Rattle.overload.specs.Overload.{Overload, fits, noMore, less, or, Preferred, Judged, Resolved}
 use Rattle.overload.specs.Overload.Judged.{gives, noneFits, nonePreferred}
 use Rattle.overload.specs.Rows.{Size, Form, Component, Pattern, formAt, componentAt, patternTy}
-use Rattle.overload.specs.Rows.Form.{sized, single, vecC, vecR, left, right, turned, square}
-use Rattle.overload.specs.Rows.Component.{ofT, just}
+use Rattle.overload.specs.Rows.Form.{sized, single, vecC, vecR, left, right, turned}
+use Rattle.overload.specs.Rows.Component.{ofT, ofI, expT, just}
+use Rattle.overload.specs.inner.Code.{member, reaches}
 
 -- ANY SET
 
@@ -83,26 +85,41 @@ pub pick-rank : (b : Bool) (r : ℕ) → T (ltb (pick b r none) none) → T (ltb
 pick-rank true r h = h
 pick-rank false r h = absurd h
 
--- a size whose shape is a scalar, a vector or a matrix, and a pattern whose component is a scalar
+-- a size whose shape is a scalar, a vector or a matrix
 abbrev pub Sized : Size → Type 0
 Sized z = T (ltb (formOf (z .shape)) 3)
 
-abbrev pub smallC : Component → Bool
-smallC ofT = true
-smallC (just s) = ltb s 7
+unfoldable pub allFloat : List ℕ → Bool
+allFloat [] = true
+allFloat (t ∷ ts) = both (isFloat t) (allFloat ts)
 
-abbrev pub allSmall : List Pattern → Bool
-allSmall [] = true
-allSmall (p ∷ ps) = both (smallC (p .of)) (allSmall ps)
+-- a component that is a scalar at every T of a set; one that follows T does so where every T is a float
+abbrev pub fine : List ℕ → Component → Bool
+fine set ofT = true
+fine set ofI = true
+fine set expT = allFloat set
+fine set (just s) = ltb s 7
 
--- a parameter of T, and a list that has one
+abbrev pub allFine : List ℕ → List Pattern → Bool
+allFine set [] = true
+allFine set (p ∷ ps) = both (fine set (p .of)) (allFine set ps)
+
+-- a parameter of T, one of I, and a list that has one
 abbrev pub isT : Component → Bool
 isT ofT = true
+isT ofI = false
+isT expT = false
 isT (just s) = false
 
-abbrev pub someT : List Pattern → Bool
-someT [] = false
-someT (p ∷ ps) = or (isT (p .of)) (someT ps)
+abbrev pub isI : Component → Bool
+isI ofT = false
+isI ofI = true
+isI expT = false
+isI (just s) = false
+
+abbrev pub some : (Component → Bool) → List Pattern → Bool
+some g [] = false
+some g (p ∷ ps) = or (g (p .of)) (some g ps)
 
 pub form-small : (f : Form) (z : Size) → Sized z → T (ltb (formOf (formAt f z)) 3)
 unfolding formAt
@@ -113,82 +130,151 @@ form-small vecR z h = tt
 form-small left z h = tt
 form-small right z h = tt
 form-small turned z h = tt
-form-small square z h = tt
 
-pub component-small : (c : Component) (t : ℕ) → t < 7 → T (smallC c) → componentAt c t < 7
+pub exponent-small : (t : ℕ) → exponent t < 7
+exponent-small t = go (isAbstract t)
+  where
+    go : (b : Bool) → cond b 1 3 < 7
+    go true = omega arith
+    go false = omega arith
+
+pub component-small : (set : List ℕ) (c : Component) (t i : ℕ) → t < 7 → i < 7 → T (fine set c) → componentAt c t i < 7
 unfolding componentAt
-component-small ofT t h s = h
-component-small (just k) t h s = ltb→lt k 7 s
+component-small set ofT t i h k s = h
+component-small set ofI t i h k s = k
+component-small set expT t i h k s = exponent-small t
+component-small set (just c) t i h k s = ltb→lt c 7 s
 
 -- what an operand costs at a parameter
-pub slot-cost : (x : Ty) (z : Size) (t : ℕ) (p : Pattern) → Sized z → t < 7 → T (smallC (p .of))
-    → conversionRank x (patternTy z t p) ≡ pick (sameShape (shapeOf x) (formAt (p .form) z)) (rankOf (componentOf x) (componentAt (p .of) t)) none
-slot-cost x z t p hz ht hs =
-    made-rank x (formAt (p .form) z) (componentAt (p .of) t) (form-small (p .form) z hz) (component-small (p .of) t ht hs)
+pub slot-cost : (set : List ℕ) (x : Ty) (z : Size) (t i : ℕ) (p : Pattern) → Sized z → t < 7 → i < 7 → T (fine set (p .of))
+    → conversionRank x (patternTy z t i p) ≡ pick (sameShape (shapeOf x) (formAt (p .form) z)) (rankOf (componentOf x) (componentAt (p .of) t i)) none
+slot-cost set x z t i p hz ht hi hs =
+    made-rank x (formAt (p .form) z) (componentAt (p .of) t i) (form-small (p .form) z hz) (component-small set (p .of) t i ht hi hs)
 
 -- a scalar that converts is a scalar
-from-small : (a b : ℕ) → T (ltb (rankOf a b) none) → a < 7
+pub from-small : (a b : ℕ) → T (reaches a b) → a < 7
 from-small a b h = go (ltb a 7) refl
   where
     go : (x : Bool) → ltb a 7 ≡ x → a < 7
     go true e = ltb-true a 7 e
     go false e = absurd (subst (λ (r : ℕ). T (ltb r none)) (rank-from a b (ltb-false a 7 e)) h)
 
-picked : (b : Bool) (r s : ℕ) → T (ltb (pick b r none) none) → T (ltb (pick b s none) none) → (T (ltb r none) → T (ltb s none) → T (ltb r s)) → T (ltb (pick b r none) (pick b s none))
-picked true r s h k f = f h k
-picked false r s h k f = absurd h
+-- THE ORDER OF PREFERENCE
+
+-- t is u, or stands before it
+abbrev pub Upto : ℕ → ℕ → Type 0
+Upto t u = (t ≡ u) ⊎ T (ltb (order t) (order u))
 
 weaken : (a b : ℕ) → T (ltb a b) → T (leb a b)
 weaken a b h = let l = ltb→lt a b h in le→leb a b (omega arith)
 
-module _ (z : Size) (t u : ℕ) (hz : Sized z) (ht : t < 7) (hu : u < 7) (earlier : T (ltb (order t) (order u))) where
-  -- at a parameter of T the earlier costs less
-  rises-at : (x : Ty) (f : Form) → T (converts x (patternTy z t (record { form = f; of = ofT }))) → T (converts x (patternTy z u (record { form = f; of = ofT })))
-      → T (ltb (conversionRank x (patternTy z t (record { form = f; of = ofT }))) (conversionRank x (patternTy z u (record { form = f; of = ofT }))))
-  unfolding componentAt
-  rises-at x f p q =
-      let et = slot-cost x z t (record { form = f; of = ofT }) hz ht tt in
-      let eu = slot-cost x z u (record { form = f; of = ofT }) hz hu tt in
-      rw (et, eu)
-      (picked (sameShape (shapeOf x) (formAt f z)) (rankOf (componentOf x) t) (rankOf (componentOf x) u) (rw et at p) (rw eu at q)
-      (λ a b. rises (componentOf x) t u (from-small (componentOf x) t a) ht hu a b earlier))
+self : (a : ℕ) → T (leb a a)
+self a = le→leb a a (omega arith)
 
-  -- at every parameter it costs no more
-  no-more-at : (x : Ty) (f : Form) (c : Component) → T (smallC c) → T (converts x (patternTy z t (record { form = f; of = c })))
-      → T (converts x (patternTy z u (record { form = f; of = c })))
-      → T (leb (conversionRank x (patternTy z t (record { form = f; of = c }))) (conversionRank x (patternTy z u (record { form = f; of = c }))))
-  unfolding componentAt
-  no-more-at x f ofT s a b = weaken (conversionRank x (made (formAt f z) t)) (conversionRank x (made (formAt f z) u)) (rises-at x f a b)
-  no-more-at x f (just k) s a b = le→leb (conversionRank x (made (formAt f z) k)) (conversionRank x (made (formAt f z) k)) (omega arith)
+pub not-before : (t u : ℕ) → t ≡ u → T (ltb (order t) (order u)) → ⊥
+not-before t u e h = let l = ltb→lt (order t) (order u) h in let q = ap order e in omega arith
 
-  no-more : (xs : List Ty) (ps : List Pattern) → T (allSmall ps) → T (fits (map (patternTy z t) ps) xs) → T (fits (map (patternTy z u) ps) xs)
-      → T (noMore xs (map (patternTy z t) ps) (map (patternTy z u) ps))
+-- to the earlier of two a scalar costs no more
+rank-upto : (s t u : ℕ) → t < 7 → u < 7 → Upto t u → T (reaches s t) → T (reaches s u) → T (leb (rankOf s t) (rankOf s u))
+rank-upto s t u ht hu (inl e) a b = subst (λ (k : ℕ). T (leb (rankOf s t) (rankOf s k))) e (self (rankOf s t))
+rank-upto s t u ht hu (inr l) a b = weaken (rankOf s t) (rankOf s u) (rises s t u (from-small s t a) ht hu a b l)
+
+-- and so to what follows them
+expTest : ℕ → ℕ → ℕ → Bool
+expTest s t u =
+    implies (isFloat t)
+    (implies (isFloat u) (implies (ltb (order t) (order u)) (implies (reaches s (exponent t)) (implies (reaches s (exponent u)) (leb (rankOf s (exponent t)) (rankOf s (exponent u)))))))
+
+exp-tests : (s t u : ℕ) → s < 7 → t < 7 → u < 7 → T (expTest s t u)
+unfolding expTest implies rankOf both
+exp-tests s t u hs ht hu = below₃ 7 7 7 expTest tt s t u hs ht hu
+
+exp-upto : (s t u : ℕ) → t < 7 → u < 7 → T (isFloat t) → T (isFloat u) → Upto t u → T (reaches s (exponent t)) → T (reaches s (exponent u))
+    → T (leb (rankOf s (exponent t)) (rankOf s (exponent u)))
+unfolding expTest
+exp-upto s t u ht hu ft fu (inl e) a b = subst (λ (k : ℕ). T (leb (rankOf s (exponent t)) (rankOf s (exponent k)))) e (self (rankOf s (exponent t)))
+exp-upto s t u ht hu ft fu (inr l) a b =
+    modus _ _ (modus _ _ (modus _ _ (modus _ _ (modus _ _ (exp-tests s t u (from-small s (exponent t) a) ht hu) ft) fu) l) a) b
+
+float-in : (set : List ℕ) → T (allFloat set) → (t : ℕ) → T (member t set) → T (isFloat t)
+unfolding allFloat member
+float-in [] h t m = absurd m
+float-in (u ∷ us) h t m =
+    ⊎-elim (λ e. subst (λ (k : ℕ). T (isFloat k)) (sym (eqb→eq t u e)) (both-left _ _ h)) (λ n. float-in us (both-right (isFloat u) _ h) t n)
+    (or-cases (eqb t u) (member t us) m)
+
+-- two of a set of one are one
+pub one-only : (set : List ℕ) → T (leb (length set) 1) → (t u : ℕ) → T (member t set) → T (member u set) → t ≡ u
+unfolding member
+one-only [] h t u a b = absurd a
+one-only (v ∷ []) h t u a b =
+    ⊎-elim (λ e. ⊎-elim (λ d. eqb→eq t v e ∙ sym (eqb→eq u v d)) (λ n. absurd n) (or-cases (eqb u v) _ b)) (λ n. absurd n) (or-cases (eqb t v) _ a)
+one-only (v ∷ w ∷ ws) h t u a b = absurd (let l = leb→le (length (v ∷ w ∷ ws)) 1 h in omega arith)
+
+picked : (b : Bool) (r s : ℕ) (g : ℕ → ℕ → Bool) → T (ltb (pick b r none) none) → T (ltb (pick b s none) none) → (T (ltb r none) → T (ltb s none) → T (g r s))
+    → T (g (pick b r none) (pick b s none))
+picked true r s g h k f = f h k
+picked false r s g h k f = absurd h
+
+module _ (z : Size) (set : List ℕ) (t u i j : ℕ) (hz : Sized z) (mt : T (member t set)) (mu : T (member u set)) (ht : t < 7) (hu : u < 7) (hi : i < 7) (hj : j < 7) (a : Upto t u) (b : Upto i j) where
+  -- at every component the earlier choices cost no more
+  ranks : (s : ℕ) (c : Component) → T (fine set c) → T (reaches s (componentAt c t i)) → T (reaches s (componentAt c u j)) → T (leb (rankOf s (componentAt c t i)) (rankOf s (componentAt c u j)))
+  unfolding componentAt
+  ranks s ofT f p q = rank-upto s t u ht hu a p q
+  ranks s ofI f p q = rank-upto s i j hi hj b p q
+  ranks s expT f p q = exp-upto s t u ht hu (float-in set f t mt) (float-in set f u mu) a p q
+  ranks s (just k) f p q = self (rankOf s k)
+
+  -- and at one of T, or of I, less where they are earlier
+  ranks-T : (s : ℕ) (c : Component) → T (ltb (order t) (order u)) → T (isT c) → T (reaches s (componentAt c t i)) → T (reaches s (componentAt c u j)) → T (ltb (rankOf s (componentAt c t i)) (rankOf s (componentAt c u j)))
+  unfolding componentAt
+  ranks-T s ofT l f p q = rises s t u (from-small s t p) ht hu p q l
+  ranks-T s ofI l f p q = absurd f
+  ranks-T s expT l f p q = absurd f
+  ranks-T s (just k) l f p q = absurd f
+
+  ranks-I : (s : ℕ) (c : Component) → T (ltb (order i) (order j)) → T (isI c) → T (reaches s (componentAt c t i)) → T (reaches s (componentAt c u j)) → T (ltb (rankOf s (componentAt c t i)) (rankOf s (componentAt c u j)))
+  unfolding componentAt
+  ranks-I s ofT l f p q = absurd f
+  ranks-I s ofI l f p q = rises s i j (from-small s i p) hi hj p q l
+  ranks-I s expT l f p q = absurd f
+  ranks-I s (just k) l f p q = absurd f
+
+  -- a test of two costs, from one of two ranks
+  at : (g : ℕ → ℕ → Bool) (x : Ty) (p : Pattern) → T (fine set (p .of)) → T (converts x (patternTy z t i p)) → T (converts x (patternTy z u j p))
+      → (T (reaches (componentOf x) (componentAt (p .of) t i)) → T (reaches (componentOf x) (componentAt (p .of) u j)) → T (g (rankOf (componentOf x) (componentAt (p .of) t i)) (rankOf (componentOf x) (componentAt (p .of) u j))))
+      → T (g (conversionRank x (patternTy z t i p)) (conversionRank x (patternTy z u j p)))
+  at g x p f c d k =
+      let et = slot-cost set x z t i p hz ht hi f in
+      let eu = slot-cost set x z u j p hz hu hj f in
+      rw (et, eu) (picked (sameShape (shapeOf x) (formAt (p .form) z)) (rankOf (componentOf x) (componentAt (p .of) t i)) (rankOf (componentOf x) (componentAt (p .of) u j)) g (rw et at c) (rw eu at d) k)
+
+  no-more : (xs : List Ty) (ps : List Pattern) → T (allFine set ps) → T (fits (map (patternTy z t i) ps) xs) → T (fits (map (patternTy z u j) ps) xs)
+      → T (noMore xs (map (patternTy z t i) ps) (map (patternTy z u j) ps))
   unfolding fits noMore
-  no-more [] [] s a b = tt
-  no-more [] (p ∷ ps) s a b = tt
-  no-more (x ∷ xs) [] s a b = absurd a
-  no-more (x ∷ xs) (p ∷ ps) s a b =
-      both-pair _ _ (no-more-at x (p .form) (p .of) (both-left _ _ s) (both-left _ _ a) (both-left _ _ b))
-      (no-more xs ps (both-right (smallC (p .of)) _ s) (both-right _ _ a) (both-right _ _ b))
+  no-more [] [] s c d = tt
+  no-more [] (p ∷ ps) s c d = tt
+  no-more (x ∷ xs) [] s c d = absurd c
+  no-more (x ∷ xs) (p ∷ ps) s c d =
+      both-pair _ _ (at leb x p (both-left _ _ s) (both-left _ _ c) (both-left _ _ d) (ranks (componentOf x) (p .of) (both-left _ _ s)))
+      (no-more xs ps (both-right (fine set (p .of)) _ s) (both-right _ _ c) (both-right _ _ d))
 
-  less-at : (x : Ty) (f : Form) (c : Component) → T (isT c) → T (converts x (patternTy z t (record { form = f; of = c })))
-      → T (converts x (patternTy z u (record { form = f; of = c })))
-      → T (ltb (conversionRank x (patternTy z t (record { form = f; of = c }))) (conversionRank x (patternTy z u (record { form = f; of = c }))))
-  less-at x f ofT s a b = rises-at x f a b
-  less-at x f (just k) s a b = absurd s
+  module _ (g : Component → Bool) (r : (s : ℕ) (c : Component) → T (g c) → T (reaches s (componentAt c t i)) → T (reaches s (componentAt c u j)) → T (ltb (rankOf s (componentAt c t i)) (rankOf s (componentAt c u j)))) where
+    less-some : (xs : List Ty) (ps : List Pattern) → T (allFine set ps) → T (some g ps) → T (fits (map (patternTy z t i) ps) xs) → T (fits (map (patternTy z u j) ps) xs)
+        → T (less xs (map (patternTy z t i) ps) (map (patternTy z u j) ps))
+    unfolding fits less
+    less-some [] [] s m c d = m
+    less-some [] (p ∷ ps) s m c d = absurd c
+    less-some (x ∷ xs) [] s m c d = absurd c
+    less-some (x ∷ xs) (p ∷ ps) s m c d =
+        ⊎-elim (λ h. or-left _ _ (at ltb x p (both-left _ _ s) (both-left _ _ c) (both-left _ _ d) (r (componentOf x) (p .of) h)))
+        (λ h. or-right _ _ (less-some xs ps (both-right (fine set (p .of)) _ s) h (both-right _ _ c) (both-right _ _ d)))
+        (or-cases (g (p .of)) (some g ps) m)
 
-  less-some : (xs : List Ty) (ps : List Pattern) → T (someT ps) → T (fits (map (patternTy z t) ps) xs) → T (fits (map (patternTy z u) ps) xs)
-      → T (less xs (map (patternTy z t) ps) (map (patternTy z u) ps))
-  unfolding fits less
-  less-some [] [] s a b = s
-  less-some [] (p ∷ ps) s a b = absurd a
-  less-some (x ∷ xs) [] s a b = absurd a
-  less-some (x ∷ xs) (p ∷ ps) s a b =
-      ⊎-elim (λ h. or-left _ _ (less-at x (p .form) (p .of) h (both-left _ _ a) (both-left _ _ b)))
-      (λ h. or-right _ _ (less-some xs ps h (both-right _ _ a) (both-right _ _ b)))
-      (or-cases (isT (p .of)) (someT ps) s)
+  -- the overload of the earlier choices beats that of the later ones
+  module _ (xs : List Ty) (ps : List Pattern) (s : T (allFine set ps)) (c : T (fits (map (patternTy z t i) ps) xs)) (d : T (fits (map (patternTy z u j) ps) xs)) where
+    pub beats-T : T (ltb (order t) (order u)) → T (some isT ps) → Beats xs (map (patternTy z t i) ps) (map (patternTy z u j) ps)
+    beats-T l m = (no-more xs ps s c d, less-some isT (λ k e. ranks-T k e l) xs ps s m c d)
 
-  -- of two overloads of a family at one size that both fit, the one of the earlier T is preferred
-  pub beats : (xs : List Ty) (ps : List Pattern) → T (allSmall ps) → T (someT ps) → T (fits (map (patternTy z t) ps) xs) → T (fits (map (patternTy z u) ps) xs)
-      → Beats xs (map (patternTy z t) ps) (map (patternTy z u) ps)
-  beats xs ps s h a b = (no-more xs ps s a b, less-some xs ps h a b)
+    pub beats-I : T (ltb (order i) (order j)) → T (some isI ps) → Beats xs (map (patternTy z t i) ps) (map (patternTy z u j) ps)
+    beats-I l m = (no-more xs ps s c d, less-some isI (λ k e. ranks-I k e l) xs ps s m c d)

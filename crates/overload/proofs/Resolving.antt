@@ -1,71 +1,206 @@
--- The ways out of the engine, each as a judgment of demand 3. Assumes nothing.
-use Prim.Native.Nat.{ℕ, _+_, _*_, _/_, _%_, _<_, _≤_}
+-- The ways out of the engine, each as a judgment of demand 3: first of one family, then of a row. Assumes nothing.
+use Prim.Native.Nat.{ℕ, zero, suc, _+_, _-_, _*_, _/_, _%_, _<_, _≤_}
 use native.Mathlib.Omega.{arith}
-use mathlib.Core.Path.{_≡_, refl, sym, _∙_, ap, subst}
-use mathlib.Core.Logic.{_≢_, ⊎-elim}
-use mathlib.Core.List.{List, map}
-use lib.Dec.{T, eqb}
-use lib.ListN.{length}
-use borrow.Author.Tests.{eq-eqb, ne-eqb, le-ltb}
+use native.Mathlib.Nat.{eq-or-lt-of-le, le-of-suc-le-suc}
+use native.Mathlib.Numerals.{add-one}
+use mathlib.Core.Path.{_≡_, refl, sym, _∙_, ap, ap₂, subst}
+use mathlib.Core.Logic.{_≢_, _⊎_, inl, inr, ⊎-elim}
+use mathlib.Core.Bool.{Bool, true, false}
+use mathlib.Core.List.{List, [], _∷_, map, List·Memᴰ, List·Memᴰ·cases-cons, List·Memᴰ·not-nil}
+use lib.Dec.{T, eqb, ltb, eqb→eq, eqb-refl, ltb→lt}
+use lib.Bits.{bitAnd}
+use lib.ListN.{length, getD, length-map}
+use borrow.Author.Tests.{eq-eqb, ne-eqb, le-ltb, eqb-true, eqb-false, ltb-true, ltb-false}
 use Rattle.conv.specs.Types.{Ty}
-use Rattle.conv.specs.Types.Ty.{frexp, modf}
-use Rattle.conv.specs.Rank.{pick, none, formOf, made, accepts}
-use Rattle.conv.proofs.Finite.{both-left, both-right}
-use Rattle.overload.specs.Overload.{Overload, Resolved}
-use Rattle.overload.specs.Rows.{Wrap, formAt, patternTy, overload, wrapped, ofRow, rowAt, rows}
+use Rattle.conv.specs.Types.Ty.{scalar, frexp, modf}
+use Rattle.conv.specs.Rank.{pick, both, none, Shape, formOf, shapeOf, sameShape, made}
+use Rattle.conv.specs.Rank.Shape.{one, other}
+use Rattle.conv.proofs.Finite.{both-left, both-pair, implies, modus, below}
+use Rattle.conv.proofs.Made.{shape-made, same-shape-self}
+use Rattle.overload.specs.Overload.{Overload, or, fits, listed, Resolved}
+use Rattle.overload.specs.Overload.Judged.{noneFits}
+use Rattle.overload.specs.Rows.{Size, size, Form, Wrap, Family, Component, formAt, componentAt, patternTy, overload, wrapped, ofFamily, ofRow, rowAt, rows, overloadsOf}
+use Rattle.overload.specs.Rows.Form.{sized, left}
+use Rattle.overload.specs.Rows.Component.{ofT, ofI, expT, just}
 use Rattle.overload.specs.Rows.Wrap.{bare, inFrexp, inModf}
-use Rattle.overload.specs.Code as code
-use Rattle.overload.specs.Code.{shapeOfNo, operand, sizeOfNo, formOfNo, patternNo, patternOfNo, wrapNo, askedOf, familyOf, familyAt, sizeAt, encode, wordOf, member, firstOf, preference, liftOf, fitsAt, firstX, lastX, formsOf, orNone, outOf, judgedOf}
+use Rattle.overload.specs.inner.Code as code
+use Rattle.overload.specs.inner.Code.{shapeOfNo, shapeNo, operand, sizeNo, sizeOfNo, sameSize, memSize, sizesOf, formNo, formOfNo, componentNo, wrapNo, askedOf, familyOf, firstParam, lastParam, pivotNo, sizeAt, encode, digitOf, has, member, setOf, firstOf, preference, fitsAt, firstX, lastX, formsOf, placeOf, stopOf, noPlace, outOf, triedOf, judgedOf}
 use Rattle.overload.specs.declared.Out.{Out}
+use Rattle.overload.specs.declared.Tried.{Tried}
+use Rattle.overload.specs.declared.Tried.the-variants.{Fits, Not}
+use Rattle.overload.specs.declared.Resolution.{Resolution}
 use Rattle.overload.specs.declared.Resolution.the-variants.{Gives, NoneFits}
-use Rattle.overload.proofs.Slots.{shape-test, component-no, none-accepts}
-use Rattle.overload.proofs.Lines.{entry-cases}
-use Rattle.overload.proofs.Families.{good, pattern-back, pattern-below}
-use Rattle.overload.proofs.Places.{shape-eq, size-small, pattern-shape, Inside, inside}
-use Rattle.overload.proofs.Found.{Found, complete}
-use Rattle.overload.proofs.Demand3.{At, takes, of-here, none-takes, first-preferred, first-preferred-takes}
-use Rattle.overload.proofs.Joins.{lift-first}
+use Rattle.overload.proofs.Preference.{Sized, or-left, or-right, form-small}
+use Rattle.overload.proofs.First.{same-first}
+use Rattle.overload.proofs.Families.{Good, good, good-in, Fair, plainC, sizeBy, only-no, mem-size, shape-eq}
+use Rattle.overload.proofs.Fitting.{nobody, firstTy, lastTy, sizeOfXs, forms-of-fit, first-shape, last-shape}
+use Rattle.overload.proofs.Listing.{of-family, listed-of}
+use Rattle.overload.proofs.Demand3.{Fitted, takes, count-apart, size-apart, no-T, no-I, small-T, small-I, first-preferred}
+use Rattle.overload.proofs.Apart.{familyAt, row-of-family}
+use Rattle.overload.proofs.Places.{Way, way, place-within, stop-within}
+use Rattle.overload.proofs.Sets.{has-and}
+use Rattle.overload.proofs.Slots.{form-back, form-below, shape-test}
+
+-- THE SHAPES of operands by their numbers
+
+pub shape-numbers : (k : ℕ) → k < 13 → T (eqb (shapeNo (shapeOfNo k)) k)
+unfolding both shapeNo shapeOfNo
+shape-numbers k h = below 13 (λ k. eqb (shapeNo (shapeOfNo k)) k) tt k h
+
+-- a shape that is no scalar, vector or matrix has none
+pub beyond : (k : ℕ) → 13 ≤ k → shapeOfNo k ≡ other
+unfolding shapeOfNo
+beyond k h = rw (ne-eqb k 0 (λ e. omega arith), le-ltb k 4 (omega arith), le-ltb k 13 h)
+
+nobody-is : operand 0 ≡ nobody
+unfolding shapeOfNo made
+nobody-is = refl
+
+get-operand : (xs : List ℕ) (k : ℕ) → getD (map operand xs) k nobody ≡ operand (getD xs k 0)
+get-operand [] k = sym nobody-is
+get-operand (x ∷ xs) zero = refl
+get-operand (x ∷ xs) (suc k) = get-operand xs k
+
+shape-at : (xs : List ℕ) (k : ℕ) → shapeOf (getD (map operand xs) k nobody) ≡ shapeOfNo (getD xs k 0 / 7)
+shape-at xs k = ap shapeOf (get-operand xs k) ∙ shape-made (shapeOfNo (getD xs k 0 / 7)) (getD xs k 0 % 7)
+
+pub first-at : (xs : List ℕ) → shapeOf (firstTy (map operand xs)) ≡ shapeOfNo (firstX xs / 7)
+first-at xs = shape-at xs 0
+
+pub last-at : (xs : List ℕ) → shapeOf (lastTy (map operand xs)) ≡ shapeOfNo (lastX xs / 7)
+last-at xs = ap (λ (k : ℕ). shapeOf (getD (map operand xs) (k - 1) nobody)) (length-map xs operand) ∙ shape-at xs (length xs - 1)
+
+-- where there is no operand
+pub no-first : (xs : List ℕ) → length xs ≡ 0 → 0 ≡ firstX xs / 7
+no-first [] e = refl
+no-first (x ∷ xs) e = absurd (omega arith)
+
+pub no-last : (xs : List ℕ) → length xs ≡ 0 → 0 ≡ lastX xs / 7
+no-last [] e = refl
+no-last (x ∷ xs) e = absurd (omega arith)
+
+number-at : (k : ℕ) → k < 13 → (s : Shape) → s ≡ shapeOfNo k → shapeNo s ≡ k
+number-at k h s e = ap shapeNo e ∙ eqb→eq (shapeNo (shapeOfNo k)) k (shape-numbers k h)
+
+-- THE SIZE
+
+pivot-cases : (f : Family) → pivotNo f ≢ 0 → pivotNo f ≢ 1 → pivotNo f ≢ 2 → pivotNo f ≡ 3
+unfolding pivotNo
+pivot-cases f a b c = go (eqb (formNo (firstParam f .form)) (formNo sized)) (eqb (formNo (lastParam f .form)) (formNo sized)) (eqb (formNo (firstParam f .form)) (formNo left)) a b c
+  where
+    go : (x y z : Bool) → pick x 0 (pick y 1 (pick z 2 3)) ≢ 0 → pick x 0 (pick y 1 (pick z 2 3)) ≢ 1 → pick x 0 (pick y 1 (pick z 2 3)) ≢ 2 → pick x 0 (pick y 1 (pick z 2 3)) ≡ 3
+    go true y z a b c = absurd (a refl)
+    go false true z a b c = absurd (b refl)
+    go false false true a b c = absurd (c refl)
+    go false false false a b c = refl
+
+-- a list of one size has its number
+oneTest : ℕ → Bool
+oneTest k = implies (eqb (length (sizesOf k)) 1) (eqb (sizeNo (getD (sizesOf k) 0 (size one))) k)
+
+one-tests : (k : ℕ) → k < 16 → T (oneTest k)
+unfolding oneTest implies both sizeNo shapeNo
+one-tests k h = below 16 oneTest tt k h
+
+size-pick : (p k l a b : ℕ) → (p ≢ 0 → p ≢ 1 → p ≢ 2 → k ≡ l) → sizeAt p k a b ≡ sizeAt p l a b
+unfolding sizeAt
+size-pick p k l a b h = go (eqb p 0) refl (eqb p 1) refl (eqb p 2) refl
+  where
+    go : (x : Bool) → eqb p 0 ≡ x → (y : Bool) → eqb p 1 ≡ y → (z : Bool) → eqb p 2 ≡ z
+        → pick x a (pick y b (pick z (3 * a + (b + 2) / 3) k)) ≡ pick x a (pick y b (pick z (3 * a + (b + 2) / 3) l))
+    go true e y d z c = refl
+    go false e true d z c = refl
+    go false e false d true c = refl
+    go false e false d false c = h (eqb-false p 0 e) (eqb-false p 1 d) (eqb-false p 2 c)
+
+module _ (f k : ℕ) (hk : k < 16) (sizes : sizesOf k ≡ familyOf f .sizes) (xs : List ℕ) (ha : firstX xs / 7 < 13) (hb : lastX xs / 7 < 13) (n : ℕ) (e : n ≡ sizeAt (digitOf f 12) k (firstX xs / 7) (lastX xs / 7)) where
+  its-one : pivotNo (familyOf f) ≡ 3 → k ≡ only-no (familyOf f)
+  unfolding oneTest
+  its-one q =
+      let l : length (sizesOf k) ≡ 1 = ap length sizes ∙ good f .single q in
+      sym (eqb→eq _ k (modus _ _ (one-tests k hk) (rw (eq-eqb (length (sizesOf k)) 1 l) tt))) ∙ ap (λ (zs : List Size). sizeNo (getD zs 0 (size one))) sizes
+
+  pub size-is : sizeOfNo n ≡ sizeOfXs (familyOf f) (map operand xs)
+  unfolding encode
+  size-is =
+      ap sizeOfNo
+      (e
+      ∙ size-pick (pivotNo (familyOf f)) k (only-no (familyOf f)) (firstX xs / 7) (lastX xs / 7) (λ a b c. its-one (pivot-cases (familyOf f) a b c))
+      ∙ (λ j. sizeBy (familyOf f) (sym (number-at (firstX xs / 7) ha _ (first-at xs)) j) (sym (number-at (lastX xs / 7) hb _ (last-at xs)) j)))
+
+size-mem : (z : Size) (zs : List Size) → Sized z → List·Memᴰ z zs → T (memSize z zs)
+unfolding memSize sameSize
+size-mem z [] h m = absurd (List·Memᴰ·not-nil m)
+size-mem z (y ∷ ys) h m =
+    ⊎-elim (λ e. or-left _ _ (subst (λ (w : Size). T (sameSize z w)) e (itself z h))) (λ n. or-right (sameSize z y) _ (size-mem z ys h n)) (List·Memᴰ·cases-cons m)
+  where
+    itself : (z : Size) → Sized z → T (both (eqb (z .inner) (z .inner)) (sameShape (z .shape) (z .shape)))
+    itself z h = both-pair (eqb (z .inner) (z .inner)) (sameShape (z .shape) (z .shape)) (eqb-refl (z .inner)) (same-shape-self (z .shape) h)
 
 -- THE RESULT
 
-module _ (f n : ℕ) (hf : f < 61) (low : wordOf f 8 ≤ n) (high : n ≤ wordOf f 9) where
-  -- the shape of the result
-  pub result-shape : askedOf (wordOf f 5 / 8) n < 13
-  result-shape = pattern-shape f n hf low high 4 (omega arith)
+component-of : (c : Component) (t i : ℕ) → T (plainC c) → componentAt c t i ≡ pick (eqb (componentNo c) 7) t (componentNo c)
+unfolding componentAt componentNo
+component-of ofT t i h = refl
+component-of ofI t i h = absurd h
+component-of expT t i h = absurd h
+component-of (just s) t i h = let l = ltb→lt s 7 h in rw (ne-eqb s 7 (λ e. omega arith))
 
-  result-word : wordOf f 5 ≡ patternNo (familyOf f .result)
+component-few : (c : Component) → T (plainC c) → componentNo c < 8
+unfolding componentNo
+component-few ofT h = omega arith
+component-few ofI h = absurd h
+component-few expT h = absurd h
+component-few (just s) h = let l = ltb→lt s 7 h in omega arith
+
+module _ (f n : ℕ) (hn : n < 41) (mn : T (memSize (sizeOfNo n) (familyOf f .sizes))) where
+  fair : Fair (familyOf f) (sizeOfNo n)
+  fair = good f .fair (sizeOfNo n) (mem-size (sizeOfNo n) (familyOf f .sizes) mn)
+
+  form-digit : digitOf f 9 ≡ formNo (familyOf f .result .form)
   unfolding encode
-  result-word = refl
+  form-digit = refl
 
-  pub result-below : wordOf f 5 < 64
-  result-below = rw result-word (pattern-below (familyOf f .result) (good f hf .result))
+  of-digit : digitOf f 10 ≡ componentNo (familyOf f .result .of)
+  unfolding encode
+  of-digit = refl
 
-  shape-is : shapeOfNo (askedOf (wordOf f 5 / 8) n) ≡ formAt (formOfNo (wordOf f 5 / 8)) (sizeOfNo n)
+  pub result-form : digitOf f 9 < 7
+  result-form = rw form-digit (form-below (familyOf f .result .form))
+
+  form-is : formOfNo (digitOf f 9) ≡ familyOf f .result .form
+  form-is = ap formOfNo form-digit ∙ form-back (familyOf f .result .form)
+
+  pub result-shape : askedOf (digitOf f 9) n < 13
+  unfolding askedOf
+  result-shape = subst (λ (q : Form). shapeNo (formAt q (sizeOfNo n)) < 13) (sym form-is) (fair .result)
+
+  pub result-component : digitOf f 10 < 8
+  result-component = rw of-digit (component-few (familyOf f .result .of) (good f .result))
+
+  shape-is : shapeOfNo (askedOf (digitOf f 9) n) ≡ formAt (familyOf f .result .form) (sizeOfNo n)
   shape-is =
-      let k = askedOf (wordOf f 5 / 8) n in
-      let b = result-below in
+      let k = askedOf (digitOf f 9) n in
       let l = result-shape in
-      shape-eq (shapeOfNo k) (formAt (formOfNo (wordOf f 5 / 8)) (sizeOfNo n))
-      (rw (shape-test (wordOf f 5 / 8) n k (omega arith) (size-small f n hf low high) (omega arith), eq-eqb k k refl) tt)
+      shape-eq (shapeOfNo k) (formAt (formOfNo (digitOf f 9)) (sizeOfNo n)) (rw (shape-test (digitOf f 9) n k result-form hn (omega arith), eq-eqb k k refl) tt)
+      ∙ ap (λ (q : Form). formAt q (sizeOfNo n)) form-is
 
   -- a number of that shape is the type by the pattern
-  pub result-is : (t s : ℕ) → s < 7 → s ≡ pick (eqb (wordOf f 5 % 8) 7) t (wordOf f 5 % 8)
-      → operand (7 * askedOf (wordOf f 5 / 8) n + s) ≡ patternTy (sizeOfNo n) t (familyOf f .result)
-  result-is t s hs e =
-      let k = askedOf (wordOf f 5 / 8) n in
+  pub result-is : (t i s : ℕ) → s < 7 → s ≡ pick (eqb (digitOf f 10) 7) t (digitOf f 10) → operand (7 * askedOf (digitOf f 9) n + s) ≡ patternTy (sizeOfNo n) t i (familyOf f .result)
+  result-is t i s hs e =
+      let k = askedOf (digitOf f 9) n in
       let q : (7 * k + s) / 7 ≡ k = omega arith in
       let r : (7 * k + s) % 7 ≡ s = omega arith in
-      (λ i. made (shapeOfNo (q i)) (r i))
-      ∙ (λ i. made (shape-is i) ((e ∙ sym (component-no (wordOf f 5 % 8) t)) i))
-      ∙ ap (patternTy (sizeOfNo n) t) (ap patternOfNo result-word ∙ pattern-back (familyOf f .result) (good f hf .result))
+      (λ j. made (shapeOfNo (q j)) (r j))
+      ∙ (λ j. made (shape-is j) ((e ∙ ap (λ (c : ℕ). pick (eqb c 7) t c) of-digit ∙ sym (component-of (familyOf f .result .of) t i (good f .result))) j))
 
-pub wrap-word : (f : ℕ) → wordOf f 6 ≡ wrapNo (familyOf f .wrap)
+pub wrap-digit : (f : ℕ) → digitOf f 11 ≡ wrapNo (familyOf f .wrap)
 unfolding encode
-wrap-word f = refl
+wrap-digit f = refl
 
-pub count-word : (f : ℕ) → wordOf f 0 ≡ length (familyOf f .params)
+pub count-digit : (f : ℕ) → digitOf f 0 ≡ length (familyOf f .params)
 unfolding encode
-count-word f = refl
+count-digit f = refl
 
 module _ (t : Ty) where
   pub wrapped-bare : (w : Wrap) → wrapNo w ≡ 0 → t ≡ wrapped w t
@@ -86,86 +221,156 @@ module _ (t : Ty) where
   wrapped-modf inFrexp e d = absurd (d refl)
   wrapped-modf inModf e d = refl
 
--- NO OVERLOAD FITS
+-- ONE FAMILY: it does not fit, or the preferred overload's result
 
-pub not-found : (row : ℕ) (xs : List ℕ) → ((p : Overload) → Found row xs p → ⊥) → Resolved (ofRow (rowAt row)) (map operand xs) (judgedOf NoneFits)
-unfolding Resolved judgedOf
-not-found row xs k = λ p m h. k p (complete row xs p h m)
+abbrev pub Family-judged : ℕ → List ℕ → Tried → Type 0
+Family-judged f xs r = Resolved (listed (ofFamily (familyOf f))) (map operand xs) (triedOf r)
+
+module _ (f : ℕ) (xs : List ℕ) where
+  pub not-so-many : digitOf f 0 ≢ length xs → Family-judged f xs Not
+  unfolding triedOf
+  not-so-many h = count-apart (familyOf f) (good f) (map operand xs) (λ e. h (count-digit f ∙ sym e ∙ length-map xs operand))
+
+  module _ (n : ℕ) (e : sizeOfNo n ≡ sizeOfXs (familyOf f) (map operand xs)) where
+    pub not-that-size : memSize (sizeOfNo n) (familyOf f .sizes) ≡ false → Family-judged f xs Not
+    unfolding triedOf
+    not-that-size h =
+        size-apart (familyOf f) (good f) (map operand xs)
+        (λ m.
+        let k = subst (λ (z : Size). List·Memᴰ z (familyOf f .sizes)) (sym e) m in
+        subst T h (size-mem (sizeOfNo n) (familyOf f .sizes) (good f .fair (sizeOfNo n) k .sized) k))
+
+    module _ (mn : T (memSize (sizeOfNo n) (familyOf f .sizes))) (P Q : ℕ) (law : (t i : ℕ) → t < 7 → i < 7 → fitsAt (familyOf f) n t i xs ≡ both (has P t) (has Q i)) where
+      m : List·Memᴰ (sizeOfNo n) (familyOf f .sizes)
+      m = mem-size (sizeOfNo n) (familyOf f .sizes) mn
+
+      -- the first of the common part of two sets
+      first-in : (set : List ℕ) (a s : ℕ) → ((t : ℕ) → t < 7 → has a t ≡ member t set) → firstOf preference (takes set (has s)) ≡ firstOf preference (has (bitAnd a s))
+      first-in set a s e = same-first _ _ (λ t h. ap (λ (c : Bool). both c (has s t)) (sym (e t h)) ∙ sym (has-and a s t))
+
+      pub not-at-T : (a : ℕ) → ((t : ℕ) → t < 7 → has a t ≡ member t (familyOf f .set)) → firstOf preference (has (bitAnd a P)) ≡ none → Family-judged f xs Not
+      unfolding triedOf
+      not-at-T a ea q = no-T (familyOf f) (good f) (map operand xs) (sizeOfNo n) e m (has P) (has Q) law (first-in (familyOf f .set) a P ea ∙ q)
+
+      pub not-at-I : (b : ℕ) → ((i : ℕ) → i < 7 → has b i ≡ member i (familyOf f .second)) → firstOf preference (has (bitAnd b Q)) ≡ none → Family-judged f xs Not
+      unfolding triedOf
+      not-at-I b eb q = no-I (familyOf f) (good f) (map operand xs) (sizeOfNo n) e m (has P) (has Q) law (first-in (familyOf f .second) b Q eb ∙ q)
+
+      module _ (a b : ℕ) (ea : (t : ℕ) → t < 7 → has a t ≡ member t (familyOf f .set)) (eb : (i : ℕ) → i < 7 → has b i ≡ member i (familyOf f .second))
+          (t i : ℕ) (et : t ≡ firstOf preference (has (bitAnd a P))) (ei : i ≡ firstOf preference (has (bitAnd b Q))) (nt : t ≢ none) (ni : i ≢ none) where
+        first-T : firstOf preference (takes (familyOf f .set) (has P)) ≡ t
+        first-T = first-in (familyOf f .set) a P ea ∙ sym et
+
+        first-I : firstOf preference (takes (familyOf f .second) (has Q)) ≡ i
+        first-I = first-in (familyOf f .second) b Q eb ∙ sym ei
+
+        pub T-small : t < 7
+        T-small = small-T (familyOf f) (good f) (map operand xs) (sizeOfNo n) e m (has P) (has Q) law t i first-T first-I nt ni
+
+        pub I-small : i < 7
+        I-small = small-I (familyOf f) (good f) (map operand xs) (sizeOfNo n) e m (has P) (has Q) law t i first-T first-I nt ni
+
+        pub it-fits : (o : Out) → outOf o ≡ wrapped (familyOf f .wrap) (patternTy (sizeOfNo n) t i (familyOf f .result)) → Family-judged f xs (Fits o)
+        unfolding triedOf Resolved
+        it-fits o r =
+            (overload (familyOf f) t i (sizeOfNo n), first-preferred (familyOf f) (good f) (map operand xs) (sizeOfNo n) e m (has P) (has Q) law t i first-T first-I nt ni, r)
+
+-- A ROW
+
+abbrev pub Row-judged : ℕ → List ℕ → Resolution → Type 0
+Row-judged row xs r = Resolved (ofRow (rowAt row)) (map operand xs) (judgedOf r)
+
+-- the family at a place of a row does not fit
+abbrev pub Out-of : ℕ → List ℕ → ℕ → Type 0
+Out-of row xs k = Resolved (listed (ofFamily (familyAt row k))) (map operand xs) noneFits
+
+-- the places of the families before k that are tried do not fit
+pub record Trying (row : ℕ) (xs : List ℕ) (place k : ℕ) : Type 0 where
+  pub from : place ≤ k
+  pub within : k < length (rowAt row .families)
+  pub tried : (l : ℕ) → place ≤ l → l < k → Out-of row xs l
 
 -- a shape from 13 on has no form that a family has
 pub other-form : (k : ℕ) → 13 ≤ k → formOf (shapeOfNo k) ≡ 3
-unfolding shapeOfNo
-other-form k h = rw (ne-eqb k 0 (λ e. omega arith), le-ltb k 4 (omega arith), le-ltb k 13 h)
+other-form k h = ap formOf (beyond k h)
 
--- 63 is no family
-no-params : wordOf 63 0 ≡ 0
-unfolding rows rowAt code.joined code.families familyOf encode
-no-params = refl
+module _ (row : ℕ) (xs : List ℕ) where
+  forms-are : 3 * formOf (shapeOf (firstTy (map operand xs))) + formOf (shapeOf (lastTy (map operand xs))) ≡ formsOf xs
+  forms-are = λ j. 3 * formOf (first-at xs j) + formOf (last-at xs j)
 
--- f is the family that the row has, or 63
-module _ (row : ℕ) (xs : List ℕ) (f : ℕ) (e : f ≡ orNone 63 (familyAt row (formsOf xs))) where
-  pub family-apart : (f ≡ familyAt row (formsOf xs) → Resolved (ofRow (rowAt row)) (map operand xs) (judgedOf NoneFits)) → Resolved (ofRow (rowAt row)) (map operand xs) (judgedOf NoneFits)
-  family-apart k =
-      ⊎-elim (λ a. not-found row xs (λ p c. let l = c .below in let h = sym (c .family) ∙ a .0 in omega arith)) (λ b. k (b .1))
-      (entry-cases 63 (familyAt row (formsOf xs)) f e)
+  -- where an overload of the row fits its family is one that is tried
+  record Tried-at (p : Overload) : Type 0 where
+    k : ℕ
+    below : k < length (rowAt row .families)
+    among : List·Memᴰ p (ofFamily (familyAt row k))
+    first : T (ltb (formOf (shapeOfNo (firstX xs / 7))) 3)
+    last : T (ltb (formOf (shapeOfNo (lastX xs / 7))) 3)
+    its-way : Way (placeOf (formsOf xs) (rowAt row .families) 0) (stopOf (rowAt row .families)) k
 
-  pub family-found : 1 ≤ wordOf f 0 → (f ≡ familyAt row (formsOf xs)) × (f ≢ none)
-  family-found h =
-      ⊎-elim (λ a. let k = ap (λ (g : ℕ). wordOf g 0) (a .1) ∙ no-params in absurd (omega arith)) (λ b. (b .1, λ q. b .0 (sym (b .1) ∙ q)))
-      (entry-cases 63 (familyAt row (formsOf xs)) f e)
+  tried-at : (p : Overload) → ofRow (rowAt row) p → T (fits (p .params) (map operand xs)) → Tried-at p
+  tried-at p m h =
+      let r = listed-of (rowAt row .families) p m in
+      let f = familyAt row (r .0) in
+      let g = good-in row (r .0) in
+      let q = of-family f p (r .2) in
+      let sized = g .fair (q .z) (q .inSizes) .sized in
+      record {
+        k = r .0;
+        below = r .1;
+        among = r .2;
+        first = subst (λ (s : Shape). T (ltb (formOf s) 3)) (sym (first-shape f g p q (map operand xs) h) ∙ first-at xs) (form-small (firstParam f .form) (q .z) sized);
+        last = subst (λ (s : Shape). T (ltb (formOf s) 3)) (sym (last-shape f g p q (map operand xs) h) ∙ last-at xs) (form-small (lastParam f .form) (q .z) sized);
+        its-way =
+            subst (λ (forms : ℕ). Way (placeOf forms (rowAt row .families) 0) (stopOf (rowAt row .families)) (r .0))
+            (sym (forms-of-fit f g p q (map operand xs) h) ∙ forms-are)
+            (way row (r .0) (q .z) (r .1) (q .inSizes));
+      }
 
-module _ (row : ℕ) (xs : List ℕ) (f : ℕ) (e : f ≡ familyAt row (formsOf xs)) where
-  family-is : (p : Overload) (c : Found row xs p) → c .f ≡ f
-  family-is p c = sym (c .family) ∙ sym e
+  nothing : ((p : Overload) → Tried-at p → T (fits (p .params) (map operand xs)) → ⊥) → Row-judged row xs NoneFits
+  unfolding Resolved judgedOf
+  nothing n p m h = n p (tried-at p m h) h
 
-  pub in-row : row < 47 → formsOf xs < 9 → f ≢ none → Inside row f
-  in-row hr hg h = subst (Inside row) (sym e) (inside row (formsOf xs) hr hg (λ q. h (e ∙ q)))
+  pub first-apart : 13 ≤ firstX xs / 7 → Row-judged row xs NoneFits
+  first-apart h = nothing (λ p t k. let l = ltb→lt (formOf (shapeOfNo (firstX xs / 7))) 3 (t .first) in let e = other-form (firstX xs / 7) h in omega arith)
 
-  pub count-apart : wordOf f 0 ≢ length xs → Resolved (ofRow (rowAt row)) (map operand xs) (judgedOf NoneFits)
-  count-apart h = not-found row xs (λ p c. h (count-word f ∙ ap (λ (k : ℕ). length (familyOf k .params)) (sym (family-is p c)) ∙ sym (c .count)))
+  pub last-apart : 13 ≤ lastX xs / 7 → Row-judged row xs NoneFits
+  last-apart h = nothing (λ p t k. let l = ltb→lt (formOf (shapeOfNo (lastX xs / 7))) 3 (t .last) in let e = other-form (lastX xs / 7) h in omega arith)
 
-  module _ (n : ℕ) (s : n ≡ sizeAt (wordOf f 7) (firstX xs / 7) (lastX xs / 7)) where
-    size-is : (p : Overload) (c : Found row xs p) → c .n ≡ n
-    size-is p c = sym (c .size) ∙ ap (λ (k : ℕ). sizeAt (wordOf k 7) (firstX xs / 7) (lastX xs / 7)) (family-is p c) ∙ sym s
+  module _ (place : ℕ) (e : place ≡ placeOf (formsOf xs) (rowAt row .families) 0) where
+    pub no-place : place ≡ noPlace → Row-judged row xs NoneFits
+    no-place q = nothing (λ p t k. t .its-way .there (sym e ∙ q))
 
-    pub low-apart : n < wordOf f 8 → Resolved (ofRow (rowAt row)) (map operand xs) (judgedOf NoneFits)
-    low-apart h =
-        not-found row xs
-        (λ p c. let a : wordOf f 8 ≤ n = subst (λ (k : ℕ). wordOf f 8 ≤ k) (size-is p c) (subst (λ (k : ℕ). wordOf k 8 ≤ c .n) (family-is p c) (c .low)) in omega arith)
+    pub first-try : place ≢ noPlace → Trying row xs place place
+    first-try n =
+        record {
+          from = omega arith;
+          within = let l = place-within (formsOf xs) (rowAt row .families) 0 (λ q. n (e ∙ q)) in omega (arith, l, e);
+          tried = λ l a b. absurd (omega arith);
+        }
 
-    pub high-apart : wordOf f 9 < n → Resolved (ofRow (rowAt row)) (map operand xs) (judgedOf NoneFits)
-    high-apart h =
-        not-found row xs
-        (λ p c. let a : n ≤ wordOf f 9 = subst (λ (k : ℕ). k ≤ wordOf f 9) (size-is p c) (subst (λ (k : ℕ). c .n ≤ wordOf k 9) (family-is p c) (c .high)) in omega arith)
+    module _ (k : ℕ) (g : Trying row xs place k) where
+      before : Out-of row xs k → (l : ℕ) → place ≤ l → l < k + 1 → Out-of row xs l
+      before o l a b = ⊎-elim (λ q. subst (Out-of row xs) (sym q) o) (g .tried l a) (eq-or-lt-of-le (le-of-suc-le-suc (subst (λ (m : ℕ). l < m) (add-one k) b)))
 
-    module _ (hr : row < 47) (hg : formsOf xs < 9) (h : f ≢ none) where
-      module _ (count : wordOf f 0 ≡ length xs) (low : wordOf f 8 ≤ n) (high : n ≤ wordOf f 9) where
-        at-place : At row xs f n
-        at-place =
-            record { row-below = hr; inside = in-row hr hg h; count = sym count ∙ count-word f; family = sym e; size = sym s; low = low; high = high }
+      module _ (stop : ℕ) (s : stop ≡ stopOf (rowAt row .families)) (o : Out-of row xs k) where
+        pub next-try : k + 1 < stop → Trying row xs place (k + 1)
+        next-try h = let l = stop-within (rowAt row .families) in let f = g .from in record { from = omega arith; within = omega arith; tried = before o }
 
-        -- the operands have no join
-        pub join-apart : (j : ℕ) → j ≡ 255 → ((t : ℕ) → t < 7 → accepts j t ≡ fitsAt f n t xs) → Resolved (ofRow (rowAt row)) (map operand xs) (judgedOf NoneFits)
-        unfolding Resolved judgedOf
-        join-apart j q k p m d =
-            let o = of-here row xs f n at-place p m d in
-            subst T (sym (k (o .0) (o .2)) ∙ ap (λ (i : ℕ). accepts i (o .0)) q ∙ none-accepts (o .0)) (both-right (member (o .0) (familyOf f .set)) _ (o .1))
+        out-of : (l : ℕ) → Out-of row xs l → (p : Overload) → List·Memᴰ p (ofFamily (familyAt row l)) → T (fits (p .params) (map operand xs)) → ⊥
+        unfolding Resolved
+        out-of l n p m h = n p m h
 
-        module _ (j : ℕ) (hj : j < 7) (k : (t : ℕ) → t < 7 → accepts j t ≡ fitsAt f n t xs) (t : ℕ) (l : t ≡ liftOf (familyOf f .set) j) where
-          first-is : firstOf preference (takes f n xs) ≡ t
-          first-is = sym (lift-first f n xs j hj k) ∙ sym l
+        pub all-tried : stop ≤ k + 1 → Row-judged row xs NoneFits
+        all-tried h =
+            nothing
+            (λ p t c.
+            let a = t .its-way .from in
+            let f = g .from in
+            out-of (t .k)
+            (before o (t .k) (omega arith) (⊎-elim (λ b. omega arith) (λ b. omega arith) (t .its-way .upto)))
+            p (t .among) c)
 
-          -- no T of the set takes the join
-          pub lift-apart : t ≡ none → Resolved (ofRow (rowAt row)) (map operand xs) (judgedOf NoneFits)
-          unfolding judgedOf
-          lift-apart q = none-takes row xs f n at-place (first-is ∙ q)
-
-          -- the preferred overload
-          pub preferred : t ≢ none → (o : Out) → outOf o ≡ wrapped (familyOf f .wrap) (patternTy (sizeOfNo n) t (familyOf f .result))
-              → Resolved (ofRow (rowAt row)) (map operand xs) (judgedOf (Gives o))
-          unfolding Resolved judgedOf
-          preferred q o r = (overload (familyOf f) t (sizeOfNo n), first-preferred row xs f n at-place t first-is q, r)
-
-          pub lifted-small : t ≢ none → t < 7
-          lifted-small q =
-              good f (in-row hr hg h .below) .set t (both-left _ _ (first-preferred-takes row xs f n at-place t first-is q))
+      -- the family that fits judges the row
+      pub family-judges : (o : Out) → Resolved (listed (ofFamily (familyAt row k))) (map operand xs) (triedOf (Fits o)) → Row-judged row xs (Gives o)
+      unfolding Resolved triedOf judgedOf
+      family-judges o q = (q .0, row-of-family row (map operand xs) k (g .within) (q .0) (q .1), q .2)

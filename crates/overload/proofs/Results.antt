@@ -1,6 +1,6 @@
 -- The result of every overload of a row is a type that there is; a bare one is a scalar, a vector or a matrix. Computed over all rows.
 -- Assumes nothing.
-use Prim.Native.Nat.{ℕ, _<_}
+use Prim.Native.Nat.{ℕ}
 use mathlib.Core.Path.{_≡_, refl, sym, _∙_, ap, subst}
 use mathlib.Core.Bool.{Bool, true, false, not}
 use mathlib.Core.List.{List, [], _∷_, List·Memᴰ, List·Memᴰ·cases-cons, List·Memᴰ·not-nil}
@@ -8,11 +8,11 @@ use mathlib.Core.Logic.{⊎-elim}
 use lib.Dec.{T}
 use Rattle.conv.specs.Types.{Ty, formed, isRuntime, isFract}
 use Rattle.conv.specs.Rank.{both, made}
-use Rattle.conv.proofs.Finite.{both-left, both-right, below}
+use Rattle.conv.proofs.Finite.{both-left, both-right}
 use Rattle.overload.specs.Overload.{Overload, or, Resolved}
 use Rattle.overload.specs.Overload.Judged.{gives}
-use Rattle.overload.specs.Rows.{formAt, componentAt, wrapped, atSizes, overSet, ofFamilies, overloadsOf, ofRow, judgeRow, rowAt, rows}
-use Rattle.overload.proofs.Found.{row-in}
+use Rattle.overload.specs.Rows.{Row, noRow, formAt, componentAt, wrapped, overSecond, atSizes, overSet, ofFamilies, overloadsOf, ofRow, judgeRow, rowAt, rows}
+use Rattle.overload.proofs.Families.{every, every-at}
 use Rattle.overload.proofs.Judge.{judge-resolved}
 
 -- a result type is no array without count, which stands for types of another shape
@@ -23,9 +23,20 @@ allResults : List Overload → Bool
 allResults [] = true
 allResults (o ∷ os) = both (resultTest o) (allResults os)
 
-all-results : (row : ℕ) → row < 47 → T (allResults (overloadsOf (rowAt row)))
-unfolding allResults resultTest both or formed isRuntime isFract made formAt componentAt wrapped atSizes overSet ofFamilies rows rowAt
-all-results row h = below 47 (λ row. allResults (overloadsOf (rowAt row))) tt row h
+rowResults : Row → Bool
+rowResults r = allResults (overloadsOf r)
+
+computed : T (every rowResults rows)
+unfolding every rowResults allResults resultTest both or formed isRuntime isFract made formAt componentAt wrapped overSecond atSizes overSet ofFamilies rows rowAt
+computed = tt
+
+no-results : T (rowResults noRow)
+unfolding rowResults allResults ofFamilies
+no-results = tt
+
+all-results : (row : ℕ) → T (allResults (overloadsOf (rowAt row)))
+unfolding rowAt rowResults
+all-results row = every-at rowResults noRow rows no-results computed row
 
 result-at : (os : List Overload) → T (allResults os) → (o : Overload) → List·Memᴰ o os → T (resultTest o)
 unfolding allResults
@@ -46,5 +57,5 @@ pub gives-formed : (row : ℕ) (ts : List Ty) (R : Ty) → judgeRow (rowAt row) 
 unfolding resultTest
 gives-formed row ts R e =
     let q = resolved-result row ts R (subst (Resolved (ofRow (rowAt row)) ts) e (judge-resolved (overloadsOf (rowAt row)) ts)) in
-    let t = result-at (overloadsOf (rowAt row)) (all-results row (row-in row (q .0) (q .1))) (q .0) (q .1) in
+    let t = result-at (overloadsOf (rowAt row)) (all-results row) (q .0) (q .1) in
     (ap formed (q .2) ∙ T-true (formed (q .0 .result)) (both-left _ _ t), subst (λ (r : Ty). T (not (isRuntime r))) (sym (q .2)) (both-right (formed (q .0 .result)) _ t))

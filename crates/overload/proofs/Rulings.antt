@@ -4,7 +4,7 @@ use Prim.Native.Nat.{ℕ, zero, suc, _<_}
 use mathlib.Core.Path.{_≡_, refl, sym, _∙_, ap, subst}
 use mathlib.Core.Bool.{Bool, true, false, _&&_, not, cond}
 use mathlib.Core.List.{List, [], _∷_, map}
-use lib.ListN.{getD}
+use lib.ListN.{length, getD}
 use native.Mathlib.Omega.{arith}
 use mathlib.Core.Logic.{_≢_}
 use lib.Dec.{T, eqb, leb, eqb→eq}
@@ -169,9 +169,9 @@ module _ (ts : List Ty) (f : allFormed ts ≡ true) where
 rowTest : ℕ → Bool
 rowTest k = eqb (rowAt k .number) k
 
-pub row-known : (k : ℕ) → k < 47 → Known (byRow (rowAt k))
+pub row-known : (k : ℕ) → k < length rows → Known (byRow (rowAt k))
 unfolding Known rowTest rowAt rows both
-row-known k h = ap rowAt (eqb→eq (rowAt k .number) k (below 47 rowTest tt k h))
+row-known k h = ap rowAt (eqb→eq (rowAt k .number) k (below (length rows) rowTest tt k h))
 
 -- and so is each of a list of rows that are computed to be those of their numbers
 

@@ -1,58 +1,96 @@
--- One parameter in the code's numbers: what an operand's conversion to it comes to. Assumes nothing.
-use Prim.Native.Nat.{ℕ, _+_, _*_, _/_, _%_, _<_}
+-- One parameter in the code's numbers: what an operand's conversion to it comes to, and the join of scalars. Assumes nothing.
+use Prim.Native.Nat.{ℕ, zero, suc, _+_, _*_, _/_, _%_, _<_}
 use native.Mathlib.Omega.{arith}
-use mathlib.Core.Path.{_≡_, refl, sym, _∙_, ap, ap₂}
+use native.Mathlib.Nat.{le-of-suc-le-suc, not-suc-le-zero}
+use mathlib.Core.Path.{_≡_, refl, sym, _∙_, ap, ap₂, subst}
 use mathlib.Core.Logic.{_≢_}
 use mathlib.Core.Bool.{Bool, true, false, not, cond}
-use lib.Dec.{T, eqb, ltb}
-use borrow.Author.Tests.{eqb-true, eq-eqb, ne-eqb, lt-ltb}
+use mathlib.Core.List.{List, [], _∷_}
+use lib.Dec.{T, eqb, ltb, ltb→lt}
+use lib.ListN.{getD}
+use borrow.Author.Tests.{eqb-true, eqb-false, eq-eqb, ne-eqb, lt-ltb}
 use Rattle.conv.specs.Rank.{pick, both, none, rankOf, Shape, formOf, componentOf, sameShape, conversionRank, converts, made, commonOf, accepts}
 use Rattle.conv.specs.Rank.Shape.{one, vector, matrix, other}
-use Rattle.conv.proofs.Finite.{implies, modus, same, same-eq, below, below₃}
-use Rattle.conv.proofs.Ranks.{join}
+use Rattle.conv.proofs.Finite.{same, same-eq, below₃}
+use Rattle.conv.proofs.Ranks.{join, rank-from}
 use Rattle.conv.proofs.Made.{shape-made}
-use Rattle.overload.specs.Rows.{formAt, componentAt, patternTy}
-use Rattle.overload.specs.Rows.Component.{ofT, just}
-use Rattle.overload.specs.Code.{shapeOfNo, shapeNo, operand, sizeOfNo, formOfNo, componentOfNo, patternOfNo, askedOf}
-use Rattle.overload.proofs.Preference.{Sized, smallC, slot-cost}
+use Rattle.overload.specs.Overload.{or}
+use Rattle.overload.specs.Rows.{Form, Component, Pattern, formAt, componentAt, patternTy, N}
+use Rattle.overload.specs.Rows.Form.{sized, single, vecC, vecR, left, right, turned}
+use Rattle.overload.specs.Rows.Component.{ofT, ofI, expT, just}
+use Rattle.overload.specs.inner.Code.{shapeOfNo, shapeNo, operand, sizeOfNo, formNo, formOfNo, componentNo, componentOfNo, patternOf, askedOf, familyOf, encode, digitOf, reaches, allows, slotT, slotI}
+use Rattle.overload.proofs.Preference.{Sized, fine, slot-cost}
+use Rattle.overload.proofs.Families.{plainC}
 
--- the shape that a form asks at a size is the one that the table has: computed at every form, size and shape
+-- THE NUMBERS OF A PATTERN give it back
+
+pub form-back : (f : Form) → formOfNo (formNo f) ≡ f
+unfolding formOfNo formNo
+form-back sized = refl
+form-back single = refl
+form-back vecC = refl
+form-back vecR = refl
+form-back left = refl
+form-back right = refl
+form-back turned = refl
+
+pub form-below : (f : Form) → formNo f < 7
+unfolding formNo
+form-below sized = omega arith
+form-below single = omega arith
+form-below vecC = omega arith
+form-below vecR = omega arith
+form-below left = omega arith
+form-below right = omega arith
+form-below turned = omega arith
+
+just-back : (s : ℕ) → s < 7 → componentOfNo s ≡ just s
+unfolding componentOfNo
+just-back s l = rw (ne-eqb s 7 (λ e. omega arith), ne-eqb s 8 (λ e. omega arith), ne-eqb s 9 (λ e. omega arith))
+
+pub component-back : (set : List ℕ) (c : Component) → T (fine set c) → componentOfNo (componentNo c) ≡ c
+unfolding componentOfNo componentNo
+component-back set ofT h = refl
+component-back set ofI h = refl
+component-back set expT h = refl
+component-back set (just s) h = just-back s (ltb→lt s 7 h)
+
+pub component-below : (set : List ℕ) (c : Component) → T (fine set c) → componentNo c < 10
+unfolding componentNo
+component-below set ofT h = omega arith
+component-below set ofI h = omega arith
+component-below set expT h = omega arith
+component-below set (just s) h = let l = ltb→lt s 7 h in omega arith
+
+-- the digits of a family are its parameters'
+pub form-digit : (f k : ℕ) → k < 4 → digitOf f (2 * k + 1) ≡ formNo (getD (familyOf f .params) k N .form)
+unfolding encode
+form-digit f zero h = refl
+form-digit f (suc zero) h = refl
+form-digit f (suc (suc zero)) h = refl
+form-digit f (suc (suc (suc zero))) h = refl
+form-digit f (suc (suc (suc (suc k)))) h = absurd (not-suc-le-zero (le-of-suc-le-suc (le-of-suc-le-suc (le-of-suc-le-suc (le-of-suc-le-suc h)))))
+
+pub component-digit : (f k : ℕ) → k < 4 → digitOf f (2 * k + 2) ≡ componentNo (getD (familyOf f .params) k N .of)
+unfolding encode
+component-digit f zero h = refl
+component-digit f (suc zero) h = refl
+component-digit f (suc (suc zero)) h = refl
+component-digit f (suc (suc (suc zero))) h = refl
+component-digit f (suc (suc (suc (suc k)))) h = absurd (not-suc-le-zero (le-of-suc-le-suc (le-of-suc-le-suc (le-of-suc-le-suc (le-of-suc-le-suc h)))))
+
+-- THE SHAPE that a form asks at a size is the one that the table has: computed at every form, size and shape
 
 shapeTest : ℕ → ℕ → ℕ → Bool
 shapeTest form n k = same (sameShape (shapeOfNo k) (formAt (formOfNo form) (sizeOfNo n))) (eqb k (askedOf form n))
 
-shape-tests : (form n k : ℕ) → form < 8 → n < 41 → k < 37 → T (shapeTest form n k)
+shape-tests : (form n k : ℕ) → form < 7 → n < 41 → k < 37 → T (shapeTest form n k)
 unfolding shapeTest same both shapeOfNo shapeNo sizeOfNo formOfNo formAt askedOf
-shape-tests form n k hf hn hk = below₃ 8 41 37 shapeTest tt form n k hf hn hk
+shape-tests form n k hf hn hk = below₃ 7 41 37 shapeTest tt form n k hf hn hk
 
-pub shape-test : (form n k : ℕ) → form < 8 → n < 41 → k < 37 → sameShape (shapeOfNo k) (formAt (formOfNo form) (sizeOfNo n)) ≡ eqb k (askedOf form n)
+pub shape-test : (form n k : ℕ) → form < 7 → n < 41 → k < 37 → sameShape (shapeOfNo k) (formAt (formOfNo form) (sizeOfNo n)) ≡ eqb k (askedOf form n)
 unfolding shapeTest
 shape-test form n k hf hn hk = same-eq _ _ (shape-tests form n k hf hn hk)
-
--- every size but 13 is that of a scalar, a vector or a matrix
-
-sizedTest : ℕ → Bool
-sizedTest n = implies (not (eqb n 13)) (ltb (formOf (sizeOfNo n .shape)) 3)
-
-sized-tests : (n : ℕ) → n < 41 → T (sizedTest n)
-unfolding sizedTest implies both shapeOfNo sizeOfNo
-sized-tests n h = below 41 sizedTest tt n h
-
-pub sized-no : (n : ℕ) → n < 41 → n ≢ 13 → Sized (sizeOfNo n)
-unfolding sizedTest
-sized-no n h q = modus _ _ (sized-tests n h) (rw (ne-eqb n 13 q) tt)
-
-small-no : (k : ℕ) → k < 8 → T (smallC (componentOfNo k))
-unfolding both componentOfNo
-small-no k h = below 8 (λ k. smallC (componentOfNo k)) tt k h
-
-pub component-no : (k t : ℕ) → componentAt (componentOfNo k) t ≡ pick (eqb k 7) t k
-unfolding componentAt componentOfNo
-component-no k t = go (eqb k 7)
-  where
-    go : (b : Bool) → componentAt (cond b ofT (just k)) t ≡ pick b t k
-    go true = refl
-    go false = refl
 
 -- where shapes agree the component is the operand's
 pub by-shape : (s : Shape) (a : ℕ) (p : Shape) (c : ℕ) → pick (sameShape s p) (rankOf (componentOf (made s a)) c) none ≡ pick (sameShape s p) (rankOf a c) none
@@ -62,29 +100,132 @@ by-shape (vector n) a p c = refl
 by-shape (matrix d r) a p c = refl
 by-shape other a p c = refl
 
-module _ (x n t p : ℕ) (hx : x < 256) (hn : n < 41) (h13 : n ≢ 13) (ht : t < 7) (hp : p < 64) where
-  -- what the operand x costs at the pattern p
-  pub slot-no : conversionRank (operand x) (patternTy (sizeOfNo n) t (patternOfNo p))
-      ≡ pick (eqb (x / 7) (askedOf (p / 8) n)) (rankOf (x % 7) (pick (eqb (p % 8) 7) t (p % 8))) none
+pick-reaches : (b : Bool) (r : ℕ) → ltb (pick b r none) none ≡ both b (ltb r none)
+unfolding both
+pick-reaches true r = refl
+pick-reaches false r = refl
+
+module _ (set : List ℕ) (x n t i form of : ℕ) (hx : x < 256) (hn : n < 41) (hz : Sized (sizeOfNo n)) (ht : t < 7) (hi : i < 7) (hf : form < 7) (hc : T (fine set (componentOfNo of))) where
+  -- does the operand x convert to the pattern?
+  pub slot-no : converts (operand x) (patternTy (sizeOfNo n) t i (patternOf form of)) ≡ both (eqb (x / 7) (askedOf form n)) (reaches (x % 7) (componentAt (componentOfNo of) t i))
   slot-no =
-      slot-cost (operand x) (sizeOfNo n) t (patternOfNo p) (sized-no n hn h13) ht (small-no (p % 8) (omega arith))
-      ∙ (λ i. pick (sameShape (shape-made (shapeOfNo (x / 7)) (x % 7) i) (formAt (formOfNo (p / 8)) (sizeOfNo n))) (rankOf (componentOf (operand x)) (component-no (p % 8) t i)) none)
-      ∙ by-shape (shapeOfNo (x / 7)) (x % 7) (formAt (formOfNo (p / 8)) (sizeOfNo n)) (pick (eqb (p % 8) 7) t (p % 8))
-      ∙ ap (λ (b : Bool). pick b (rankOf (x % 7) (pick (eqb (p % 8) 7) t (p % 8))) none) (shape-test (p / 8) n (x / 7) (omega arith) hn (omega arith))
+      ap (λ (r : ℕ). ltb r none)
+      (slot-cost set (operand x) (sizeOfNo n) t i (patternOf form of) hz ht hi hc
+      ∙ (λ j. pick (sameShape (shape-made (shapeOfNo (x / 7)) (x % 7) j) (formAt (formOfNo form) (sizeOfNo n))) (rankOf (componentOf (operand x)) (componentAt (componentOfNo of) t i)) none)
+      ∙ by-shape (shapeOfNo (x / 7)) (x % 7) (formAt (formOfNo form) (sizeOfNo n)) (componentAt (componentOfNo of) t i)
+      ∙ ap (λ (b : Bool). pick b (rankOf (x % 7) (componentAt (componentOfNo of) t i)) none) (shape-test form n (x / 7) hf hn (omega arith)))
+      ∙ pick-reaches (eqb (x / 7) (askedOf form n)) (rankOf (x % 7) (componentAt (componentOfNo of) t i))
 
-  -- the four ways of a parameter
-  pub slot-apart : x / 7 ≢ askedOf (p / 8) n → converts (operand x) (patternTy (sizeOfNo n) t (patternOfNo p)) ≡ false
-  slot-apart h = rw (slot-no, ne-eqb (x / 7) (askedOf (p / 8) n) h)
+-- a scalar at a component: its set of T and its set of I
+both-yes : (a : Bool) → a ≡ both a true
+unfolding both
+both-yes true = refl
+both-yes false = refl
 
-  pub slot-T : x / 7 ≡ askedOf (p / 8) n → p % 8 ≡ 7 → converts (operand x) (patternTy (sizeOfNo n) t (patternOfNo p)) ≡ ltb (rankOf (x % 7) t) none
-  slot-T h k = rw (slot-no, eq-eqb (x / 7) (askedOf (p / 8) n) h, eq-eqb (p % 8) 7 k)
+alone : (c : Component) (s t i : ℕ) → (c ≡ ofI → ⊥) → componentAt c t i ≡ componentAt c t 0
+unfolding componentAt
+alone ofT s t i h = refl
+alone ofI s t i h = absurd (h refl)
+alone expT s t i h = refl
+alone (just k) s t i h = refl
 
-  pub slot-fixed : x / 7 ≡ askedOf (p / 8) n → p % 8 ≢ 7 → converts (operand x) (patternTy (sizeOfNo n) t (patternOfNo p)) ≡ ltb (rankOf (x % 7) (p % 8)) none
-  slot-fixed h k = rw (slot-no, eq-eqb (x / 7) (askedOf (p / 8) n) h, ne-eqb (p % 8) 7 k)
+isI-no : ℕ → Component → ℕ
+isI-no k ofT = 0
+isI-no k ofI = 1
+isI-no k expT = 0
+isI-no k (just s) = 0
 
--- THE STEP OF A JOIN: r is the join of j and of the operand x at a parameter
+of-no : (of : ℕ) → of ≢ 8 → componentOfNo of ≡ ofI → ⊥
+unfolding componentOfNo isI-no
+of-no of h e = go (eqb of 7) (eqb of 9) (sym (rw (ne-eqb of 8 h)) ∙ e)
+  where
+    go : (a b : Bool) → cond a ofT (cond b expT (just of)) ≡ ofI → ⊥
+    go true b q = let z = ap (isI-no 0) q in omega arith
+    go false true q = let z = ap (isI-no 0) q in omega arith
+    go false false q = let z = ap (isI-no 0) q in omega arith
 
--- the component of an operand of the shape b, or none for one of another shape a
+pub slot-sets : (of s t i : ℕ) → reaches s (componentAt (componentOfNo of) t i) ≡ both (slotT of s t) (slotI of s i)
+unfolding both or componentOfNo componentAt
+slot-sets of s t i = go (eqb of 8) refl
+  where
+    go : (b : Bool) → eqb of 8 ≡ b → reaches s (componentAt (componentOfNo of) t i) ≡ both (or b (reaches s (componentAt (componentOfNo of) t 0))) (or (not b) (reaches s i))
+    go true e = ap (λ (c : Component). reaches s (componentAt c t i)) (ap componentOfNo (eqb-true of 8 e))
+    go false e = ap (reaches s) (alone (componentOfNo of) s t i (of-no of (eqb-false of 8 e))) ∙ both-yes _
+
+-- JOINS
+
+pub both-same : (a : Bool) → both a a ≡ a
+unfolding both
+both-same true = refl
+both-same false = refl
+
+-- a plain number of a width accepts what its component converts to
+pub plain-accepts : (b s t : ℕ) → b < 28 → b % 7 ≡ s → accepts b t ≡ reaches s t
+unfolding both
+plain-accepts b s t h e = rw (lt-ltb b 28 h, e)
+
+pub none-reaches : (t : ℕ) → reaches 255 t ≡ false
+none-reaches t = ap (λ (r : ℕ). ltb r none) (rank-from 255 t (omega arith))
+
+-- the common type of two scalars is that of two of a width
+module _ (base j s t : ℕ) (hb : base < 22) (wb : base / 7 * 7 ≡ base) (hj : j < 7) (hs : s < 7) (ht : t < 7) where
+  pub common-reaches : accepts (commonOf (base + j) (base + s)) t ≡ both (reaches j t) (reaches s t)
+  common-reaches =
+      join (base + j) (base + s) (omega arith) (omega arith) (omega arith) t ht
+      ∙ ap₂ both (plain-accepts (base + j) j t (omega arith) (omega arith)) (plain-accepts (base + s) s t (omega arith) (omega arith))
+
+or-yes : (b : Bool) → or (not false) b ≡ true
+unfolding or
+or-yes b = refl
+
+or-no : (b : Bool) → or (not true) b ≡ b
+unfolding or
+or-no b = refl
+
+both-first : (b : Bool) → both true b ≡ b
+unfolding both
+both-first b = refl
+
+-- what is joined: a scalar, or nothing yet
+pub allows-scalar : (j t : ℕ) → j ≢ 7 → allows j t ≡ reaches j t
+unfolding or
+allows-scalar j t h = rw (ne-eqb j 7 h)
+
+pub allows-all : (t : ℕ) → allows 7 t ≡ true
+unfolding or
+allows-all t = refl
+
+pub allows-none : (t : ℕ) → allows 255 t ≡ false
+unfolding or
+allows-none t = none-reaches t
+
+pub none-accepts : (t : ℕ) → accepts 255 t ≡ false
+unfolding both
+none-accepts t = refl
+
+-- at a parameter of T
+pub slot-T-is : (of s t : ℕ) → of ≡ 7 → slotT of s t ≡ reaches s t
+unfolding or componentOfNo componentAt
+slot-T-is of s t e = ap (λ (k : ℕ). slotT k s t) e
+
+module _ (of j s t : ℕ) where
+  pub join-other : of ≢ 7 → allows j t ≡ both (allows j t) (or (not (eqb of 7)) (slotT of s t))
+  join-other h = both-yes (allows j t) ∙ ap (both (allows j t)) (sym yes)
+    where
+      yes : or (not (eqb of 7)) (slotT of s t) ≡ true
+      yes = ap (λ (b : Bool). or (not b) (slotT of s t)) (ne-eqb of 7 h) ∙ or-yes (slotT of s t)
+
+  at-T : of ≡ 7 → or (not (eqb of 7)) (slotT of s t) ≡ reaches s t
+  at-T e = ap (λ (b : Bool). or (not b) (slotT of s t)) (eq-eqb of 7 e) ∙ or-no (slotT of s t) ∙ slot-T-is of s t e
+
+  pub join-T : of ≡ 7 → (r : ℕ) → r ≢ 7 → reaches r t ≡ both (reaches j t) (reaches s t) → j ≢ 7 → allows r t ≡ both (allows j t) (or (not (eqb of 7)) (slotT of s t))
+  join-T e r n q m = allows-scalar r t n ∙ q ∙ ap₂ both (sym (allows-scalar j t m)) (sym (at-T e))
+
+  pub join-first : of ≡ 7 → j ≡ 7 → s < 7 → allows s t ≡ both (allows j t) (or (not (eqb of 7)) (slotT of s t))
+  join-first e q l =
+      allows-scalar s t (λ k. omega arith) ∙ sym (both-first (reaches s t)) ∙ ap₂ both (sym (ap (λ (k : ℕ). allows k t) q ∙ allows-all t)) (sym (at-T e))
+
+-- THE SHAPE OF AN OPERAND: its scalar where it has the shape b, or none for one of another shape a
 module _ (a b s r : ℕ) (e : r ≡ pick (eqb a b) s none) where
   pub other-shape : s < 7 → r ≡ none → a ≢ b
   other-shape h q k = let w = sym (e ∙ ap (λ (t : Bool). pick t s none) (eq-eqb a b k)) ∙ q in omega arith
@@ -95,36 +236,3 @@ module _ (a b s r : ℕ) (e : r ≡ pick (eqb a b) s none) where
       go : (t : Bool) → eqb a b ≡ t → (a ≡ b) × (r ≡ s)
       go true q = (eqb-true a b q, e ∙ ap (λ (t : Bool). pick t s none) q)
       go false q = absurd (h (e ∙ ap (λ (t : Bool). pick t s none) q))
-
-pub both-same : (a : Bool) → both a a ≡ a
-unfolding both
-both-same true = refl
-both-same false = refl
-
-pub both-false : (a : Bool) → both a false ≡ false
-unfolding both
-both-false true = refl
-both-false false = refl
-
-pub both-true : (a : Bool) → both a true ≡ a
-unfolding both
-both-true true = refl
-both-true false = refl
-
-pub none-accepts : (t : ℕ) → accepts 255 t ≡ false
-unfolding both
-none-accepts t = refl
-
--- a plain number of a width accepts what its component converts to
-pub plain-accepts : (b s t : ℕ) → b < 28 → b % 7 ≡ s → accepts b t ≡ ltb (rankOf s t) none
-unfolding both
-plain-accepts b s t h e = rw (lt-ltb b 28 h, e)
-
--- the common type of two scalars is that of two of a width
-module _ (base j s t : ℕ) (hb : base < 22) (wb : base / 7 * 7 ≡ base) (hj : j < 7) (hs : s < 7) (ht : t < 7) where
-  at-base : (k : ℕ) → k < 7 → accepts (base + k) t ≡ accepts k t
-  at-base k h = plain-accepts (base + k) k t (omega arith) (omega arith) ∙ sym (plain-accepts k k t (omega arith) (omega arith))
-
-  pub common-accepts : accepts (commonOf (base + j) (base + s)) t ≡ both (accepts j t) (accepts s t)
-  common-accepts =
-      join (base + j) (base + s) (omega arith) (omega arith) (omega arith) t ht ∙ ap₂ both (at-base j hj) (at-base s hs)

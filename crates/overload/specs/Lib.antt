@@ -1,3 +1,3 @@
 pub mod Overload
 pub mod Rows
-pub mod Code
+pub mod inner

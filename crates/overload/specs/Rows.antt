@@ -6,7 +6,7 @@ use mathlib.Core.Bool.{cond}
 use lib.Dec.{T, eqb}
 use mathlib.Core.List.{List, [], _∷_, _++_, map}
 use lib.ListN.{getD, length}
-use Rattle.conv.specs.Types.{Ty, bool, abstractInt, abstractFloat, i32, u32, f32, f16, handle, formed}
+use Rattle.conv.specs.Types.{Ty, bool, abstractInt, abstractFloat, i32, u32, f32, f16, exponent, handle, formed}
 use Rattle.conv.specs.Types.Ty.{scalar, vec, mat, array, runtime, atomic, ptr, ref, frexp, modf}
 use Rattle.conv.specs.Rank.{Shape, columnsOf, rowsOf, made}
 use Rattle.conv.specs.Rank.Shape.{one, vector, matrix}
@@ -41,6 +41,10 @@ wides = scalars ++ vectors
 abbrev pub matrices : List Size
 matrices = over (λ c. over (λ r. size (matrix c r) ∷ []))
 
+-- the same, by rows first
+abbrev pub matricesByRows : List Size
+matricesByRows = over (λ r. over (λ c. size (matrix c r) ∷ []))
+
 abbrev pub squares : List Size
 squares = over (λ n. size (matrix n n) ∷ [])
 
@@ -48,7 +52,7 @@ squares = over (λ n. size (matrix n n) ∷ [])
 abbrev pub products : List Size
 products = over (λ k. over (λ r. over (λ c. record { shape = matrix c r; inner = k } ∷ [])))
 
--- A PATTERN: a shape at the size, and its component, which is T or a fixed scalar
+-- A PATTERN: a shape at the size, and its component
 
 pub data Form : Type 0 where
   -- of the size; a scalar
@@ -57,8 +61,8 @@ pub data Form : Type 0 where
   vecC vecR : Form
   -- the left and the right side of a product
   left right : Form
-  -- columns and rows exchanged; as many rows as columns
-  turned square : Form
+  -- columns and rows exchanged
+  turned : Form
 
 unfoldable pub formAt : Form → Size → Shape
 formAt sized z = z .shape
@@ -68,23 +72,25 @@ formAt vecR z = vector (rowsOf (z .shape))
 formAt left z = matrix (z .inner) (rowsOf (z .shape))
 formAt right z = matrix (columnsOf (z .shape)) (z .inner)
 formAt turned z = matrix (rowsOf (z .shape)) (columnsOf (z .shape))
-formAt square z = matrix (columnsOf (z .shape)) (columnsOf (z .shape))
 
+-- the component: T; the second choice I; what follows T as `exp` follows `fract`: AbstractInt at an abstract T, else i32; a fixed scalar
 pub data Component : Type 0 where
-  ofT : Component
+  ofT ofI expT : Component
   just : ℕ → Component
 
-unfoldable pub componentAt : Component → ℕ → ℕ
-componentAt ofT t = t
-componentAt (just s) t = s
+unfoldable pub componentAt : Component → ℕ → ℕ → ℕ
+componentAt ofT t i = t
+componentAt ofI t i = i
+componentAt expT t i = exponent t
+componentAt (just s) t i = s
 
 pub record Pattern : Type 0 where
   pub form : Form
   pub of : Component
 
--- the type of a pattern at a size and a T
-abbrev pub patternTy : Size → ℕ → Pattern → Ty
-patternTy z t p = made (formAt (p .form) z) (componentAt (p .of) t)
+-- the type of a pattern at a size, a T and an I
+abbrev pub patternTy : Size → ℕ → ℕ → Pattern → Ty
+patternTy z t i p = made (formAt (p .form) z) (componentAt (p .of) t i)
 
 -- a result is a type by pattern, or the result type of frexp or of modf over one
 pub data Wrap : Type 0 where
@@ -95,31 +101,39 @@ wrapped bare t = t
 wrapped inFrexp t = frexp t
 wrapped inModf t = modf t
 
--- A FAMILY of overloads: one for each T of the set and each size
+-- A FAMILY of overloads: one for each T of the set, each size and each I of the second set
 
 pub record Family : Type 0 where
   pub set : List ℕ
+  pub second : List ℕ
   pub sizes : List Size
   pub params : List Pattern
   pub wrap : Wrap
   pub result : Pattern
 
-abbrev pub overload : Family → ℕ → Size → Overload
-overload f t z = record { params = map (patternTy z t) (f .params); result = wrapped (f .wrap) (patternTy z t (f .result)) }
+abbrev pub overload : Family → ℕ → ℕ → Size → Overload
+overload f t i z = record { params = map (patternTy z t i) (f .params); result = wrapped (f .wrap) (patternTy z t i (f .result)) }
 
--- in the order of T's number, then of width, or columns and rows
+-- in the order of T's number, then of the size, then of I's number
+
+unfoldable pub overSecond : Family → ℕ → Size → List ℕ → List Overload
+overSecond f t z [] = []
+overSecond f t z (i ∷ is) = overload f t i z ∷ overSecond f t z is
 
 unfoldable pub atSizes : Family → ℕ → List Size → List Overload
 atSizes f t [] = []
-atSizes f t (z ∷ zs) = overload f t z ∷ atSizes f t zs
+atSizes f t (z ∷ zs) = overSecond f t z (f .second) ++ atSizes f t zs
 
 unfoldable pub overSet : Family → List ℕ → List Overload
 overSet f [] = []
 overSet f (t ∷ ts) = atSizes f t (f .sizes) ++ overSet f ts
 
+abbrev pub ofFamily : Family → List Overload
+ofFamily f = overSet f (f .set)
+
 unfoldable pub ofFamilies : List Family → List Overload
 ofFamilies [] = []
-ofFamilies (f ∷ fs) = overSet f (f .set) ++ ofFamilies fs
+ofFamilies (f ∷ fs) = ofFamily f ++ ofFamilies fs
 
 -- SETS OF T, in the order of their numbers
 
@@ -172,14 +186,15 @@ matCK = record { form = right; of = ofT }
 abbrev pub transposed : Pattern
 transposed = record { form = turned; of = ofT }
 
-abbrev pub matNN : Pattern
-matNN = record { form = square; of = ofT }
+-- a family without a second choice has one I, which no pattern of it asks
+abbrev pub noChoice : List ℕ
+noChoice = only bool
 
 abbrev pub family : List ℕ → List Size → List Pattern → Pattern → Family
-family set sizes params result = record { set = set; sizes = sizes; params = params; wrap = bare; result = result }
+family set sizes params result = record { set = set; second = noChoice; sizes = sizes; params = params; wrap = bare; result = result }
 
 abbrev pub resultType : Wrap → Family
-resultType w = record { set = float; sizes = wides; params = N ∷ []; wrap = w; result = N }
+resultType w = record { set = float; second = noChoice; sizes = wides; params = N ∷ []; wrap = w; result = N }
 
 -- A ROW: the families of an operator, or of builtins that share them, and the number by which the code knows it. Its families stand in the order of document 01's row
 
@@ -220,7 +235,7 @@ arithmetic =
 abbrev pub additive : Row
 additive = row 4 (arithmetic ++ (family float matrices (N ∷ N ∷ []) N ∷ []))
 
--- `*`: matrix and component either way; matCxR by vecC gives vecR; vecR by matCxR gives vecC; matKxR by matCxK gives matCxR
+-- `*`: matrix and component either way; matCxR by vecC gives vecR; vecR by matCxR gives vecC, listed by its left parameter first; matKxR by matCxK gives matCxR
 abbrev pub multiplicative : Row
 multiplicative =
     row 5
@@ -228,7 +243,7 @@ multiplicative =
     ++ (family float matrices (N ∷ E ∷ []) N
     ∷ family float matrices (E ∷ N ∷ []) N
     ∷ family float matrices (N ∷ vecOfC ∷ []) vecOfR
-    ∷ family float matrices (vecOfR ∷ N ∷ []) vecOfC
+    ∷ family float matricesByRows (vecOfR ∷ N ∷ []) vecOfC
     ∷ family float products (matKR ∷ matCK ∷ []) N
     ∷ []))
 
@@ -244,9 +259,9 @@ equality = row 7 (family (bool ∷ numeric) wides (N ∷ N ∷ []) (Nof bool) �
 abbrev pub ordering : Row
 ordering = row 8 (family numeric wides (N ∷ N ∷ []) (Nof bool) ∷ [])
 
--- `|` `&`
+-- `|` `&`: wide integer or wide bool
 abbrev pub bitwise : Row
-bitwise = row 9 (family (bool ∷ integer) wides (N ∷ N ∷ []) N ∷ [])
+bitwise = row 9 (family integer wides (N ∷ N ∷ []) N ∷ family (only bool) wides (N ∷ N ∷ []) N ∷ [])
 
 -- `^`
 abbrev pub exclusive : Row
@@ -313,7 +328,7 @@ abbrev pub crossing : Row
 crossing = row 29 (family float (width 3) (N ∷ N ∷ []) N ∷ [])
 
 abbrev pub squareMatrix : Row
-squareMatrix = row 30 (family float squares (matNN ∷ []) E ∷ [])
+squareMatrix = row 30 (family float squares (N ∷ []) E ∷ [])
 
 abbrev pub transposing : Row
 transposing = row 31 (family float matrices (N ∷ []) transposed ∷ [])
@@ -340,16 +355,16 @@ abbrev pub packing2F32 : Row
 packing2F32 = row 38 (family (only f32) (width 2) (N ∷ []) (Eof u32) ∷ [])
 
 abbrev pub unpacking4F32 : Row
-unpacking4F32 = row 39 (family (only u32) (width 4) (E ∷ []) (Nof f32) ∷ [])
+unpacking4F32 = row 39 (family (only f32) (width 4) (Eof u32 ∷ []) N ∷ [])
 
 abbrev pub unpacking4I32 : Row
-unpacking4I32 = row 40 (family (only u32) (width 4) (E ∷ []) (Nof i32) ∷ [])
+unpacking4I32 = row 40 (family (only i32) (width 4) (Eof u32 ∷ []) N ∷ [])
 
 abbrev pub unpacking4U32 : Row
-unpacking4U32 = row 41 (family (only u32) (width 4) (E ∷ []) (Nof u32) ∷ [])
+unpacking4U32 = row 41 (family (only u32) (width 4) (Eof u32 ∷ []) N ∷ [])
 
 abbrev pub unpacking2F32 : Row
-unpacking2F32 = row 42 (family (only u32) (width 2) (E ∷ []) (Nof f32) ∷ [])
+unpacking2F32 = row 42 (family (only f32) (width 2) (Eof u32 ∷ []) N ∷ [])
 
 abbrev pub packedDotU32 : Row
 packedDotU32 = row 43 (family (only u32) scalars (N ∷ N ∷ []) (Eof u32) ∷ [])

@@ -1,43 +1,50 @@
 // Overload resolution: the preferred overload of a row at operands, found without a search through the overloads.
 // An operand is a number: 7 times its shape plus its component. Shapes: scalar 0, vec2 to vec4 1 to 3, mat2x2 to mat4x4 4 to 12, any other type from 13 on.
+// Each operand gives the set of T at which it fits, a bit for each scalar; the first of their common T, in the order of preference, is the answer's.
 mod tables;
 
 use conv::NONE;
 use conv::SCALARS;
 ghost use mathlib.Core.Path.{_≡_};
+ghost use mathlib.Core.Bool.{not};
 ghost use mathlib.Core.List.{map};
 ghost use mathlib.Core.Logic.{_⊎_, _≢_};
-ghost use Prim.Native.Nat.{ℕ, _+_, _*_, _/_, _%_, _<_, _≤_};
+ghost use Prim.Native.Nat.{ℕ, _+_, _*_, _/_, _%_, _<_};
 ghost use lib.ListN.{length};
-ghost use lib.Dec.{eqb};
-ghost use Rattle.conv.specs.Rank.{pick, both, none, converts, formOf, accepts};
-ghost use Rattle.overload.specs.Overload.{Resolved};
-ghost use Rattle.overload.specs.Rows.{ofRow, patternTy, wrapped, judgeRow, rowAt, operandCount};
-ghost use Rattle.overload.specs.Code.{shapeOfNo, operand, sizeOfNo, patternOfNo, askedOf, familyOf, wordOf, sizeAt, fitsAt, formsOf, familyAt, orNone, Word, Starts, outOf, judgedOf};
+ghost use lib.Dec.{T, eqb};
+ghost use Rattle.conv.specs.Rank.{pick, both, none, formOf};
+ghost use Rattle.overload.specs.Overload.{Resolved, listed, or};
+ghost use Rattle.overload.specs.Rows.{ofFamily, patternTy, wrapped, judgeRow, rowAt, operandCount};
+ghost use Rattle.overload.specs.inner.Code.{shapeOfNo, operand, sizeOfNo, memSize, askedOf, familyOf, digitOf, sizeAt, sizesOf, has, firstOf, preference, reaches, allows, slotT, slotI, fitsAt, firstX, lastX, Word, Starts, outOf, triedOf, judgedOf};
 
-// How many rows there are.
-pub const ROWS: usize = 47;
-// The word of a family that has the count of its parameters, its first parameter, its result, its wrapping, its pivot, its first and its last size.
+// The digits of a family: the count of its parameters, its first parameter, its result, its wrapping, by which operands its size is found.
 const COUNT: usize = 0;
 
 const PARAM: usize = 1;
 
-const RESULT: usize = 5;
+const RESULT: usize = 9;
 
-const WRAP: usize = 6;
+const WRAP: usize = 11;
 
-const PIVOT: usize = 7;
-
-const FIRST_SIZE: usize = 8;
-
-const LAST_SIZE: usize = 9;
-// The component of a pattern that stands for T.
+const PIVOT: usize = 12;
+// The component of a pattern that stands for T, and that for the second choice.
 const OF_T: u8 = 7;
+
+const OF_I: u8 = 8;
+// Nothing is joined yet.
+const NO_JOIN: u8 = 7;
 // How many shapes there are.
 const SHAPES: u8 = 13;
+// The set of all scalars.
+const ALL: u64 = 0x7f;
+// No place in a row.
+const NO_PLACE: u64 = 15;
 
 // By shape: its form. An octal digit each, from the right.
 const FORMS: u64 = 0o2222222221110;
+
+// By what is joined so far: the set of T to which it converts. Two hexadecimal digits each.
+const ALLOWED: u64 = 0x7f_40_20_10_08_64_7e_01;
 
 // The type of a result: that of an operand's number, or the result type of frexp or of modf over it.
 pub enum Out {
@@ -53,11 +60,41 @@ pub enum Resolution {
     NonePreferred,
 }
 
+// What became of one family: the preferred overload's result, or none fits.
+enum Tried {
+    Fits(Out),
+    Not,
+}
+
+// The sets of T and of the second choice at which operands fit.
+struct Choices(u64, u64);
+
 // The shape of an operand: a seventh of its number, by a product and a shift.
 fn shape_of(x: u8) -> u8
     ensures { λ r. ⌜ r ≡ x / 7 ⌝ }
 {
     ((x as u64) * 9363 / 65536) as u8
+}
+
+// The shape of the first operand, that of a scalar where there is none.
+fn first_shape(xs: &[u8]) -> u8
+    ensures { λ r. ⌜ r ≡ firstX (now (xs .entry)) / 7 ⌝ }
+{
+    if xs.len() == 0 {
+        return 0;
+    }
+    shape_of(xs[0])
+}
+
+// The shape of the last operand, that of a scalar where there is none.
+fn last_shape(xs: &[u8]) -> u8
+    ensures { λ r. ⌜ r ≡ lastX (now (xs .entry)) / 7 ⌝ }
+{
+    let count = xs.len();
+    if count == 0 {
+        return 0;
+    }
+    shape_of(xs[count - 1])
 }
 
 // The form of a shape: 0 scalar, 1 vector, 2 matrix.
@@ -68,12 +105,11 @@ fn form_of(shape: u8) -> u8
     ((FORMS >> (3 * shape)) % 8) as u8
 }
 
-// The size of a family, whose line in the tables is w, at the shapes of its first and last operands.
-fn size_at(f: u8, w: u64, a: u8, b: u8) -> u8
-    requires { ⌜ Word f w × (a < 37) × (b < 37) ⌝ }
-    ensures { λ r. ⌜ r ≡ sizeAt (wordOf f 7) a b ⌝ }
+// The size of a family at the shapes of its first and last operands, by which operands it is found; k is the number of its list of sizes.
+fn size_at(pivot: u8, k: u8, a: u8, b: u8) -> u8
+    requires { ⌜ (a < 13) × (b < 13) × (k < 16) ⌝ }
+    ensures { λ r. ⌜ (r ≡ sizeAt pivot k a b) × (r < 41) ⌝ }
 {
-    let pivot = tables::word(f, w, PIVOT);
     if pivot == 0 {
         return a;
     }
@@ -83,7 +119,7 @@ fn size_at(f: u8, w: u64, a: u8, b: u8) -> u8
     if pivot == 2 {
         return 3 * a + (b + 2) / 3;
     }
-    pivot - 3
+    k
 }
 
 // The number that joins are made at: the width's scalar bool where the size is plain, else 0.
@@ -96,12 +132,12 @@ fn base_of(n: u8) -> u8
     0
 }
 
-// The component of an operand of the shape that a pattern asks at a size, or NONE for one of another shape.
-fn component(p: u8, n: u8, starts: u64, x: u8) -> u8
-    requires { ⌜ (p < 64) × Starts n starts × (askedOf (p / 8) n < 13) ⌝ }
-    ensures { λ r. ⌜ r ≡ pick (eqb (x / 7) (askedOf (p / 8) n)) (x % 7) none ⌝ }
+// The component of an operand of the shape that a form asks at a size, or NONE for one of another shape.
+fn component(form: u8, n: u8, starts: u64, x: u8) -> u8
+    requires { ⌜ (form < 7) × Starts n starts × (askedOf form n < 13) ⌝ }
+    ensures { λ r. ⌜ r ≡ pick (eqb (x / 7) (askedOf form n)) (x % 7) none ⌝ }
 {
-    let s = std::num::wrapping_sub_u8(x, tables::start(p, n, starts));
+    let s = std::num::wrapping_sub_u8(x, tables::start(form, n, starts));
     if SCALARS <= s {
         return NONE;
     }
@@ -111,7 +147,7 @@ fn component(p: u8, n: u8, starts: u64, x: u8) -> u8
 // The join of two scalars, by the common type at the size's width, or NONE.
 fn common(n: u8, j: u8, s: u8) -> u8
     requires { ⌜ (j < 7) × (s < 7) ⌝ }
-    ensures { λ r. ⌜ ((r ≡ 255) ⊎ (r < 7)) × ((t : ℕ) → t < 7 → accepts r t ≡ both (accepts j t) (accepts s t)) ⌝ }
+    ensures { λ r. ⌜ ((r ≡ 255) ⊎ (r < 7)) × ((t : ℕ) → t < 7 → reaches r t ≡ both (reaches j t) (reaches s t)) ⌝ }
 {
     let base = base_of(n);
     let r = conv::convert_ty(base + j, base + s);
@@ -121,72 +157,127 @@ fn common(n: u8, j: u8, s: u8) -> u8
     r - base
 }
 
-// One parameter: the scalar that is joined so far, with the operand x at the pattern p. Equal scalars need no table.
-fn join_slot(p: u8, n: u8, starts: u64, j: u8, x: u8) -> u8
-    requires { ⌜ (p < 64) × (n < 41) × (n ≢ 13) × Starts n starts × (askedOf (p / 8) n < 13) × (j < 7) ⌝ }
-    ensures { λ r. ⌜ ((r ≡ 255) ⊎ (r < 7)) × ((t : ℕ) → t < 7 → accepts r t ≡ both (accepts j t) (converts (operand x) (patternTy (sizeOfNo n) t (patternOfNo p)))) ⌝ }
+// What is joined so far, with the scalar s at a component: a scalar at T is joined by the table, where it is not the same; another leaves the join as it is.
+fn join_slot(of: u8, n: u8, j: u8, s: u8) -> u8
+    requires { ⌜ (j < 8) × (s < 7) ⌝ }
+    ensures { λ r. ⌜ ((r ≡ 255) ⊎ (r < 8)) × ((t : ℕ) → t < 7 → allows r t ≡ both (allows j t) (or (not (eqb of 7)) (slotT of s t))) ⌝ }
 {
-    let s = component(p, n, starts, x);
-    if s == NONE {
-        return NONE;
-    }
-    let want = p % 8;
-    if want == OF_T {
-        if s == j {
-            return j;
-        }
-        return common(n, j, s);
-    }
-    if s == want {
+    if of != OF_T {
         return j;
     }
-    if conv::rank(s, want) == NONE {
-        return NONE;
+    if j == s {
+        return j;
     }
-    j
+    if j == NO_JOIN {
+        return s;
+    }
+    common(n, j, s)
 }
 
-// The scalar of the join of all operands of a family at a size, or NONE where one does not fit at any T.
-fn join(f: u8, w: u64, n: u8, starts: u64, xs: &[u8]) -> u8
-    requires { ⌜ (f < 61) × Word f w × (wordOf f 8 ≤ n) × (n ≤ wordOf f 9) × Starts n starts × (length (now xs) ≡ length (familyOf f .params)) ⌝ }
-    ensures { λ r. ⌜ ((r ≡ 255) ⊎ (r < 7)) × ((t : ℕ) → t < 7 → accepts r t ≡ fitsAt f n t (now (xs .entry))) ⌝ }
+// The set of T at which the scalar s fits a component other than T.
+fn set_slot(of: u8, s: u8) -> u64
+    requires { ⌜ (of < 10) × (s < 7) ⌝ }
+    ensures { λ r. ⌜ ((t : ℕ) → t < 7 → has r t ≡ or (eqb of 7) (slotT of s t)) ⌝ }
 {
-    let mut j = component(tables::word(f, w, PARAM), n, starts, xs[0]);
-    if j == NONE {
-        return NONE;
+    if of == OF_T {
+        return ALL;
     }
-    let mut i = 1;
+    tables::reached(of, s)
+}
+
+// The set of the second choice at which the scalar s fits a component.
+fn second_slot(of: u8, s: u8) -> u64
+    requires { ⌜ s < 7 ⌝ }
+    ensures { λ r. ⌜ ((i : ℕ) → i < 7 → has r i ≡ slotI of s i) ⌝ }
+{
+    if of != OF_I {
+        return ALL;
+    }
+    tables::reached(OF_T, s)
+}
+
+// The set of T to which what is joined converts.
+fn allowed(j: u8) -> u64
+    requires { ⌜ j < 8 ⌝ }
+    ensures { λ r. ⌜ ((t : ℕ) → t < 7 → has r t ≡ allows j t) ⌝ }
+{
+    (ALLOWED >> (8 * j)) % 256
+}
+
+// The sets at which all operands fit a family at a size; empty where one has another shape.
+fn fit(f: u64, w: u64, n: u8, starts: u64, xs: &[u8]) -> Choices
+    requires { ⌜ Word f w × (n < 41) × T (memSize (sizeOfNo n) (familyOf f .sizes)) × Starts n starts × (length (now xs) ≡ length (familyOf f .params)) ⌝ }
+    ensures { λ r. ⌜ ((t i : ℕ) → t < 7 → i < 7 → fitsAt (familyOf f) n t i (now (xs .entry)) ≡ both (has (r .0) t) (has (r .1) i)) ⌝ }
+{
+    let mut j = NO_JOIN;
+    let mut m = ALL;
+    let mut v = ALL;
+    let mut i = 0;
     while i < xs.len() {
-        j = join_slot(tables::word(f, w, i + PARAM), n, starts, j, xs[i]);
-        if j == NONE {
-            return NONE;
+        let s = component(tables::digit(f, w, 2 * i + PARAM), n, starts, xs[i]);
+        if s == NONE {
+            return Choices(0, 0);
         }
+        let of = tables::digit(f, w, 2 * i + PARAM + 1);
+        j = join_slot(of, n, j, s);
+        if j == NONE {
+            return Choices(0, 0);
+        }
+        m = m & set_slot(of, s);
+        v = v & second_slot(of, s);
         i += 1;
     }
-    j
+    Choices(m & allowed(j), v)
 }
 
-// The number of a family's result at a size and a T.
-fn result_of(f: u8, w: u64, n: u8, starts: u64, t: u8) -> u8
-    requires { ⌜ (f < 61) × Word f w × (wordOf f 8 ≤ n) × (n ≤ wordOf f 9) × Starts n starts × (t < 7) ⌝ }
-    ensures { λ r. ⌜ operand r ≡ patternTy (sizeOfNo n) t (familyOf f .result) ⌝ }
+// The first scalar of a set, in the order of preference, or NONE.
+fn first_of(w: u64) -> u8
+    ensures { λ r. ⌜ r ≡ firstOf preference (has w) ⌝ }
 {
-    let p = tables::word(f, w, RESULT);
-    let start = tables::start(p, n, starts);
-    let of = p % 8;
+    if w % 2 == 1 {
+        return 0;
+    }
+    if w / 2 % 2 == 1 {
+        return 1;
+    }
+    if w / 8 % 2 == 1 {
+        return 3;
+    }
+    if w / 16 % 2 == 1 {
+        return 4;
+    }
+    if w / 4 % 2 == 1 {
+        return 2;
+    }
+    if w / 32 % 2 == 1 {
+        return 5;
+    }
+    if w / 64 % 2 == 1 {
+        return 6;
+    }
+    NONE
+}
+
+// The number of a family's result at a size, a T and an I.
+fn result_of(f: u64, w: u64, n: u8, starts: u64, t: u8, i: u8) -> u8
+    requires { ⌜ Word f w × (n < 41) × T (memSize (sizeOfNo n) (familyOf f .sizes)) × Starts n starts × (t < 7) × (i < 7) ⌝ }
+    ensures { λ r. ⌜ operand r ≡ patternTy (sizeOfNo n) t i (familyOf f .result) ⌝ }
+{
+    let start = tables::start(tables::digit(f, w, RESULT), n, starts);
+    let of = tables::digit(f, w, RESULT + 1);
     if of == OF_T {
         return start + t;
     }
     start + of
 }
 
-// The result type of a family at a size and a T.
-fn out_of(f: u8, w: u64, n: u8, starts: u64, t: u8) -> Out
-    requires { ⌜ (f < 61) × Word f w × (wordOf f 8 ≤ n) × (n ≤ wordOf f 9) × Starts n starts × (t < 7) ⌝ }
-    ensures { λ r. ⌜ outOf r ≡ wrapped (familyOf f .wrap) (patternTy (sizeOfNo n) t (familyOf f .result)) ⌝ }
+// The result type of a family at a size, a T and an I.
+fn out_of(f: u64, w: u64, n: u8, starts: u64, t: u8, i: u8) -> Out
+    requires { ⌜ Word f w × (n < 41) × T (memSize (sizeOfNo n) (familyOf f .sizes)) × Starts n starts × (t < 7) × (i < 7) ⌝ }
+    ensures { λ r. ⌜ outOf r ≡ wrapped (familyOf f .wrap) (patternTy (sizeOfNo n) t i (familyOf f .result)) ⌝ }
 {
-    let x = result_of(f, w, n, starts, t);
-    let wrap = tables::word(f, w, WRAP);
+    let x = result_of(f, w, n, starts, t, i);
+    let wrap = tables::digit(f, w, WRAP);
     if wrap == 0 {
         return Out::Plain(x);
     }
@@ -196,33 +287,31 @@ fn out_of(f: u8, w: u64, n: u8, starts: u64, t: u8) -> Out
     Out::Modf(x)
 }
 
-// The judgment of a row whose one family for the operands' forms is f, or 63 where it has none.
-fn resolve_family(row: usize, f: u8, xs: &[u8]) -> Resolution
-    requires { ⌜ (row < 47) × (1 ≤ length (now xs)) × (formsOf (now xs) < 9) × (f ≡ orNone 63 (familyAt row (formsOf (now xs)))) ⌝ }
-    ensures { λ r. ⌜ Resolved (ofRow (rowAt row)) (map operand (now (xs .entry))) (judgedOf r) ⌝ }
+// One family at operands, whose first and last have the shapes a and b.
+fn try_family(f: u64, a: u8, b: u8, xs: &[u8]) -> Tried
+    requires { ⌜ (a < 13) × (b < 13) × (a ≡ firstX (now xs) / 7) × (b ≡ lastX (now xs) / 7) ⌝ }
+    ensures { λ r. ⌜ Resolved (listed (ofFamily (familyOf f))) (map operand (now (xs .entry))) (triedOf r) ⌝ }
 {
     let w = tables::family_word(f);
-    let count = xs.len();
-    if wide(tables::word(f, w, COUNT)) != count {
-        return Resolution::NoneFits;
+    if wide(tables::digit(f, w, COUNT)) != xs.len() {
+        return Tried::Not;
     }
-    let n = size_at(f, w, shape_of(xs[0]), shape_of(xs[count - 1]));
-    if n < tables::word(f, w, FIRST_SIZE) {
-        return Resolution::NoneFits;
-    }
-    if tables::word(f, w, LAST_SIZE) < n {
-        return Resolution::NoneFits;
+    let k = ((w >> 52) % 16) as u8;
+    let n = size_at(tables::digit(f, w, PIVOT), k, a, b);
+    if (tables::sizes_line(k) >> n) % 2 != 1 {
+        return Tried::Not;
     }
     let starts = tables::starts_at(n);
-    let s = join(f, w, n, starts, xs);
-    if s == NONE {
-        return Resolution::NoneFits;
-    }
-    let t = tables::lift(f, w, s);
+    let sets = fit(f, w, n, starts, xs);
+    let t = first_of(tables::set_line(((w >> 56) % 16) as u8) & sets.0);
     if t == NONE {
-        return Resolution::NoneFits;
+        return Tried::Not;
     }
-    Resolution::Gives(out_of(f, w, n, starts, t))
+    let i = first_of(tables::set_line(((w >> 60) % 16) as u8) & sets.1);
+    if i == NONE {
+        return Tried::Not;
+    }
+    Tried::Fits(out_of(f, w, n, starts, t, i))
 }
 
 fn wide(x: u8) -> usize
@@ -235,28 +324,37 @@ fn wide(x: u8) -> usize
 pub fn operand_count(row: usize) -> usize
     ensures { λ r. ⌜ r ≡ operandCount (rowAt row) ⌝ }
 {
-    tables::count_of(row)
+    ((tables::row_line(row) >> 48) % 16) as usize
 }
 
-// The judgment of a row at operands.
+// The judgment of a row at operands: that of the first of its families that fits.
 pub fn resolve(row: usize, xs: &[u8]) -> Resolution
     ensures { λ r. ⌜ judgedOf r ≡ judgeRow (rowAt row) (map operand (now (xs .entry))) ⌝ }
 {
-    if ROWS <= row {
-        return Resolution::NoneFits;
-    }
-    let count = xs.len();
-    if count == 0 {
-        return Resolution::NoneFits;
-    }
-    let a = shape_of(xs[0]);
+    let a = first_shape(xs);
     if SHAPES <= a {
         return Resolution::NoneFits;
     }
-    let b = shape_of(xs[count - 1]);
+    let b = last_shape(xs);
     if SHAPES <= b {
         return Resolution::NoneFits;
     }
-    let f = tables::family_at(row, 3 * form_of(a) + form_of(b));
-    resolve_family(row, f, xs)
+    let w = tables::row_line(row);
+    let mut k = tables::place(row, w, 3 * form_of(a) + form_of(b));
+    if k == NO_PLACE {
+        return Resolution::NoneFits;
+    }
+    let start = (w >> 40) % 256;
+    let stop = (w >> 36) % 16;
+    loop {
+        let r = try_family(start + k, a, b, xs);
+        match r {
+            Tried::Fits(out) => return Resolution::Gives(out),
+            Tried::Not => {}
+        }
+        k += 1;
+        if stop <= k {
+            return Resolution::NoneFits;
+        }
+    }
 }

@@ -1,192 +1,245 @@
 // The rows as numbers, and the functions that read them. A line of a table is one number, whose entries are digits of it, the first on the right.
-use conv::NONE;
+// `tools/rows` writes the lines from specs/Rows.antt.
 ghost use mathlib.Core.Path.{_≡_};
-ghost use Prim.Native.Nat.{_*_, _/_, _<_};
+ghost use Prim.Native.Nat.{ℕ, _+_, _*_, _/_, _<_};
 ghost use Rattle.overload.specs.Rows.{rowAt, operandCount};
-ghost use Rattle.overload.specs.Code.{familyAt, familyOf, wordOf, askedOf, liftOf, orNone, Families, Word, Starts, Lifts};
+ghost use Rattle.overload.specs.inner.Code.{digitOf, askedOf, entry, placeOf, stopOf, slotT, RowLine, Word, Starts, Sizes, Scalars, Reached, has, member, setOf, memSize, sizeOfNo, familyOf, sizesOf};
 
-// By row, for the forms of the first and last operand (0 scalar, 1 vector, 2 matrix; 3 times the first plus the last): the family, or 77 for none.
-// Two octal digits each.
-fn families_of(row: usize) -> u64
-    requires { ⌜ row < 47 ⌝ }
-    ensures { λ r. ⌜ Families row r ⌝ }
+// By row: the count of operands; where its families begin; up to which place they are tried in turn, 0 where only the first is;
+// and for the forms of the first and last operand (0 scalar, 1 vector, 2 matrix; 3 times the first plus the last) the place of its first family, or f for none.
+pub fn row_line(row: usize) -> u64
+    ensures { λ r. ⌜ RowLine row r ⌝ }
 {
     match row {
-        0 => 0o77_77_77_77_00_77_77_77_00,
-        1 => 0o77_77_77_77_01_77_77_77_01,
-        2 => 0o77_77_77_77_02_77_77_77_02,
-        3 => 0o77_77_77_77_77_77_77_77_03,
-        4 => 0o07_77_77_77_04_05_77_06_04,
-        5 => 0o17_15_13_16_10_11_14_12_10,
-        6 => 0o77_77_77_77_20_21_77_22_20,
-        7 => 0o77_77_77_77_23_77_77_77_23,
-        8 => 0o77_77_77_77_24_77_77_77_24,
-        9 => 0o77_77_77_77_25_77_77_77_25,
-        10 => 0o77_77_77_77_26_77_77_77_26,
-        11 => 0o77_77_77_77_27_77_77_77_27,
-        12 => 0o77_77_77_77_30_77_77_77_30,
-        13 => 0o77_77_77_77_31_77_77_77_31,
-        14 => 0o77_77_77_77_32_77_77_77_32,
-        15 => 0o77_77_77_77_33_34_77_77_33,
-        16 => 0o77_77_77_77_35_77_77_77_35,
-        17 => 0o77_77_77_77_36_77_77_77_36,
-        18 => 0o77_77_77_77_37_77_77_77_37,
-        19 => 0o77_77_77_77_40_77_77_77_40,
-        20 => 0o77_77_77_77_77_41_77_77_41,
-        21 => 0o77_77_77_77_77_42_77_77_42,
-        22 => 0o77_77_77_77_43_77_77_77_43,
-        23 => 0o77_77_77_77_44_77_77_77_44,
-        24 => 0o77_77_77_77_45_77_77_77_77,
-        25 => 0o77_77_77_77_46_77_77_77_77,
-        26 => 0o77_77_77_77_47_77_77_77_77,
-        27 => 0o77_77_77_77_50_77_77_77_77,
-        28 => 0o77_77_77_77_77_51_77_77_77,
-        29 => 0o77_77_77_77_52_77_77_77_77,
-        30 => 0o53_77_77_77_77_77_77_77_77,
-        31 => 0o54_77_77_77_77_77_77_77_77,
-        32 => 0o77_77_77_77_55_77_77_77_55,
-        33 => 0o77_77_77_77_56_77_77_77_56,
-        34 => 0o77_77_77_77_57_77_77_77_57,
-        35 => 0o77_77_77_77_60_77_77_77_77,
-        36 => 0o77_77_77_77_61_77_77_77_77,
-        37 => 0o77_77_77_77_62_77_77_77_77,
-        38 => 0o77_77_77_77_63_77_77_77_77,
-        39 => 0o77_77_77_77_77_77_77_77_64,
-        40 => 0o77_77_77_77_77_77_77_77_65,
-        41 => 0o77_77_77_77_77_77_77_77_66,
-        42 => 0o77_77_77_77_77_77_77_77_67,
-        43 => 0o77_77_77_77_77_77_77_77_70,
-        44 => 0o77_77_77_77_77_77_77_77_71,
-        45 => 0o77_77_77_77_72_77_77_77_72,
-        46 => 0o77_77_77_77_74_73_77_77_73,
-        _ => 0,
+        // negatingBool
+        0 => 0x1_00_0_ffff0fff0,
+        // negating
+        1 => 0x1_01_0_ffff0fff0,
+        // complementing
+        2 => 0x1_02_0_ffff0fff0,
+        // logical
+        3 => 0x2_03_0_ffffffff0,
+        // additive
+        4 => 0x2_04_0_3fff01f20,
+        // multiplicative
+        5 => 0x2_08_0_753601420,
+        // dividing
+        6 => 0x2_10_0_ffff01f20,
+        // equality
+        7 => 0x2_13_0_ffff0fff0,
+        // ordering
+        8 => 0x2_14_0_ffff0fff0,
+        // bitwise
+        9 => 0x2_15_2_ffff0fff0,
+        // exclusive
+        10 => 0x2_17_0_ffff0fff0,
+        // shifting
+        11 => 0x2_18_0_ffff0fff0,
+        // oneFloat
+        12 => 0x1_19_0_ffff0fff0,
+        // twoFloats
+        13 => 0x2_1a_0_ffff0fff0,
+        // threeFloats
+        14 => 0x3_1b_0_ffff0fff0,
+        // mixing
+        15 => 0x3_1c_0_ffff01ff0,
+        // oneNumeric
+        16 => 0x1_1e_0_ffff0fff0,
+        // twoNumerics
+        17 => 0x2_1f_0_ffff0fff0,
+        // threeNumerics
+        18 => 0x3_20_0_ffff0fff0,
+        // oneBits
+        19 => 0x1_21_0_ffff0fff0,
+        // extracting
+        20 => 0x3_22_0_fffff0ff0,
+        // inserting
+        21 => 0x4_23_0_fffff0ff0,
+        // measuring
+        22 => 0x1_24_0_ffff0fff0,
+        // distancing
+        23 => 0x2_25_0_ffff0fff0,
+        // dotting
+        24 => 0x2_26_0_ffff0ffff,
+        // oneFloatVector
+        25 => 0x1_27_0_ffff0ffff,
+        // twoFloatVectors
+        26 => 0x2_28_0_ffff0ffff,
+        // threeFloatVectors
+        27 => 0x3_29_0_ffff0ffff,
+        // refracting
+        28 => 0x3_2a_0_fffff0fff,
+        // crossing
+        29 => 0x2_2b_0_ffff0ffff,
+        // squareMatrix
+        30 => 0x1_2c_0_0ffffffff,
+        // transposing
+        31 => 0x1_2d_0_0ffffffff,
+        // oneF32
+        32 => 0x1_2e_0_ffff0fff0,
+        // frexpOf
+        33 => 0x1_2f_0_ffff0fff0,
+        // modfOf
+        34 => 0x1_30_0_ffff0fff0,
+        // packing4F32
+        35 => 0x1_31_0_ffff0ffff,
+        // packing4I32
+        36 => 0x1_32_0_ffff0ffff,
+        // packing4U32
+        37 => 0x1_33_0_ffff0ffff,
+        // packing2F32
+        38 => 0x1_34_0_ffff0ffff,
+        // unpacking4F32
+        39 => 0x1_35_0_ffffffff0,
+        // unpacking4I32
+        40 => 0x1_36_0_ffffffff0,
+        // unpacking4U32
+        41 => 0x1_37_0_ffffffff0,
+        // unpacking2F32
+        42 => 0x1_38_0_ffffffff0,
+        // packedDotU32
+        43 => 0x2_39_0_ffffffff0,
+        // packedDotI32
+        44 => 0x2_3a_0_ffffffff0,
+        // oneBool
+        45 => 0x1_3b_0_ffff0fff0,
+        // selecting
+        46 => 0x3_3c_0_ffff10ff0,
+        _ => 0x0_00_0_fffffffff,
     }
 }
 
-// By row: how many parameters its overloads have.
-pub fn count_of(row: usize) -> usize
-    ensures { λ r. ⌜ r ≡ operandCount (rowAt row) ⌝ }
-{
-    match row {
-        0 => 1,
-        1 => 1,
-        2 => 1,
-        3 => 2,
-        4 => 2,
-        5 => 2,
-        6 => 2,
-        7 => 2,
-        8 => 2,
-        9 => 2,
-        10 => 2,
-        11 => 2,
-        12 => 1,
-        13 => 2,
-        14 => 3,
-        15 => 3,
-        16 => 1,
-        17 => 2,
-        18 => 3,
-        19 => 1,
-        20 => 3,
-        21 => 4,
-        22 => 1,
-        23 => 2,
-        24 => 2,
-        25 => 1,
-        26 => 2,
-        27 => 3,
-        28 => 3,
-        29 => 2,
-        30 => 1,
-        31 => 1,
-        32 => 1,
-        33 => 1,
-        34 => 1,
-        35 => 1,
-        36 => 1,
-        37 => 1,
-        38 => 1,
-        39 => 1,
-        40 => 1,
-        41 => 1,
-        42 => 1,
-        43 => 2,
-        44 => 2,
-        45 => 1,
-        46 => 3,
-        _ => 0,
-    }
-}
-
-// By family: the count of its parameters, four parameters, its result and wrapping, its pivot, its first and last size, and the number of its set of T.
-// Two octal digits each: of a parameter and of the result, its form and its component, 7 for T.
-pub fn family_word(f: u8) -> u64
+// By family: the numbers of its second set, of its set of T and of its list of sizes; by which operands its size is found; its wrapping; form and component of
+// its result and of four parameters, the first on the right; the count of its parameters.
+pub fn family_word(f: u64) -> u64
     ensures { λ r. ⌜ Word f r ⌝ }
 {
     match f {
-        0 => 0o00_03_00_00_00_07_07_07_07_07_01,
-        1 => 0o01_03_00_00_00_07_07_07_07_07_01,
-        2 => 0o02_03_00_00_00_07_07_07_07_07_01,
-        3 => 0o00_00_00_00_00_07_07_07_07_07_02,
-        4 => 0o03_03_00_00_00_07_07_07_07_07_02,
-        5 => 0o03_03_01_00_00_07_07_07_17_07_02,
-        6 => 0o03_03_01_01_00_07_07_07_07_17_02,
-        7 => 0o04_14_04_00_00_07_07_07_07_07_02,
-        8 => 0o03_03_00_00_00_07_07_07_07_07_02,
-        9 => 0o03_03_01_00_00_07_07_07_17_07_02,
-        10 => 0o03_03_01_01_00_07_07_07_07_17_02,
-        11 => 0o04_14_04_00_00_07_07_07_17_07_02,
-        12 => 0o04_14_04_01_00_07_07_07_07_17_02,
-        13 => 0o04_14_04_00_00_37_07_07_27_07_02,
-        14 => 0o04_14_04_01_00_27_07_07_07_37_02,
-        15 => 0o04_50_16_02_00_07_07_07_57_47_02,
-        16 => 0o03_03_00_00_00_07_07_07_07_07_02,
-        17 => 0o03_03_01_00_00_07_07_07_17_07_02,
-        18 => 0o03_03_01_01_00_07_07_07_07_17_02,
-        19 => 0o05_03_00_00_00_00_07_07_07_07_02,
-        20 => 0o03_03_00_00_00_00_07_07_07_07_02,
-        21 => 0o06_03_00_00_00_07_07_07_07_07_02,
-        22 => 0o02_03_00_00_00_07_07_07_07_07_02,
-        23 => 0o02_03_00_00_00_07_07_07_04_07_02,
-        24 => 0o04_03_00_00_00_07_07_07_07_07_01,
-        25 => 0o04_03_00_00_00_07_07_07_07_07_02,
-        26 => 0o04_03_00_00_00_07_07_07_07_07_03,
-        27 => 0o04_03_00_00_00_07_07_07_07_07_03,
-        28 => 0o04_03_01_00_00_07_07_17_07_07_03,
-        29 => 0o03_03_00_00_00_07_07_07_07_07_01,
-        30 => 0o03_03_00_00_00_07_07_07_07_07_02,
-        31 => 0o03_03_00_00_00_07_07_07_07_07_03,
-        32 => 0o07_03_00_00_00_07_07_07_07_07_01,
-        33 => 0o07_03_00_00_00_07_07_14_14_07_03,
-        34 => 0o07_03_00_00_00_07_14_14_07_07_04,
-        35 => 0o04_03_00_00_00_17_07_07_07_07_01,
-        36 => 0o04_03_00_00_00_17_07_07_07_07_02,
-        37 => 0o03_03_01_00_00_17_07_07_07_07_02,
-        38 => 0o04_03_01_00_00_07_07_07_07_07_01,
-        39 => 0o04_03_01_00_00_07_07_07_07_07_02,
-        40 => 0o04_03_01_00_00_07_07_07_07_07_03,
-        41 => 0o04_03_01_00_00_07_07_17_07_07_03,
-        42 => 0o04_02_02_00_00_07_07_07_07_07_02,
-        43 => 0o04_14_04_00_00_17_07_07_07_77_01,
-        44 => 0o04_14_04_00_00_67_07_07_07_07_01,
-        45 => 0o10_03_00_00_00_07_07_07_07_07_01,
-        46 => 0o04_03_00_00_01_07_07_07_07_07_01,
-        47 => 0o04_03_00_00_02_07_07_07_07_07_01,
-        48 => 0o10_03_03_00_00_14_07_07_07_07_01,
-        49 => 0o11_03_03_00_00_14_07_07_07_07_01,
-        50 => 0o12_03_03_00_00_14_07_07_07_07_01,
-        51 => 0o10_01_01_00_00_14_07_07_07_07_01,
-        52 => 0o12_03_03_06_00_05_07_07_07_17_01,
-        53 => 0o12_03_03_06_00_03_07_07_07_17_01,
-        54 => 0o12_03_03_06_00_04_07_07_07_17_01,
-        55 => 0o12_01_01_04_00_05_07_07_07_17_01,
-        56 => 0o12_00_00_00_00_14_07_07_07_07_02,
-        57 => 0o12_00_00_00_00_13_07_07_07_07_02,
-        58 => 0o00_03_00_00_00_10_07_07_07_07_01,
-        59 => 0o05_03_00_00_00_07_07_10_07_07_03,
-        60 => 0o05_03_01_00_00_07_07_00_07_07_03,
-        _ => 0o17_00_00_00_00_07_07_07_07_07_00,
+        // negatingBool: (N) to N; T only bool; wides
+        0 => 0x0_0_5_0_0_70_70_70_70_70_1,
+        // negating: (N) to N; T signed; wides
+        1 => 0x0_1_5_0_0_70_70_70_70_70_1,
+        // complementing: (N) to N; T integer; wides
+        2 => 0x0_2_5_0_0_70_70_70_70_70_1,
+        // logical: (N, N) to N; T only bool; scalars
+        3 => 0x0_0_0_0_0_70_70_70_70_70_2,
+        // additive: (N, N) to N; T numeric; wides
+        4 => 0x0_3_5_0_0_70_70_70_70_70_2,
+        // additive: (N, E) to N; T numeric; vectors
+        5 => 0x0_3_4_0_0_70_70_70_71_70_2,
+        // additive: (E, N) to N; T numeric; vectors
+        6 => 0x0_3_4_1_0_70_70_70_70_71_2,
+        // additive: (N, N) to N; T float; matrices
+        7 => 0x0_4_6_0_0_70_70_70_70_70_2,
+        // multiplicative: (N, N) to N; T numeric; wides
+        8 => 0x0_3_5_0_0_70_70_70_70_70_2,
+        // multiplicative: (N, E) to N; T numeric; vectors
+        9 => 0x0_3_4_0_0_70_70_70_71_70_2,
+        // multiplicative: (E, N) to N; T numeric; vectors
+        10 => 0x0_3_4_1_0_70_70_70_70_71_2,
+        // multiplicative: (N, E) to N; T float; matrices
+        11 => 0x0_4_6_0_0_70_70_70_71_70_2,
+        // multiplicative: (E, N) to N; T float; matrices
+        12 => 0x0_4_6_1_0_70_70_70_70_71_2,
+        // multiplicative: (N, vecC) to vecR; T float; matrices
+        13 => 0x0_4_6_0_0_73_70_70_72_70_2,
+        // multiplicative: (vecR, N) to vecC; T float; matricesByRows
+        14 => 0x0_4_7_1_0_72_70_70_70_73_2,
+        // multiplicative: (matKxR, matCxK) to N; T float; products
+        15 => 0x0_4_9_2_0_70_70_70_75_74_2,
+        // dividing: (N, N) to N; T numeric; wides
+        16 => 0x0_3_5_0_0_70_70_70_70_70_2,
+        // dividing: (N, E) to N; T numeric; vectors
+        17 => 0x0_3_4_0_0_70_70_70_71_70_2,
+        // dividing: (E, N) to N; T numeric; vectors
+        18 => 0x0_3_4_1_0_70_70_70_70_71_2,
+        // equality: (N, N) to N of bool; T bool ∷ numeric; wides
+        19 => 0x0_5_5_0_0_00_70_70_70_70_2,
+        // ordering: (N, N) to N of bool; T numeric; wides
+        20 => 0x0_3_5_0_0_00_70_70_70_70_2,
+        // bitwise: (N, N) to N; T integer; wides
+        21 => 0x0_2_5_0_0_70_70_70_70_70_2,
+        // bitwise: (N, N) to N; T only bool; wides
+        22 => 0x0_0_5_0_0_70_70_70_70_70_2,
+        // exclusive: (N, N) to N; T integer; wides
+        23 => 0x0_2_5_0_0_70_70_70_70_70_2,
+        // shifting: (N, N of u32) to N; T integer; wides
+        24 => 0x0_2_5_0_0_70_70_70_40_70_2,
+        // oneFloat: (N) to N; T float; wides
+        25 => 0x0_4_5_0_0_70_70_70_70_70_1,
+        // twoFloats: (N, N) to N; T float; wides
+        26 => 0x0_4_5_0_0_70_70_70_70_70_2,
+        // threeFloats: (N, N, N) to N; T float; wides
+        27 => 0x0_4_5_0_0_70_70_70_70_70_3,
+        // mixing: (N, N, N) to N; T float; wides
+        28 => 0x0_4_5_0_0_70_70_70_70_70_3,
+        // mixing: (N, N, E) to N; T float; vectors
+        29 => 0x0_4_4_0_0_70_70_71_70_70_3,
+        // oneNumeric: (N) to N; T numeric; wides
+        30 => 0x0_3_5_0_0_70_70_70_70_70_1,
+        // twoNumerics: (N, N) to N; T numeric; wides
+        31 => 0x0_3_5_0_0_70_70_70_70_70_2,
+        // threeNumerics: (N, N, N) to N; T numeric; wides
+        32 => 0x0_3_5_0_0_70_70_70_70_70_3,
+        // oneBits: (N) to N; T bits; wides
+        33 => 0x0_6_5_0_0_70_70_70_70_70_1,
+        // extracting: (N, E of u32, E of u32) to N; T bits; wides
+        34 => 0x0_6_5_0_0_70_70_41_41_70_3,
+        // inserting: (N, N, E of u32, E of u32) to N; T bits; wides
+        35 => 0x0_6_5_0_0_70_41_41_70_70_4,
+        // measuring: (N) to E; T float; wides
+        36 => 0x0_4_5_0_0_71_70_70_70_70_1,
+        // distancing: (N, N) to E; T float; wides
+        37 => 0x0_4_5_0_0_71_70_70_70_70_2,
+        // dotting: (N, N) to E; T numeric; vectors
+        38 => 0x0_3_4_0_0_71_70_70_70_70_2,
+        // oneFloatVector: (N) to N; T float; vectors
+        39 => 0x0_4_4_0_0_70_70_70_70_70_1,
+        // twoFloatVectors: (N, N) to N; T float; vectors
+        40 => 0x0_4_4_0_0_70_70_70_70_70_2,
+        // threeFloatVectors: (N, N, N) to N; T float; vectors
+        41 => 0x0_4_4_0_0_70_70_70_70_70_3,
+        // refracting: (N, N, E) to N; T float; vectors
+        42 => 0x0_4_4_0_0_70_70_71_70_70_3,
+        // crossing: (N, N) to N; T float; width 3
+        43 => 0x0_4_2_0_0_70_70_70_70_70_2,
+        // squareMatrix: (N) to E; T float; squares
+        44 => 0x0_4_8_0_0_71_70_70_70_70_1,
+        // transposing: (N) to matRxC; T float; matrices
+        45 => 0x0_4_6_0_0_76_70_70_70_70_1,
+        // oneF32: (N) to N; T only f32; wides
+        46 => 0x0_7_5_0_0_70_70_70_70_70_1,
+        // frexpOf: (N) to inFrexp N; T float; wides
+        47 => 0x0_4_5_0_1_70_70_70_70_70_1,
+        // modfOf: (N) to inModf N; T float; wides
+        48 => 0x0_4_5_0_2_70_70_70_70_70_1,
+        // packing4F32: (N) to E of u32; T only f32; width 4
+        49 => 0x0_7_3_0_0_41_70_70_70_70_1,
+        // packing4I32: (N) to E of u32; T only i32; width 4
+        50 => 0x0_8_3_0_0_41_70_70_70_70_1,
+        // packing4U32: (N) to E of u32; T only u32; width 4
+        51 => 0x0_9_3_0_0_41_70_70_70_70_1,
+        // packing2F32: (N) to E of u32; T only f32; width 2
+        52 => 0x0_7_1_0_0_41_70_70_70_70_1,
+        // unpacking4F32: (E of u32) to N; T only f32; width 4
+        53 => 0x0_7_3_3_0_70_70_70_70_41_1,
+        // unpacking4I32: (E of u32) to N; T only i32; width 4
+        54 => 0x0_8_3_3_0_70_70_70_70_41_1,
+        // unpacking4U32: (E of u32) to N; T only u32; width 4
+        55 => 0x0_9_3_3_0_70_70_70_70_41_1,
+        // unpacking2F32: (E of u32) to N; T only f32; width 2
+        56 => 0x0_7_1_3_0_70_70_70_70_41_1,
+        // packedDotU32: (N, N) to E of u32; T only u32; scalars
+        57 => 0x0_9_0_0_0_41_70_70_70_70_2,
+        // packedDotI32: (N, N) to E of i32; T only u32; scalars
+        58 => 0x0_9_0_0_0_31_70_70_70_70_2,
+        // oneBool: (N) to E of bool; T only bool; wides
+        59 => 0x0_0_5_0_0_01_70_70_70_70_1,
+        // selecting: (N, N, E of bool) to N; T bool ∷ numeric; wides
+        60 => 0x0_5_5_0_0_70_70_01_70_70_3,
+        // selecting: (N, N, N of bool) to N; T bool ∷ numeric; vectors
+        61 => 0x0_5_4_0_0_70_70_00_70_70_3,
+        _ => 0xf_f_f_0_0_70_70_70_70_70_0,
     }
 }
 
@@ -196,103 +249,166 @@ pub fn starts_at(n: u8) -> u64
     ensures { λ r. ⌜ Starts n r ⌝ }
 {
     match n {
-        0 => 0x00_00_00_00_00_00_00_00,
-        1 => 0x00_00_00_00_07_00_00_07,
-        2 => 0x00_00_00_00_0e_00_00_0e,
-        3 => 0x00_00_00_00_15_00_00_15,
-        4 => 0x1c_1c_00_00_07_07_00_1c,
-        5 => 0x1c_31_00_00_0e_07_00_23,
-        6 => 0x1c_46_00_00_15_07_00_2a,
-        7 => 0x38_23_00_00_07_0e_00_31,
-        8 => 0x38_38_00_00_0e_0e_00_38,
-        9 => 0x38_4d_00_00_15_0e_00_3f,
-        10 => 0x54_2a_00_00_07_15_00_46,
-        11 => 0x54_3f_00_00_0e_15_00_4d,
-        12 => 0x54_54_00_00_15_15_00_54,
-        13 => 0x00_00_00_00_00_00_00_00,
-        14 => 0x1c_1c_1c_1c_07_07_00_1c,
-        15 => 0x38_23_31_1c_07_0e_00_31,
-        16 => 0x54_2a_46_1c_07_15_00_46,
-        17 => 0x1c_31_1c_23_0e_07_00_23,
-        18 => 0x38_38_31_23_0e_0e_00_38,
-        19 => 0x54_3f_46_23_0e_15_00_4d,
-        20 => 0x1c_46_1c_2a_15_07_00_2a,
-        21 => 0x38_4d_31_2a_15_0e_00_3f,
-        22 => 0x54_54_46_2a_15_15_00_54,
-        23 => 0x1c_1c_23_31_07_07_00_1c,
-        24 => 0x38_23_38_31_07_0e_00_31,
-        25 => 0x54_2a_4d_31_07_15_00_46,
-        26 => 0x1c_31_23_38_0e_07_00_23,
-        27 => 0x38_38_38_38_0e_0e_00_38,
-        28 => 0x54_3f_4d_38_0e_15_00_4d,
-        29 => 0x1c_46_23_3f_15_07_00_2a,
-        30 => 0x38_4d_38_3f_15_0e_00_3f,
-        31 => 0x54_54_4d_3f_15_15_00_54,
-        32 => 0x1c_1c_2a_46_07_07_00_1c,
-        33 => 0x38_23_3f_46_07_0e_00_31,
-        34 => 0x54_2a_54_46_07_15_00_46,
-        35 => 0x1c_31_2a_4d_0e_07_00_23,
-        36 => 0x38_38_3f_4d_0e_0e_00_38,
-        37 => 0x54_3f_54_4d_0e_15_00_4d,
-        38 => 0x1c_46_2a_54_15_07_00_2a,
-        39 => 0x38_4d_3f_54_15_0e_00_3f,
-        40 => 0x54_54_54_54_15_15_00_54,
+        0 => 0x00_00_00_00_00_00_00,
+        1 => 0x00_00_00_07_00_00_07,
+        2 => 0x00_00_00_0e_00_00_0e,
+        3 => 0x00_00_00_15_00_00_15,
+        4 => 0x1c_00_00_07_07_00_1c,
+        5 => 0x31_00_00_0e_07_00_23,
+        6 => 0x46_00_00_15_07_00_2a,
+        7 => 0x23_00_00_07_0e_00_31,
+        8 => 0x38_00_00_0e_0e_00_38,
+        9 => 0x4d_00_00_15_0e_00_3f,
+        10 => 0x2a_00_00_07_15_00_46,
+        11 => 0x3f_00_00_0e_15_00_4d,
+        12 => 0x54_00_00_15_15_00_54,
+        13 => 0x00_00_00_00_00_00_00,
+        14 => 0x1c_1c_1c_07_07_00_1c,
+        15 => 0x23_31_1c_07_0e_00_31,
+        16 => 0x2a_46_1c_07_15_00_46,
+        17 => 0x31_1c_23_0e_07_00_23,
+        18 => 0x38_31_23_0e_0e_00_38,
+        19 => 0x3f_46_23_0e_15_00_4d,
+        20 => 0x46_1c_2a_15_07_00_2a,
+        21 => 0x4d_31_2a_15_0e_00_3f,
+        22 => 0x54_46_2a_15_15_00_54,
+        23 => 0x1c_23_31_07_07_00_1c,
+        24 => 0x23_38_31_07_0e_00_31,
+        25 => 0x2a_4d_31_07_15_00_46,
+        26 => 0x31_23_38_0e_07_00_23,
+        27 => 0x38_38_38_0e_0e_00_38,
+        28 => 0x3f_4d_38_0e_15_00_4d,
+        29 => 0x46_23_3f_15_07_00_2a,
+        30 => 0x4d_38_3f_15_0e_00_3f,
+        31 => 0x54_4d_3f_15_15_00_54,
+        32 => 0x1c_2a_46_07_07_00_1c,
+        33 => 0x23_3f_46_07_0e_00_31,
+        34 => 0x2a_54_46_07_15_00_46,
+        35 => 0x31_2a_4d_0e_07_00_23,
+        36 => 0x38_3f_4d_0e_0e_00_38,
+        37 => 0x3f_54_4d_0e_15_00_4d,
+        38 => 0x46_2a_54_15_07_00_2a,
+        39 => 0x4d_3f_54_15_0e_00_3f,
+        40 => 0x54_54_54_15_15_00_54,
         _ => 0,
     }
 }
 
-// By set of T, for each scalar: the first T, in the order of preference, to which the scalar converts, or 7 for none. An octal digit each.
-fn lifts_of(set: u64) -> u64
-    ensures { λ r. ⌜ Lifts set r ⌝ }
+// By list of sizes: a bit for each size of it.
+pub fn sizes_line(k: u8) -> u64
+    ensures { λ r. ⌜ Sizes k r ⌝ }
 {
-    match set {
-        0 => 0o7777770,
-        1 => 0o6573217,
-        2 => 0o7743717,
-        3 => 0o6543217,
-        4 => 0o6577227,
-        5 => 0o6543210,
-        6 => 0o7743710,
-        7 => 0o7743737,
-        8 => 0o7577557,
-        9 => 0o7773737,
-        10 => 0o7747747,
-        _ => 0o7777777,
+    match k {
+        // scalars
+        0 => 0x1,
+        // width 2
+        1 => 0x2,
+        // width 3
+        2 => 0x4,
+        // width 4
+        3 => 0x8,
+        // vectors
+        4 => 0xe,
+        // wides
+        5 => 0xf,
+        // matrices
+        6 => 0x1ff0,
+        // matricesByRows
+        7 => 0x1ff0,
+        // squares
+        8 => 0x1110,
+        // products
+        9 => 0x1ffffffc000,
+        _ => 0,
     }
 }
 
-// The family of a row for the forms of the first and last operand, or 63.
-pub fn family_at(row: usize, forms: u8) -> u8
-    requires { ⌜ (row < 47) × (forms < 9) ⌝ }
-    ensures { λ r. ⌜ r ≡ orNone 63 (familyAt row forms) ⌝ }
+// By set of scalars: a bit for each.
+pub fn set_line(k: u8) -> u64
+    ensures { λ r. ⌜ Scalars k r ⌝ }
 {
-    ((families_of(row) >> (6 * forms)) % 64) as u8
-}
-
-// A word of a family, by its line.
-pub fn word(f: u8, w: u64, i: usize) -> u8
-    requires { ⌜ Word f w × (i < 10) ⌝ }
-    ensures { λ r. ⌜ r ≡ wordOf f i ⌝ }
-{
-    ((w >> (6 * i)) % 64) as u8
-}
-
-// The first operand of the shape that a pattern asks at a size, by the size's line.
-pub fn start(p: u8, n: u8, starts: u64) -> u8
-    requires { ⌜ (p < 64) × Starts n starts × (askedOf (p / 8) n < 13) ⌝ }
-    ensures { λ r. ⌜ r ≡ 7 * askedOf (p / 8) n ⌝ }
-{
-    ((starts >> (8 * (p / 8))) % 256) as u8
-}
-
-// The first T of a family's set, in the order of preference, to which a scalar converts, or NONE.
-pub fn lift(f: u8, w: u64, s: u8) -> u8
-    requires { ⌜ Word f w × (s < 7) ⌝ }
-    ensures { λ r. ⌜ r ≡ liftOf (familyOf f .set) s ⌝ }
-{
-    let t = ((lifts_of(w >> 60) >> (3 * s)) % 8) as u8;
-    if t == 7 {
-        return NONE;
+    match k {
+        // only bool
+        0 => 0x1,
+        // signed
+        1 => 0x6e,
+        // integer
+        2 => 0x1a,
+        // numeric
+        3 => 0x7e,
+        // float
+        4 => 0x64,
+        // bool ∷ numeric
+        5 => 0x7f,
+        // bits
+        6 => 0x18,
+        // only f32
+        7 => 0x20,
+        // only i32
+        8 => 0x8,
+        // only u32
+        9 => 0x10,
+        _ => 0,
     }
-    t
+}
+
+// By component, for each scalar: the set of T at which the scalar converts to it. Two hexadecimal digits each.
+fn reached_at(of: u8) -> u64
+    requires { ⌜ of < 10 ⌝ }
+    ensures { λ r. ⌜ Reached of r ⌝ }
+{
+    match of {
+        // bool
+        0 => 0x00_00_00_00_00_00_7f,
+        // AbstractInt
+        1 => 0x00_00_00_00_00_7f_00,
+        // AbstractFloat
+        2 => 0x00_00_00_00_7f_7f_00,
+        // i32
+        3 => 0x00_00_00_7f_00_7f_00,
+        // u32
+        4 => 0x00_00_7f_00_00_7f_00,
+        // f32
+        5 => 0x00_7f_00_00_7f_7f_00,
+        // f16
+        6 => 0x7f_00_00_00_7f_7f_00,
+        // T
+        7 => 0x40_20_10_08_64_7e_01,
+        // I, at every T
+        8 => 0x7f_7f_7f_7f_7f_7f_7f,
+        // AbstractInt at an abstract T, else i32
+        _ => 0x00_00_00_79_00_7f_00,
+    }
+}
+
+// The place of a row's first family for the forms of the first and last operand, by the row's line.
+pub fn place(row: usize, w: u64, forms: u8) -> u64
+    requires { ⌜ RowLine row w × (forms < 9) ⌝ }
+    ensures { λ r. ⌜ (r ≡ placeOf forms (rowAt row .families) 0) × (r < 16) ⌝ }
+{
+    (w >> (4 * forms)) % 16
+}
+
+// A digit of a family, by its line.
+pub fn digit(f: u64, w: u64, i: usize) -> u8
+    requires { ⌜ Word f w × (i < 13) ⌝ }
+    ensures { λ r. ⌜ r ≡ digitOf f i ⌝ }
+{
+    ((w >> (4 * i)) % 16) as u8
+}
+
+// The first operand of the shape that a form asks at a size, by the size's line.
+pub fn start(form: u8, n: u8, starts: u64) -> u8
+    requires { ⌜ (form < 7) × Starts n starts × (askedOf form n < 13) ⌝ }
+    ensures { λ r. ⌜ r ≡ 7 * askedOf form n ⌝ }
+{
+    ((starts >> (8 * form)) % 256) as u8
+}
+
+// The set of T at which a scalar converts to a component.
+pub fn reached(of: u8, s: u8) -> u64
+    requires { ⌜ (of < 10) × (s < 7) ⌝ }
+    ensures { λ r. ⌜ ((t : ℕ) → t < 7 → has r t ≡ slotT of s t) ⌝ }
+{
+    (reached_at(of) >> (8 * s)) % 256
 }

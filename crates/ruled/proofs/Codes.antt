@@ -11,7 +11,7 @@ use Rattle.conv.specs.Types.{Ty, formed, isWidth, isFloat}
 use Rattle.conv.specs.Types.Ty.{scalar, vec, mat, runtime, ref}
 use Rattle.conv.specs.Rank.{pick, shapeOf, tagOf, isReference, made}
 use Rattle.conv.specs.Rank.Shape.{other}
-use Rattle.overload.specs.Code.{shapeOfNo, operand, codeOf}
+use Rattle.overload.specs.inner.Code.{shapeOfNo, operand, codeOf}
 use Rattle.overload.proofs.Operands.{code-scalar, code-vec, code-mat, code-other, between, float-small, and-left, and-right}
 use Rattle.table.specs.Table.{scalars, kindVec, kindMat, kindRef, entryAt, Sound}
 use Rattle.table.specs.Denote.{typeAt}

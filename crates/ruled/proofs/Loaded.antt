@@ -12,7 +12,7 @@ use Rattle.conv.specs.Types.Ty.{scalar, vec, mat, array, runtime, atomic, ptr, 
 use Rattle.conv.specs.Rank.{shapeOf, tagOf, isReference, isPointer}
 use Rattle.overload.specs.Rows.{Row, rowAt, Ruling, judgeRow, judgeBy}
 use Rattle.overload.specs.Rows.Ruling.{byRow}
-use Rattle.overload.specs.Code.{operand, codeOf}
+use Rattle.overload.specs.inner.Code.{operand, codeOf}
 use Rattle.overload.proofs.Operands.{code-scalar, code-vec, code-mat, code-other, between, float-small, and-left, and-right, allFormed, codesOf, judge-types}
 use Rattle.table.specs.Table.{kindRef, kindPtr, entryAt, Sound}
 use Rattle.table.specs.Denote.{typeAt, kindOf}

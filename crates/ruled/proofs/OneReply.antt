@@ -3,7 +3,7 @@ use Prim.Native.Nat.{ℕ}
 use mathlib.Core.Path.{_≡_, sym, _∙_}
 use mathlib.Core.List.{List, map}
 use Rattle.overload.specs.Rows.{rowAt, judgeRow}
-use Rattle.overload.specs.Code.{operand, codeOf}
+use Rattle.overload.specs.inner.Code.{operand, codeOf}
 use Rattle.table.specs.Denote.{typeAt}
 use Rattle.table.specs.Placing.{Gave}
 use Rattle.answer.specs.declared.Answer.{Answer}

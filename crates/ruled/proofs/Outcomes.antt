@@ -8,7 +8,7 @@ use lib.Dec.{T, ltb}
 use borrow.Author.Tests.{ltb-true, ltb-false, lt-ltb, le-ltb, le-leb}
 use Rattle.conv.specs.Types.{Ty, formed, isWidth, isRuntime, isFract}
 use Rattle.conv.specs.Types.Ty.{scalar, runtime, frexp, modf}
-use Rattle.overload.specs.Code.{operand}
+use Rattle.overload.specs.inner.Code.{operand}
 use Rattle.overload.proofs.Operands.{and-left, and-right}
 use Rattle.table.specs.Table.{kindFrexp, kindModf, allowedb, Sound}
 use Rattle.table.specs.Denote.{made, typeAt, tyOf, kindOf, pOf, qOf}

@@ -16,7 +16,7 @@ ghost use Prim.Native.Nat.{_+_, _-_, _/_, _%_, _<_, _≤_};
 ghost use lib.Dec.{T};
 ghost use Rattle.conv.specs.Types.{formed, isRuntime};
 ghost use Rattle.overload.specs.Rows.{rowAt, judgeRow};
-ghost use Rattle.overload.specs.Code.{operand, codeOf, outOf};
+ghost use Rattle.overload.specs.inner.Code.{operand, codeOf, outOf};
 ghost use Rattle.table.specs.Table.{Sound};
 ghost use Rattle.table.specs.Denote.{typeAt};
 ghost use Rattle.table.specs.Placing.{Gave, entering};

@@ -1,15 +1,18 @@
 -- DEMAND 1 for sheets. "Any table, sheet .. gets one of document 01's replies. A refused sheet keeps only what its accepted items entered. An accepted call
--- leaves every earlier entry at its number." Soundness is tested once, at the start, and kept by every item. Assumes nothing.
-use Prim.Native.Nat.{ℕ, _<_}
-use mathlib.Core.Path.{_≡_, refl, sym, _∙_, ap}
+-- leaves every earlier entry at its number and adds only the missing entries its result needs." Soundness is tested once, at the start, and kept by every
+-- item. Assumes nothing.
+use Prim.Native.Nat.{ℕ, _≤_, _<_}
+use mathlib.Core.Path.{_≡_, refl, sym, _∙_, ap, subst}
 use mathlib.Core.Bool.{Bool, true, false, _&&_, cond}
 use mathlib.Core.List.{List, [], _∷_}
 use native.Mathlib.Omega.{arith}
-use lib.Dec.{eqb}
+use lib.Dec.{eqb, ltb}
+use borrow.Author.Tests.{ltb-true, ltb-false}
 use lib.ListN.{length, getD}
 use Rattle.answer.specs.Answer.{usedOf, accept, refuse}
 use Rattle.table.specs.Table.{soundb, Sound}
 use Rattle.table.specs.Denote.{typeAt}
+use Rattle.table.specs.Stands.{Absent, Part}
 use Rattle.table.specs.Placing.{Outcome, turnedDown}
 use Rattle.answer.specs.declared.Reason.the-variants.{Unsound, Framing, Stack}
 use Rattle.answer.specs.declared.Answer.the-variants.{NoValue}
@@ -20,9 +23,10 @@ use Rattle.frame.specs.Frame.{version, headerSize, headerOk, itemsFrom}
 use Rattle.frame.specs.declared.Placed.{Placed}
 use Rattle.step.specs.Effect.{State, height, Effect, goes, silent, ends, stops, effectOf}
 use Rattle.sheet.specs.Machine.{endAnswer, leftAnswer, after, Turned, more, done, turnOf, onward, runItems, begun, typeSheet}
-use Rattle.step.specs.Code.{Good}
-use Rattle.step.specs.Kept.{Grew}
-use Rattle.sheet.specs.Kept.{further, reached}
+use Rattle.step.specs.inner.Code.{Good}
+use Rattle.step.specs.Kept.{Grew, resultOf, Needed}
+use Rattle.sheet.specs.Kept.{further, reached, AddedBy}
+use Rattle.sheet.specs.Kept.Accepted.{first, later}
 use Rattle.step.proofs.Keeping.{EffectKept, grew-none, item-kept}
 use Rattle.sheet.proofs.Running.{turn-kept, sheet-unsound, sheet-unheaded, sheet-runs}
 
@@ -112,6 +116,53 @@ ran s (x ∷ xs) st g = go (turnOf s x st) refl (turn-closes s x st g) (λ st' h
           grew = rw (q .1) (grew-none (st .words) (st .used));
         }
 
+-- WHAT WAS ADDED: by one accepted item, and by a run of them
+
+pub item-adds : (s : List ℕ) (x : Placed) (st st' : State) → Good st → turnOf s x st ≡ more st' → Needed st st'
+item-adds s x st st' g h = turn-kept s x st st' h g .2
+
+added-later : (s : List ℕ) (x : Placed) (xs : List Placed) (st st' : State) (i : ℕ) → turnOf s x st ≡ more st' → AddedBy s xs st' i → AddedBy s (x ∷ xs) st i
+added-later s x xs st st' i e r =
+    let q = run-on s x xs st st' e .1 in
+    record {
+      item = r .item;
+      earlier = r .earlier;
+      later = r .later;
+      accepted = later e (r .accepted);
+      from = r .from;
+      to = r .to;
+      missing = subst (λ (t : State). Absent (r .earlier .words) (r .earlier .used) (typeAt (t .words) i)) (sym q) (r .missing);
+      needed = subst (λ (t : State). Part (typeAt (t .words) i) (resultOf (r .later))) (sym q) (r .needed);
+    }
+
+-- every entry that a run added was added by an accepted item whose result needs it
+pub run-adds : (s : List ℕ) (xs : List Placed) (st : State) → Good st → (i : ℕ) → st .used ≤ i → i < reached s xs st .used → AddedBy s xs st i
+unfolding reached
+run-adds s [] st g i l h = absurd (omega arith)
+run-adds s (x ∷ xs) st g i l h = go (turnOf s x st) refl (λ st' g'. run-adds s xs st' g' i)
+  where
+    go : (t : Turned) → turnOf s x st ≡ t → ((st' : State) → Good st' → st' .used ≤ i → i < reached s xs st' .used → AddedBy s xs st' i) → AddedBy s (x ∷ xs) st i
+    go (done o) e ih = let q = ap (λ (t : State). t .used) (run-over s x xs st o e .1) in absurd (omega (arith, q))
+    go (more st') e ih =
+        let kept = turn-kept s x st st' e g in
+        let q = run-on s x xs st st' e .1 in
+        let m = ap (λ (t : State). t .used) q in
+        split (ltb i (st' .used))
+        (λ b.
+        let k = ltb-true i (st' .used) b in
+        let same : typeAt (reached s (x ∷ xs) st .words) i ≡ typeAt (st' .words) i = ap (λ (t : State). typeAt (t .words) i) q ∙ type-keeps (st' .words) (reached s xs st' .words) (st' .used) (ran s xs st' (kept .0) .grew .keeps) i k in
+        record {
+          item = x;
+          earlier = st;
+          later = st';
+          accepted = first e;
+          from = l;
+          to = k;
+          missing = rw same (kept .2 .missing i l k);
+          needed = rw same (kept .2 .parts i l k);
+        })
+        (λ b. added-later s x xs st st' i e (ih st' (kept .0) (ltb-false i (st' .used) b) (omega (arith, m))))
+
 -- A SHEET
 
 module _ (w : List ℕ) (n : ℕ) (s : List ℕ) where
@@ -141,6 +192,12 @@ module _ (w : List ℕ) (n : ℕ) (s : List ℕ) where
       let q = sheet-reached h k in
       (rw (q .0, q .1) (r .good .sound), rw (q .0, q .1) (r .grew)))
       (λ k. let q = sheet-unheaded w n s h k in (rw (← q) (sound-of w n h), rw (← q) (grew-none w n)))
+
+  -- every entry that the sheet added was added by an accepted item whose result needs it, whatever is answered
+  pub sheet-adds : soundb w n ≡ true → headerOk version s ≡ true → (i : ℕ) → n ≤ i → i < usedOf (o .answer) → AddedBy s (itemsFrom s headerSize) (begun w n) i
+  sheet-adds h k i l m =
+      let q = sheet-reached h k .1 in
+      run-adds s (itemsFrom s headerSize) (begun w n) (begun-good (sound-of w n h)) i l (omega (arith, q))
 
   -- a saved number means the same type after the sheet
   pub sheet-types : soundb w n ≡ true → (i : ℕ) → i < n → typeAt (o .words) i ≡ typeAt w i

@@ -24,7 +24,7 @@ use Rattle.call_ty.specs.Codes.{Under}
 use Rattle.call_ty.proofs.Lists.{under-all}
 use Rattle.held.specs.Held.{numberOf}
 use Rattle.step.specs.Effect.{most, State, height, operands, below, stop, onto, calling, unaryEffect, binaryEffect, callEffect, templateEffect, takeEffect}
-use Rattle.step.specs.Code.{Good}
+use Rattle.step.specs.inner.Code.{Good}
 use Rattle.sheet.specs.Single.{moved}
 use Rattle.step.proofs.StackLaws.{under-drop}
 use Rattle.sheet.proofs.Moving.{entering-moved, unary-moved, binary-moved, call-moved}

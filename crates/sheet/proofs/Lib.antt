@@ -1,3 +1,4 @@
+pub mod Headers
 pub mod Turning
 pub mod Running
 pub mod Demand1

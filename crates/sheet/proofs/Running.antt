@@ -12,19 +12,19 @@ use Rattle.table.proofs.Giving.{gave-whole}
 use Rattle.answer.specs.declared.Reason.the-variants.{Unsound, Framing}
 use Rattle.answer.specs.declared.Place.{Place}
 use Rattle.answer.specs.declared.Answer.{Answer}
-use Rattle.frame.specs.Frame.{itemAt, isItem, itemsFrom, nameOf, namePart, Within, version, headerSize, headerOk}
+use Rattle.frame.specs.Frame.{itemAt, isItem, itemsFrom, version, headerSize, headerOk}
 use Rattle.frame.specs.declared.Item.{Item}
 use Rattle.frame.specs.declared.Item.the-variants.{Push, Unary, Binary, Call, CallTemplate, Take, End, Bad}
 use Rattle.frame.specs.declared.Placed.{Placed}
-use Rattle.frame.proofs.FrameLaws.{framed, name-within, own-place}
+use Rattle.frame.proofs.FrameLaws.{framed, own-place}
 use Rattle.frame.proofs.ItemsLaws.{items-from}
 use Rattle.sheet.specs.declared.Turn.the-variants as turn
 use Rattle.step.specs.Effect.{most, State, Effect, goes, silent, ends, stops, effectOf}
 use Rattle.sheet.specs.Machine.{after, more, done, turnOf, onward, runItems, begun, typeSheet}
-use Rattle.step.specs.Code.{stateOf, Good, Ready}
-use Rattle.memo.specs.Quick.{WentAt, QuickAt}
-use Rattle.sheet.specs.Code.{turnBy, TurnCounted, Turns, Rushes}
-use Rattle.step.specs.Kept.{Grew}
+use Rattle.step.specs.inner.Code.{stateOf, Good, Ready}
+use Rattle.memo.specs.inner.Quick.{WentAt, QuickAt}
+use Rattle.sheet.specs.inner.Code.{turnBy, TurnCounted, Turns, Rushes}
+use Rattle.step.specs.Kept.{Grew, Needed}
 use Rattle.sheet.specs.declared.Rushed.{Rushed}
 use Rattle.step.proofs.Keeping.{item-kept}
 
@@ -56,8 +56,8 @@ module _ (s : List ℕ) (x : Placed) (st st' : State) (h : turnOf s x st ≡ mor
   pub turn-item : isItem (x .item) ≡ true
   turn-item = goes-item s (x .at .0) st st' (x .item) turn-goes-on
 
-  -- and leaves a good state, in which every earlier entry stands
-  pub turn-kept : Good st → Good st' × Grew (st .words) (st .used) (st' .words) (st' .used)
+  -- and leaves a good state, in which every earlier entry stands; what it added its result needs
+  pub turn-kept : Good st → Good st' × Grew (st .words) (st .used) (st' .words) (st' .used) × Needed st st'
   turn-kept g = rw turn-goes-on at (item-kept (x .at .0) st g s (x .item))
 
 -- THE RUN from a place on
@@ -79,11 +79,6 @@ module _ (s : List ℕ) (at : ℕ) (st : State) where
   -- the next place lies after this one and within the sheet
   pub run-forward : (st' : State) → turnOf s (itemAt s at) st ≡ more st' → (at < itemAt s at .next .0) × (itemAt s at .next .0 ≤ length s)
   run-forward st' h = let f = framed s at (turn-item s (itemAt s at) st st' h) in (f .after, f .within)
-
--- the name of what stands at a place lies within the sheet
-pub name-in : (s : List ℕ) (at : ℕ) → Within (length s) (nameOf (itemAt s at .item))
-unfolding namePart
-name-in s at = name-within s at
 
 -- THE LOOP, over the first values of a slice: before every turn, what is left of the items gives what the whole sheet gives
 

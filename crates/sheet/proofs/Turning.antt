@@ -13,16 +13,18 @@ use Rattle.answer.specs.declared.Refusal.{Refusal}
 use Rattle.answer.specs.declared.Answer.{Answer}
 use Rattle.answer.specs.declared.Answer.the-variants.{NoValue, Refused}
 use Rattle.frame.specs.Frame.{itemAt}
+use Rattle.frame.specs.Frame.{place as atPlace}
+use Rattle.frame.proofs.FrameLaws.{own-place}
 use Rattle.frame.specs.declared.Placed.{Placed}
 use Rattle.step.specs.declared.Did.{Did}
 use Rattle.step.specs.declared.Did.the-variants as did
 use Rattle.sheet.specs.declared.Turn.{Turn}
 use Rattle.sheet.specs.declared.Turn.the-variants as turn
 use Rattle.step.specs.Effect.{most, State, effectOf}
-use Rattle.memo.specs.Memo.{AfterStep}
+use Rattle.memo.specs.inner.Memo.{AfterStep}
 use Rattle.sheet.specs.Machine.{endAnswer, leftAnswer, after, more, done, turnOf}
-use Rattle.step.specs.Code.{stateOf, effectBy, Counted, Does}
-use Rattle.sheet.specs.Code.{turnBy, TurnCounted, TurnsBy, Turns, AfterTurn}
+use Rattle.step.specs.inner.Code.{stateOf, effectBy, Counted, Does}
+use Rattle.sheet.specs.inner.Code.{turnBy, TurnCounted, TurnsBy, Turns, AfterTurn}
 use Rattle.step.proofs.StackLaws.{sized}
 
 -- a call without value, test by test
@@ -71,15 +73,14 @@ module _ (size place next : ℕ) (vals : List ℕ) where
   turn-stops r = record { turned = λ s words l. refl; counted = tt }
 
 -- the turn at what stands at a place
-module _ (s : List ℕ) (at : ℕ) (st : State) (d : Did) (r : Turn) (vals w : List ℕ) where
-  turned : (x : Placed) → Does (effectOf (x .at .0) st s (x .item)) d vals w → TurnsBy (length s) (x .at .0) (x .next .0) d vals r
-      → Turns (turnOf s x st) (x .next .0) r vals w
+module _ (s : List ℕ) (at size : ℕ) (l : length s ≡ size) (st : State) (d : Did) (r : Turn) (vals w : List ℕ) where
+  turned : (x : Placed) → x .at ≡ atPlace at → Does (effectOf at st s (x .item)) d vals w → TurnsBy size at (x .next .0) d vals r → Turns (turnOf s x st) (x .next .0) r vals w
   unfolding turnOf
-  turned x k t = record { turned = t .turned s w refl ∙ ap (after s (x .at .0) (x .next .0)) (k .effect); counted = t .counted }
+  turned x o k t = rw o (record { turned = t .turned s w l ∙ ap (after s at (x .next .0)) (k .effect); counted = t .counted })
 
-  pub turn-at : (x : Placed) → x ≡ itemAt s at → Does (effectOf (x .at .0) st s (x .item)) d vals w → TurnsBy (length s) (x .at .0) (x .next .0) d vals r
+  pub turn-at : (x : Placed) → x ≡ itemAt s at → Does (effectOf at st s (x .item)) d vals w → TurnsBy size at (x .next .0) d vals r
       → Turns (turnOf s (itemAt s at) st) (itemAt s at .next .0) r vals w
-  turn-at x e k t = subst (λ (y : Placed). Turns (turnOf s y st) (y .next .0) r vals w) e (turned x k t)
+  turn-at x e k t = subst (λ (y : Placed). Turns (turnOf s y st) (y .next .0) r vals w) e (turned x (ap (λ (y : Placed). y .at) e ∙ own-place s at) k t)
 
 -- the memo after the turn is the one after the step
 module _ (size place next : ℕ) (vals memo w : List ℕ) where

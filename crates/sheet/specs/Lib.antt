@@ -1,4 +1,4 @@
 pub mod Machine
-pub mod Code
 pub mod Kept
 pub mod Single
+pub mod inner

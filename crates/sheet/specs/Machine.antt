@@ -27,7 +27,7 @@ endAnswer size vs used = cond (eqb (length vs) 1) (accept (numberOf (getD vs 0 0
 -- ".. or the last item was a call without value on an otherwise empty stack"; "a misplaced no-value call gives 11 last", at its place.
 -- Bytes that follow it, of whatever kind, make it not the last
 abbrev pub leftAnswer : ℕ → ℕ → ℕ → ℕ → ℕ → Answer
-leftAnswer size place next high used = cond (eqb high 0 && eqb next size) (NoValue used) (refuse Stack place used)
+leftAnswer size place next count used = cond (eqb count 0 && eqb next size) (NoValue used) (refuse Stack place used)
 
 unfoldable pub after : List ℕ → ℕ → ℕ → Effect → Turned
 after s place next (goes st) = more st

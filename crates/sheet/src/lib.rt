@@ -1,6 +1,6 @@
-// A sheet typed item by item. The stack and the memo belong to `run` and are lent inwards as slices.
+// A sheet typed item by item. The header is judged once, and the part after it is handed on; the stack and the memo belong to `run` and are lent inwards.
 use frame::HEADER;
-use memo::SHORT;
+use frame::SHORT_BYTES;
 use memo::SLOTS;
 use step::Did;
 use step::VALUES;
@@ -13,10 +13,11 @@ ghost use lib.ListN.{length, take};
 ghost use Rattle.table.specs.Table.{Sound};
 ghost use Rattle.table.specs.Placing.{Gave};
 ghost use Rattle.frame.specs.Frame.{headerSize, itemAt, itemsFrom};
+ghost use Rattle.frame.specs.inner.Items.{sheetOf};
 ghost use Rattle.sheet.specs.Machine.{endAnswer, leftAnswer, turnOf, runItems, begun, typeSheet};
-ghost use Rattle.memo.specs.Memo.{Recalls};
-ghost use Rattle.step.specs.Code.{stateOf, Ready, Counted};
-ghost use Rattle.sheet.specs.Code.{TurnsBy, Turns, AfterTurn, Rushes};
+ghost use Rattle.memo.specs.inner.Memo.{Recalls};
+ghost use Rattle.step.specs.inner.Code.{stateOf, Ready, Counted};
+ghost use Rattle.sheet.specs.inner.Code.{TurnsBy, Turns, AfterTurn, Rushes};
 
 // A call's name, as that part of the lent sheet.
 pub use frame::call_name;
@@ -49,22 +50,22 @@ fn finish(size: usize, stack: &[u32], count: usize, used: usize) -> Answer
 }
 
 // The answer of a call without value at a place: it is the last item, and no value stands below it.
-fn leave(size: usize, place: Place, next: Place, count: usize, used: usize) -> Answer
-    ensures { λ r. ⌜ r ≡ leftAnswer size (place .0) (next .0) count used ⌝ }
+fn leave(size: usize, at: Place, next: Place, count: usize, used: usize) -> Answer
+    ensures { λ r. ⌜ r ≡ leftAnswer size (at .0) (next .0) count used ⌝ }
 {
     if count != 0 {
-        return table::refused(Reason::Stack, place, used);
+        return table::refused(Reason::Stack, at, used);
     }
     if next.0 == size {
         return table::no_value(used);
     }
-    table::refused(Reason::Stack, place, used)
+    table::refused(Reason::Stack, at, used)
 }
 
 // The turn after what an item at a place did, in a sheet of `size` bytes.
-fn turn_by(d: Did, size: usize, place: Place, next: Place, stack: &[u32]) -> Turn
+fn turn_by(d: Did, size: usize, at: Place, next: Place, stack: &[u32]) -> Turn
     requires { ⌜ (length (now stack) ≡ 64) × Counted d ⌝ }
-    ensures { λ r. ⌜ TurnsBy size (place .0) (next .0) d (now (stack .entry)) r ⌝ }
+    ensures { λ r. ⌜ TurnsBy size (at .0) (next .0) d (now (stack .entry)) r ⌝ }
 {
     match d {
         Did::Went { count: c, used: u } => Turn::More {
@@ -72,7 +73,7 @@ fn turn_by(d: Did, size: usize, place: Place, next: Place, stack: &[u32]) -> Tur
             used: u,
             next,
         },
-        Did::Silent { count: c, used: u } => Turn::Done(leave(size, place, next, c, u)),
+        Did::Silent { count: c, used: u } => Turn::Done(leave(size, at, next, c, u)),
         Did::Ended { count: c, used: u } => Turn::Done(finish(size, stack, c, u)),
         Did::Refused(r) => Turn::Done(Answer::Refused(r)),
     }
@@ -80,7 +81,7 @@ fn turn_by(d: Did, size: usize, place: Place, next: Place, stack: &[u32]) -> Tur
 
 // One turn of the machine, at a place.
 fn one_turn(
-    sheet: &[u8],
+    items: &[u8],
     at: Place,
     stack: &mut [u32],
     count: usize,
@@ -89,60 +90,59 @@ fn one_turn(
     memo: &mut [u64],
 ) -> Turn
     requires { ⌜ Ready count (now stack) used (now table) × Recalls (now memo) (now table) used ⌝ }
-    ensures { λ r. ⌜ Turns (turnOf (now (sheet .entry)) (itemAt (now (sheet .entry)) (at .0)) (stateOf count (now (stack .entry)) used (now (table .entry)))) (itemAt (now (sheet .entry)) (at .0) .next .0) r (now (stack .exit)) (now (table .exit)) × AfterTurn r (now (memo .exit)) (now (table .exit)) ⌝ }
+    ensures { λ r. ⌜ Turns (turnOf (sheetOf (now (items .entry))) (itemAt (sheetOf (now (items .entry))) (at .0)) (stateOf count (now (stack .entry)) used (now (table .entry)))) (itemAt (sheetOf (now (items .entry))) (at .0) .next .0) r (now (stack .exit)) (now (table .exit)) × AfterTurn r (now (memo .exit)) (now (table .exit)) ⌝ }
 {
-    let found = frame::item_at(sheet, at);
-    let place = found.at;
+    let found = frame::item_in(items, at);
     let item = found.item;
-    let d = memo::noted_step(sheet, item, place, stack, count, table, used, memo);
-    turn_by(d, sheet.len(), place, found.next, stack)
+    let d = memo::noted_step(items, item, at, stack, count, table, used, memo);
+    turn_by(d, HEADER + items.len(), at, found.next, stack)
 }
 
 // The items from a place on, as long as they are quick.
 fn rush(
-    sheet: &[u8],
+    items: &[u8],
     from: Place,
     stack: &mut [u32],
-    high: usize,
+    count: usize,
     table: &[u32],
     used: usize,
     memo: &[u64],
 ) -> Rushed
-    requires { ⌜ Ready high (now stack) used (now table) × Recalls (now memo) (now table) used ⌝ }
-    ensures { λ r. ⌜ Rushes (now (sheet .entry)) (from .0) high (now (stack .entry)) used (now (table .entry)) r (now (stack .exit)) ⌝ }
+    requires { ⌜ Ready count (now stack) used (now table) × Recalls (now memo) (now table) used ⌝ }
+    ensures { λ r. ⌜ Rushes (sheetOf (now (items .entry))) (from .0) count (now (stack .entry)) used (now (table .entry)) r (now (stack .exit)) ⌝ }
 {
     let mut at = from.0;
-    let mut count = high;
+    let mut count = count;
     loop {
-        let c = memo::quick_at(sheet, Place(at), stack, count, table, used, memo);
+        let c = memo::quick_at(items, Place(at), stack, count, table, used, memo);
         if c == 0 {
             return Rushed {
                 at: Place(at),
                 count,
             };
         }
-        at = at + SHORT;
+        at = at + SHORT_BYTES;
         count = c;
     }
 }
 
 // The items from the first to the end, or to the first that is refused, over a stack of no values and a memo that has nothing.
 fn run_on(
-    sheet: &[u8],
+    items: &[u8],
     table: &mut [u32],
     used: usize,
     stack: &mut [u32],
     memo: &mut [u64],
 ) -> Answer
     requires { ⌜ Sound (now table) used × (length (now stack) ≡ 64) × Recalls (now memo) (now table) used ⌝ }
-    ensures { λ r. ⌜ Gave (runItems (now (sheet .entry)) (itemsFrom (now (sheet .entry)) headerSize) (begun (now (table .entry)) used)) r (now (table .exit)) ⌝ }
+    ensures { λ r. ⌜ Gave (runItems (sheetOf (now (items .entry))) (itemsFrom (sheetOf (now (items .entry))) headerSize) (begun (now (table .entry)) used)) r (now (table .exit)) ⌝ }
 {
     let mut count: usize = 0;
-    let mut n = used;
+    let mut used = used;
     let mut at = HEADER;
     loop {
-        let r = rush(sheet, Place(at), stack, count, table, n, memo);
-        match one_turn(sheet, r.at, stack, r.count, table, n, memo) {
+        let r = rush(items, Place(at), stack, count, table, used, memo);
+        match one_turn(items, r.at, stack, r.count, table, used, memo) {
             Turn::More {
                 count: c,
                 used: u,
@@ -150,7 +150,7 @@ fn run_on(
             } => {
                 at = next.0;
                 count = c;
-                n = u;
+                used = u;
             }
             Turn::Done(a) => {
                 return a;
@@ -160,13 +160,13 @@ fn run_on(
 }
 
 // The same over a stack and a memo of its own.
-fn run(sheet: &[u8], table: &mut [u32], used: usize) -> Answer
+fn run(items: &[u8], table: &mut [u32], used: usize) -> Answer
     requires { ⌜ Sound (now table) used ⌝ }
-    ensures { λ r. ⌜ Gave (runItems (now (sheet .entry)) (itemsFrom (now (sheet .entry)) headerSize) (begun (now (table .entry)) used)) r (now (table .exit)) ⌝ }
+    ensures { λ r. ⌜ Gave (runItems (sheetOf (now (items .entry))) (itemsFrom (sheetOf (now (items .entry))) headerSize) (begun (now (table .entry)) used)) r (now (table .exit)) ⌝ }
 {
     let mut values = [0u32; VALUES];
     let mut results = [0u64; SLOTS];
-    run_on(sheet, table, used, &mut values, &mut results)
+    run_on(items, table, used, &mut values, &mut results)
 }
 
 // For a host: the type of a whole sheet over a table of n entries.
@@ -179,5 +179,5 @@ pub fn type_sheet(words: &mut [u32], n: usize, sheet: &[u8]) -> Answer
     if !frame::header(sheet) {
         return table::refused(Reason::Framing, Place(0), n);
     }
-    run(sheet, words, n)
+    run(&sheet[HEADER..], words, n)
 }

@@ -19,7 +19,7 @@ use Rattle.table.proofs.TypeLaws.{type-scalar, row-at, scalar-key, kind-above, 
 use Rattle.table.proofs.FormedLaws.{formed-at}
 use Rattle.text.specs.Text.{ascii, decimal}
 use Rattle.spell.specs.Spell.{scalarNames, spaceNames, accessNames, named, fractScalar, fractName, spelling}
-use Rattle.spell.specs.Parts.{headNames, textOf, headText, opening, lastOf, closing, argsOf, fractText, fractPart}
+use Rattle.spell.specs.inner.Parts.{headNames, textOf, headText, opening, lastOf, closing, argsOf, fractText, fractPart}
 use Rattle.spell.proofs.Rows.{vec-row, mat-row, atomic-row, ptr-row, ref-row}
 
 -- the parts of the table of texts

@@ -9,7 +9,7 @@ use lib.Dec.{eqb}
 use borrow.Author.Tests.{eq-eqb, ne-eqb}
 use Rattle.table.specs.declared.Entry.{Entry}
 use Rattle.text.specs.Text.{ascii, decimal}
-use Rattle.spell.specs.Parts.{textOf, headText, opening, lastOf, closing, fractText, fractPart}
+use Rattle.spell.specs.inner.Parts.{textOf, headText, opening, lastOf, closing, fractText, fractPart}
 use Rattle.text.proofs.Decimals.{dec-long}
 use Rattle.spell.proofs.Texts.{text-long}
 

@@ -12,7 +12,7 @@ use lib.Dec.{leb, ltb, eqb}
 use borrow.Author.Tests.{ltb-true, ltb-false, leb-true, eqb-false, not-true}
 use Rattle.text.specs.Text.{ascii}
 use Rattle.spell.specs.Spell.{named}
-use Rattle.spell.specs.Parts.{texts, textOf}
+use Rattle.spell.specs.inner.Parts.{texts, textOf}
 use Rattle.table.proofs.SoundLaws.{and-left, and-right}
 use Rattle.spell.proofs.Words.{all}
 

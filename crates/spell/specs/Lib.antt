@@ -1,3 +1,3 @@
 pub mod Spell
 pub mod Reply
-pub mod Parts
+pub mod inner

@@ -7,7 +7,7 @@ ghost use Rattle.table.specs.Denote.{typeAt};
 ghost use Rattle.text.specs.Text.{decimal, far, Put};
 ghost use Rattle.spell.specs.Spell.{spelling};
 ghost use Rattle.spell.specs.Reply.{refuseSpelling, SpellDone};
-ghost use Rattle.spell.specs.Parts.{textCount, textWidth, blank, textOf, headText, opening, lastOf, closing, argsOf, fractText, fractPart, half, span};
+ghost use Rattle.spell.specs.inner.Parts.{textCount, textWidth, blank, textOf, headText, opening, lastOf, closing, argsOf, fractText, fractPart, half, span};
 use table::Entry;
 use table::Place;
 use table::Reason;

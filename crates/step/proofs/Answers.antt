@@ -23,7 +23,7 @@ use Rattle.table.specs.Kept.{Kept}
 use Rattle.call_ty.specs.Calls.{templateRight, operandsIn, operandsOf, givenBy, givenOutcome, byRule, callOutcome}
 use Rattle.call_ty.specs.Calls.Given.{nothing}
 use Rattle.step.specs.Effect.{most}
-use Rattle.step.specs.Code.{Pushes}
+use Rattle.step.specs.inner.Code.{Pushes}
 
 -- A CALL WITHOUT OPERANDS: of the rules only the barriers want none, and those give no value
 

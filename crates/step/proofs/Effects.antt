@@ -1,12 +1,12 @@
 -- The effect of each kind of item over the first values of a slice, test by test; and how an answer that was put on the stack is that effect.
 -- Assumes nothing.
-use Prim.Native.Nat.{ℕ, _+_, _-_, _<_, _≤_}
+use Prim.Native.Nat.{ℕ, zero, suc, _+_, _-_, _<_, _≤_}
 use mathlib.Core.Path.{_≡_, refl, sym, _∙_, ap}
 use mathlib.Core.Bool.{true, false}
 use mathlib.Core.List.{List, [], _∷_, map}
 use native.Mathlib.Omega.{arith}
-use native.Mathlib.Nat.{add-zero}
-use lib.ListN.{length, getD, take, drop, set}
+use lib.ListN.{length, getD, take, drop, set, length-drop, length-map}
+use lib.Seq.{length-take-le}
 use lib.Dec.{ltb, leb}
 use borrow.Author.Tests.{lt-ltb, le-ltb, lt-leb, le-leb}
 use Rattle.conv.specs.Types.{Ty}
@@ -23,11 +23,12 @@ use Rattle.answer.specs.declared.Answer.{Answer}
 use Rattle.answer.specs.declared.Answer.the-variants.{Value, NoValue, Refused}
 use Rattle.ops_ty.specs.Ops.{unaryOutcome, binaryOutcome}
 use Rattle.call_ty.specs.Calls.{callOutcome}
+use Rattle.call_ty.proofs.Lists.{type-in}
 use Rattle.step.specs.declared.Did.{Did}
 use Rattle.step.specs.declared.Did.the-variants as did
 use Rattle.step.specs.Effect.{most, State, Effect, goes, stop, pushed, onto, pushEffect, unaryEffect, binaryEffect, calling, callEffect, templateEffect, takeEffect}
-use Rattle.step.specs.Code.{stateOf, Ready, turnedAway, effectBy, Counted, Does, Settles}
-use Rattle.step.proofs.StackLaws.{next-value, sized, below-them, operand-in, operands-lent, value-in}
+use Rattle.step.specs.inner.Code.{stateOf, Arity, operatorOutcome, operatorEffect, Ready, turnedAway, effectBy, Counted, Does, Settles}
+use Rattle.step.proofs.StackLaws.{next-value, sized, below-them, operands-lent, value-in}
 
 -- the same effect
 pub does-as : {e f : Effect} {r : Did} {vals w : List ℕ} → e ≡ f → Does e r vals w → Does f r vals w
@@ -55,6 +56,19 @@ module _ (base : ℕ) (vals : List ℕ) where
   pub settle-refused : (r : Refusal) → Settles base vals (Refused r) (did.Refused r) vals
   unfolding effectBy Counted onto
   settle-refused r = record { effect = λ words. refl; counted = tt }
+
+-- an operator on the values of its operands, by their count
+module _ (place : ℕ) (w : List ℕ) (n op : ℕ) (us : List ℕ) where
+  typed-many : length (map (typeAt w) us) ≡ length us
+  typed-many = length-map us (typeAt w)
+
+  pub operator-one : length us ≡ 1 → unaryOutcome place w n op (typeAt w (getD us 0 0)) ≡ operatorOutcome place w n op (map (typeAt w) us)
+  unfolding operatorOutcome
+  operator-one l = sym (rw (typed-many ∙ l, type-in w us 0 (omega (arith, l))))
+
+  pub operator-two : length us ≡ 2 → binaryOutcome place w n op (typeAt w (getD us 0 0)) (typeAt w (getD us 1 0)) ≡ operatorOutcome place w n op (map (typeAt w) us)
+  unfolding operatorOutcome
+  operator-two l = sym (rw (typed-many ∙ l, type-in w us 0 (omega (arith, l)), type-in w us 1 (omega (arith, l))))
 
 module _ (place : Place) (count : ℕ) (vals : List ℕ) (used : ℕ) (w : List ℕ) where
   abbrev st : State
@@ -96,30 +110,34 @@ module _ (place : Place) (count : ℕ) (vals : List ℕ) (used : ℕ) (w : List 
         does-as (push-goes t h f)
         (record { effect = ap (λ (vs : List ℕ). goes (record { stack = vs; used = used; words = w })) (next-value vals count v (omega (arith, ready .size)) ∙ ap (pushed (take count vals)) e); counted = omega arith })
 
-    -- OPERATORS
+    -- OPERATORS on the last k values, as the part of the slice that is lent on
 
-    pub unary-short : (op : ℕ) → count < 1 → stop Stack (place .0) st ≡ unaryEffect (place .0) st op
-    unfolding unaryEffect
-    unary-short op h = rw (high, lt-leb 1 count h)
+    abbrev lent : ℕ → List ℕ
+    lent k = take (count - (count - k)) (drop (count - k) vals)
 
-    pub unary-goes : (op : ℕ) → 1 ≤ count → onto (take (count - 1) vals) (unaryOutcome (place .0) w used op (typeAt w (getD vals (count - 1) 0))) ≡ unaryEffect (place .0) st op
-    unfolding unaryEffect
-    unary-goes op h =
-        let a = operand-in count vals fits 1 0 h (omega arith) ∙ ap (λ (i : ℕ). getD vals i 0) (add-zero (count - 1)) in
-        sym (rw (below-them count vals fits 1, a, high, le-leb 1 count h))
+    pub lent-many : (k : ℕ) → k ≤ count → length (lent k) ≡ k
+    lent-many k h =
+        length-take-le (count - (count - k)) (drop (count - k) vals) (omega (arith, length-drop (count - k) vals, fits))
+        ∙ (let z : count - (count - k) ≡ k = omega arith in z)
 
-    pub binary-short : (op : ℕ) → count < 2 → stop Stack (place .0) st ≡ binaryEffect (place .0) st op
-    unfolding binaryEffect
-    binary-short op h = rw (high, lt-leb 2 count h)
+    pub operator-short : (k op : ℕ) → Arity k → count < k → stop Stack (place .0) st ≡ operatorEffect k (place .0) st op
+    unfolding operatorEffect unaryEffect binaryEffect
+    operator-short zero op r h = absurd (omega (arith, r .0))
+    operator-short (suc zero) op r h = rw (high, lt-leb 1 count h)
+    operator-short (suc (suc zero)) op r h = rw (high, lt-leb 2 count h)
+    operator-short (suc (suc (suc k))) op r h = absurd (omega (arith, r .1))
 
-    pub binary-goes : (op : ℕ) → 2 ≤ count
-        → onto (take (count - 2) vals) (binaryOutcome (place .0) w used op (typeAt w (getD vals (count - 2) 0)) (typeAt w (getD vals (count - 2 + 1) 0)))
-        ≡ binaryEffect (place .0) st op
-    unfolding binaryEffect
-    binary-goes op h =
-        let a = operand-in count vals fits 2 0 h (omega arith) ∙ ap (λ (i : ℕ). getD vals i 0) (add-zero (count - 2)) in
-        let b = operand-in count vals fits 2 1 h (omega arith) in
-        sym (rw (below-them count vals fits 2, a, b, high, le-leb 2 count h))
+    pub operator-goes : (k op : ℕ) → Arity k → k ≤ count
+        → onto (take (count - k) vals) (operatorOutcome (place .0) w used op (map (typeAt w) (lent k))) ≡ operatorEffect k (place .0) st op
+    unfolding operatorEffect unaryEffect binaryEffect
+    operator-goes zero op r h = absurd (omega (arith, r .0))
+    operator-goes (suc zero) op r h =
+        ap (onto (take (count - 1) vals)) (sym (operator-one (place .0) w used op (lent 1) (lent-many 1 h)))
+        ∙ sym (rw (below-them count vals fits 1, operands-lent count vals fits 1 h, high, le-leb 1 count h))
+    operator-goes (suc (suc zero)) op r h =
+        ap (onto (take (count - 2) vals)) (sym (operator-two (place .0) w used op (lent 2) (lent-many 2 h)))
+        ∙ sym (rw (below-them count vals fits 2, operands-lent count vals fits 2 h, high, le-leb 2 count h))
+    operator-goes (suc (suc (suc k))) op r h = absurd (omega (arith, r .1))
 
     -- CALLS
 

@@ -2,15 +2,17 @@
 -- Assumes nothing.
 use Prim.Native.Nat.{ℕ, zero, suc, _+_, _-_, _<_, _≤_}
 use mathlib.Core.Path.{_≡_, refl, sym}
-use mathlib.Core.Bool.{true}
+use mathlib.Core.Bool.{Bool, true, false, cond}
 use mathlib.Core.List.{List, map}
 use native.Mathlib.Omega.{arith}
 use lib.ListN.{length, getD, take, drop}
+use lib.Dec.{eqb}
 use Rattle.conv.specs.Types.{Ty}
 use Rattle.table.specs.Table.{Sound, allowedb}
 use Rattle.table.specs.Denote.{typeAt, tyOf}
 use Rattle.table.specs.Enter.{EnterDone, entryAnswer}
-use Rattle.table.specs.Placing.{Gave, entering}
+use Rattle.table.specs.Placing.{Outcome, Gave, entering}
+use Rattle.table.specs.Kept.{Kept}
 use Rattle.table.specs.declared.Entry.{Entry}
 use Rattle.table.specs.declared.Entered.{Entered}
 use Rattle.answer.specs.declared.Place.{Place}
@@ -21,17 +23,17 @@ use Rattle.table.proofs.FormedLaws.{allowed-type}
 use Rattle.table.proofs.PlacingLaws.{enter-outcome}
 use Rattle.table.proofs.Keeping.{kept-entering}
 use Rattle.ruled.proofs.Outcomes.{gave-from}
-use Rattle.ops_ty.specs.Ops.{unaryOutcome, binaryOutcome}
 use Rattle.ops_ty.proofs.Demand1.{unary-at-kept, binary-at-kept}
-use Rattle.call_ty.specs.Calls.{callOutcome}
+use Rattle.call_ty.specs.Calls.{firstIn, secondIn, callOutcome}
+use Rattle.call_ty.proofs.Lists.{type-in}
 use Rattle.call_ty.specs.Codes.{Under}
 use Rattle.call_ty.proofs.Demand1.{call-at-kept}
 use Rattle.step.specs.declared.Did.{Did}
-use Rattle.step.specs.Effect.{most, State, unaryEffect, binaryEffect, calling, takeEffect}
-use Rattle.step.specs.Code.{stateOf, Ready, Pushes, Does, Settles}
+use Rattle.step.specs.Effect.{most, State, calling, takeEffect}
+use Rattle.step.specs.inner.Code.{stateOf, Arity, operatorOutcome, operatorEffect, Ready, Pushes, Does, Settles}
 use Rattle.step.proofs.StackLaws.{operands-lent, under-drop}
 use Rattle.step.proofs.Answers.{no-operand, pushes}
-use Rattle.step.proofs.Effects.{does-as, settled, value-under, unary-goes, binary-goes, calling-on, take-goes}
+use Rattle.step.proofs.Effects.{does-as, settled, lent-many, operator-goes, calling-on, take-goes}
 
 module _ (place : Place) (count : ℕ) (vals : List ℕ) (used : ℕ) (w : List ℕ) (ready : Ready count vals used w) where
   abbrev st : State
@@ -40,36 +42,7 @@ module _ (place : Place) (count : ℕ) (vals : List ℕ) (used : ℕ) (w : List 
   sound : Sound w used
   sound = ready .good .sound
 
-  -- UNARY: x is the operand's number, o the operator
-  module _ (op o x : ℕ) (eo : o ≡ op) (ex : x ≡ getD vals (count - 1) 0) (h : 1 ≤ count) where
-    pub unary-under : x < used
-    unary-under = rw ex (value-under place count vals used w ready (count - 1) (omega arith))
-
-    module _ {a : Answer} {v : List ℕ} (g : Gave (unaryOutcome (place .0) w used o (typeAt w x)) a v) where
-      pub unary-pushes : Pushes (count - 1) a
-      unary-pushes =
-          pushes w used (unaryOutcome (place .0) w used o (typeAt w x)) (unary-at-kept (place .0) w used sound o x unary-under) (count - 1)
-          (λ t m e. omega (arith, ready .fits)) a (g .reply)
-
-      pub unary-does : {r : Did} {after : List ℕ} → Settles (count - 1) vals a r after → Does (unaryEffect (place .0) st op) r after v
-      unary-does s = does-as (unary-goes place count vals used w ready op h) (settled s (rw (eo, ex) at g))
-
-  -- BINARY
-  module _ (op o x y : ℕ) (eo : o ≡ op) (ex : x ≡ getD vals (count - 2) 0) (ey : y ≡ getD vals (count - 2 + 1) 0) (h : 2 ≤ count) where
-    pub binary-under : (x < used) × (y < used)
-    binary-under =
-        (rw ex (value-under place count vals used w ready (count - 2) (omega arith)), rw ey (value-under place count vals used w ready (count - 2 + 1) (omega arith)))
-
-    module _ {a : Answer} {v : List ℕ} (g : Gave (binaryOutcome (place .0) w used o (typeAt w x) (typeAt w y)) a v) where
-      pub binary-pushes : Pushes (count - 2) a
-      binary-pushes =
-          pushes w used (binaryOutcome (place .0) w used o (typeAt w x) (typeAt w y)) (binary-at-kept (place .0) w used sound o (typeAt w x) (typeAt w y)) (count - 2)
-          (λ t m e. omega (arith, ready .fits)) a (g .reply)
-
-      pub binary-does : {r : Did} {after : List ℕ} → Settles (count - 2) vals a r after → Does (binaryEffect (place .0) st op) r after v
-      binary-does s = does-as (binary-goes place count vals used w ready op h) (settled s (rw (eo, ex, ey) at g))
-
-  -- CALLS on the last k values
+  -- AN OUTCOME on the last k values is put in their place
   module _ (k : ℕ) (h : k ≤ count) where
     abbrev args : List ℕ
     args = take (count - (count - k)) (drop (count - k) vals)
@@ -82,7 +55,30 @@ module _ (place : Place) (count : ℕ) (vals : List ℕ) (used : ℕ) (w : List 
         rw (sym (operands-lent count vals fits k h))
         (under-drop used (length (take count vals) - k) (take count vals) (ready .good .under))
 
-    -- without operands there is no value; with one at least the stack has room for it
+    -- operators: there is an operand at least, so the stack has room
+    module _ (op : ℕ) (r : Arity k) where
+      operator-kept : (us : List ℕ) → length us ≡ k → Under used us → Kept w used (operatorOutcome (place .0) w used op (map (typeAt w) us))
+      unfolding operatorOutcome
+      operator-kept us n u =
+          cond-kept (eqb (length (map (typeAt w) us)) 1) _ _
+          (rw (type-in w us 0 (omega (arith, n, r .0))) (unary-at-kept (place .0) w used sound op (getD us 0 0) (u 0 (omega (arith, n, r .0)))))
+          (binary-at-kept (place .0) w used sound op (firstIn (map (typeAt w) us)) (secondIn (map (typeAt w) us)))
+        where
+          cond-kept : (b : Bool) (x y : Outcome) → Kept w used x → Kept w used y → Kept w used (cond b x y)
+          cond-kept true x y p q = p
+          cond-kept false x y p q = q
+
+      module _ {a : Answer} {v : List ℕ} (g : Gave (operatorOutcome (place .0) w used op (map (typeAt w) args)) a v) where
+        pub operator-pushes : Pushes (count - k) a
+        operator-pushes =
+            pushes w used (operatorOutcome (place .0) w used op (map (typeAt w) args))
+            (operator-kept args (lent-many place count vals used w ready k h) args-under) (count - k)
+            (λ t m e. omega (arith, ready .fits, r .0)) a (g .reply)
+
+        pub operator-does : {d : Did} {after : List ℕ} → Settles (count - k) vals a d after → Does (operatorEffect k (place .0) st op) d after v
+        operator-does s = does-as (operator-goes place count vals used w ready k op r h) (settled s g)
+
+    -- calls: without operands there is no value; with one at least the stack has room for it
     room : (name : List ℕ) (ts : List Ty) (t : TypeNo) (m : ℕ) → callOutcome (place .0) w used name ts (map (typeAt w) args) .answer ≡ Value t m → count - k < most
     room name ts t m e = go k refl
       where

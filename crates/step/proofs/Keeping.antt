@@ -1,7 +1,7 @@
--- What an item keeps. The state after it is good again; the earlier entries stay at their numbers; a refusal changes no word and gives the count as it
--- stands. Assumes nothing.
+-- What an item keeps. The state after it is good again; the earlier entries stay at their numbers; what it added its result needs; a refusal changes no
+-- word and gives the count as it stands. Assumes nothing.
 use Prim.Native.Nat.{ℕ, zero, suc, _+_, _-_, _<_, _≤_}
-use mathlib.Core.Path.{_≡_, refl}
+use mathlib.Core.Path.{_≡_, refl, sym, _∙_, ap, subst}
 use mathlib.Core.Bool.{Bool, true, false, cond}
 use mathlib.Core.List.{List, [], _∷_, map}
 use native.Mathlib.Omega.{arith}
@@ -12,6 +12,7 @@ use Rattle.conv.specs.Types.{Ty}
 use Rattle.table.specs.Table.{allowedb}
 use Rattle.table.specs.Denote.{typeAt, tyOf}
 use Rattle.table.specs.Placing.{Outcome}
+use Rattle.table.specs.Stands.{Part}
 use Rattle.table.specs.declared.Entry.{Entry}
 use Rattle.answer.specs.declared.Reason.{Reason}
 use Rattle.answer.specs.declared.Reason.the-variants.{NoSuchType, Template, Framing, Stack}
@@ -28,14 +29,14 @@ use Rattle.call_ty.specs.Calls.{callOutcome}
 use Rattle.call_ty.proofs.Demand1.{call-at-kept}
 use Rattle.call_ty.specs.Codes.{Under}
 use Rattle.step.specs.Effect.{most, State, height, operands, below, Effect, goes, silent, ends, stops, stop, pushed, onto, having, holding, pushEffect, unaryEffect, binaryEffect, calling, callEffect, templateEffect, takeEffect, effectOf, entryOf, bytesOf}
-use Rattle.step.specs.Code.{Good}
-use Rattle.step.specs.Kept.{Grew}
+use Rattle.step.specs.inner.Code.{Good}
+use Rattle.step.specs.Kept.{Grew, resultOf, Needed}
 use Rattle.step.proofs.StackLaws.{under-take, under-drop}
 use Rattle.step.proofs.Answers.{no-operand}
 
 -- what an effect keeps of the state before it
 abbrev pub EffectKept : State → Effect → Type 0
-EffectKept st (goes st') = Good st' × Grew (st .words) (st .used) (st' .words) (st' .used)
+EffectKept st (goes st') = Good st' × Grew (st .words) (st .used) (st' .words) (st' .used) × Needed st st'
 EffectKept st (silent st') = Good st' × (st' .words ≡ st .words) × (st' .used ≡ st .used)
 EffectKept st (ends st') = st' ≡ st
 EffectKept st (stops r w) = (w ≡ st .words) × (r .used ≡ st .used)
@@ -54,6 +55,15 @@ under-pushed n (v ∷ vs) t u h (suc i) l = under-pushed n vs t (λ j m. u (suc 
 
 high-pushed : (vs : List ℕ) (t : ℕ) → length (pushed vs t) ≡ length vs + 1
 high-pushed vs t = length-append vs (t ∷ [])
+
+top-pushed : (vs : List ℕ) (t : ℕ) → getD (pushed vs t) (length (pushed vs t) - 1) 0 ≡ t
+top-pushed vs t =
+    let e : length (pushed vs t) - 1 ≡ length vs = omega (arith, high-pushed vs t) in
+    ap (λ (i : ℕ). getD (pushed vs t) i 0) e ∙ top-at vs t
+  where
+    top-at : (l : List ℕ) (x : ℕ) → getD (pushed l x) (length l) 0 ≡ x
+    top-at [] x = refl
+    top-at (v ∷ l) x = top-at l x
 
 under-more : (n m : ℕ) (vs : List ℕ) → n ≤ m → Under n vs → Under m vs
 under-more n m vs l u i h = let a = u i h in omega arith
@@ -95,6 +105,10 @@ module _ (place : ℕ) (st : State) (good : Good st) where
               high = let l = room t m e in omega (arith, high-pushed vs (t .0));
             },
             record { more = up; keeps = s .keeps; long = s .long; beyond = s .beyond },
+            record {
+              parts = λ i a b. subst (Part (typeAt (o .words) i)) (sym (s .stands) ∙ ap (typeAt (o .words)) (sym (top-pushed vs (t .0)))) (s .added i a b);
+              missing = k .missing t m e;
+            },
           )
       go (NoValue m) e =
           let q = k .without m e in
@@ -114,12 +128,16 @@ module _ (place : ℕ) (st : State) (good : Good st) where
 
   -- THE ITEMS
 
+  -- a push adds no entry
+  needed-none : {vs : List ℕ} → Needed st (record { stack = vs; used = n; words = w })
+  needed-none = record { parts = λ i a b. absurd (omega arith); missing = λ i a b. absurd (omega arith) }
+
   kept-push : (t : ℕ) → EffectKept st (pushEffect place st t)
   unfolding pushEffect
   kept-push t =
       either (EffectKept st) (ltb t n)
       (λ b. kept-holding _ (λ h.
-      (record { sound = good .sound; under = under-pushed n (st .stack) t (good .under) (ltb-true t n b); high = omega (arith, high-pushed (st .stack) t) }, grew-none w n)))
+      (record { sound = good .sound; under = under-pushed n (st .stack) t (good .under) (ltb-true t n b); high = omega (arith, high-pushed (st .stack) t) }, grew-none w n, needed-none)))
       (λ b. kept-stop NoSuchType)
 
   pub kept-unary : (op : ℕ) → EffectKept st (unaryEffect place st op)

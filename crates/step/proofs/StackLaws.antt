@@ -20,12 +20,9 @@ module _ (count : ℕ) (vals : List ℕ) (fits : count ≤ length vals) where
   pub below-them : (k : ℕ) → take (length (take count vals) - k) (take count vals) ≡ take (count - k) vals
   below-them k = rw sized (take-take (count - k) count vals (omega arith))
 
-  -- value i of the stack, and of its last k values
+  -- value i of the stack
   pub value-in : (i : ℕ) → i < count → getD (take count vals) i 0 ≡ getD vals i 0
   value-in i h = getD-take count vals i 0 h
-
-  pub operand-in : (k i : ℕ) → k ≤ count → i < k → getD (drop (length (take count vals) - k) (take count vals)) i 0 ≡ getD vals (count - k + i) 0
-  operand-in k i g h = rw sized (getD-drop (count - k) (take count vals) i 0 ∙ getD-take count vals (count - k + i) 0 (omega arith))
 
   -- the last k values, as the part of the slice that is lent on
   pub operands-lent : (k : ℕ) → k ≤ count → drop (length (take count vals) - k) (take count vals) ≡ take (count - (count - k)) (drop (count - k) vals)

@@ -1,3 +1,3 @@
 pub mod Effect
-pub mod Code
 pub mod Kept
+pub mod inner

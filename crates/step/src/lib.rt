@@ -14,14 +14,21 @@ ghost use mathlib.Core.Path.{_≡_};
 ghost use mathlib.Core.List.{map};
 ghost use Prim.Native.Nat.{_<_, _≤_};
 ghost use lib.ListN.{length};
+ghost use Rattle.table.specs.Table.{Sound};
 ghost use Rattle.table.specs.Denote.{typeAt};
-ghost use Rattle.frame.specs.Frame.{nameOf, Within};
+ghost use Rattle.table.specs.Placing.{Gave};
+ghost use Rattle.frame.specs.inner.Items.{sheetOf, LiesIn, NameIn};
 ghost use Rattle.call_ty.specs.Codes.{Under};
-ghost use Rattle.step.specs.Effect.{bytesOf, entryOf, pushEffect, unaryEffect, binaryEffect, calling, callEffect, templateEffect, takeEffect, effectOf};
-ghost use Rattle.step.specs.Code.{stateOf, turnedAway, Ready, Pushes, Settles, Does};
+ghost use Rattle.step.specs.Effect.{bytesOf, entryOf, pushEffect, calling, callEffect, templateEffect, takeEffect, effectOf};
+ghost use Rattle.step.specs.inner.Code.{stateOf, turnedAway, Arity, operatorOutcome, operatorEffect, Ready, Pushes, Settles, Does};
 
 // How many values the stack holds.
 pub const VALUES: usize = 64;
+
+// How many operands an operator has.
+const UNARY: usize = 1;
+
+const BINARY: usize = 2;
 
 // What an item did: it left so many values and entries; it was a call without value; the items ended; or it was refused.
 pub enum Did {
@@ -32,12 +39,12 @@ pub enum Did {
 }
 
 // A refusal of the item at a place.
-fn stopped(reason: Reason, place: Place, used: usize) -> Did
-    ensures { λ r. ⌜ r ≡ turnedAway reason place used ⌝ }
+fn stopped(reason: Reason, at: Place, used: usize) -> Did
+    ensures { λ r. ⌜ r ≡ turnedAway reason at used ⌝ }
 {
     Did::Refused(Refusal {
         reason,
-        place,
+        place: at,
         used,
     })
 }
@@ -63,60 +70,56 @@ fn settle(stack: &mut [u32], base: usize, a: Answer) -> Did
     }
 }
 
-fn push(ty: TypeNo, at: Place, stack: &mut [u32], high: usize, table: &[u32], used: usize) -> Did
-    requires { ⌜ Ready high (now stack) used (now table) ⌝ }
-    ensures { λ r. ⌜ Does (pushEffect (at .0) (stateOf high (now (stack .entry)) used (now (table .entry))) (ty .0)) r (now (stack .exit)) (now (table .entry)) ⌝ }
+fn push(ty: TypeNo, at: Place, stack: &mut [u32], count: usize, table: &[u32], used: usize) -> Did
+    requires { ⌜ Ready count (now stack) used (now table) ⌝ }
+    ensures { λ r. ⌜ Does (pushEffect (at .0) (stateOf count (now (stack .entry)) used (now (table .entry))) (ty .0)) r (now (stack .exit)) (now (table .entry)) ⌝ }
 {
     let index = ty.0;
     if used <= index {
         return stopped(Reason::NoSuchType, at, used);
     }
-    if VALUES <= high {
+    if VALUES <= count {
         return stopped(Reason::Stack, at, used);
     }
-    stack[high] = held::value(ty);
-    let count = high + 1;
-    Did::Went { count, used }
+    stack[count] = held::value(ty);
+    Did::Went {
+        count: count + 1,
+        used,
+    }
 }
 
-fn unary(
+// The answer of an operator on the operands that are lent: a unary one on one, a binary one on two.
+fn operator_at(op: u8, at: Place, args: &[u32], table: &mut [u32], used: usize) -> Answer
+    requires { ⌜ Sound (now table) used × Under used (now args) × Arity (length (now args)) ⌝ }
+    ensures { λ r. ⌜ Gave (operatorOutcome (at .0) (now (table .entry)) used op (map (typeAt (now (table .entry))) (now (args .entry)))) r (now (table .exit)) ⌝ }
+{
+    let op = wide(op);
+    let a = held::number(args[0]);
+    if args.len() == UNARY {
+        return ops_ty::unary_at(table, used, at, op, a);
+    }
+    let b = held::number(args[1]);
+    ops_ty::binary_at(table, used, at, op, a, b)
+}
+
+// An operator on the last k values.
+fn operator(
     op: u8,
-    place: Place,
+    k: usize,
+    at: Place,
     stack: &mut [u32],
     count: usize,
     table: &mut [u32],
     used: usize,
 ) -> Did
-    requires { ⌜ Ready count (now stack) used (now table) ⌝ }
-    ensures { λ r. ⌜ Does (unaryEffect (place .0) (stateOf count (now (stack .entry)) used (now (table .entry))) op) r (now (stack .exit)) (now (table .exit)) ⌝ }
+    requires { ⌜ Ready count (now stack) used (now table) × Arity k ⌝ }
+    ensures { λ r. ⌜ Does (operatorEffect k (at .0) (stateOf count (now (stack .entry)) used (now (table .entry))) op) r (now (stack .exit)) (now (table .exit)) ⌝ }
 {
-    if count < 1 {
-        return stopped(Reason::Stack, place, used);
+    if count < k {
+        return stopped(Reason::Stack, at, used);
     }
-    let base = count - 1;
-    let a = held::number(stack[base]);
-    let r = ops_ty::unary_at(table, used, place, wide(op), a);
-    settle(stack, base, r)
-}
-
-fn binary(
-    op: u8,
-    place: Place,
-    stack: &mut [u32],
-    count: usize,
-    table: &mut [u32],
-    used: usize,
-) -> Did
-    requires { ⌜ Ready count (now stack) used (now table) ⌝ }
-    ensures { λ r. ⌜ Does (binaryEffect (place .0) (stateOf count (now (stack .entry)) used (now (table .entry))) op) r (now (stack .exit)) (now (table .exit)) ⌝ }
-{
-    if count < 2 {
-        return stopped(Reason::Stack, place, used);
-    }
-    let base = count - 2;
-    let a = held::number(stack[base]);
-    let b = held::number(stack[base + 1]);
-    let r = ops_ty::binary_at(table, used, place, wide(op), a, b);
+    let base = count - k;
+    let r = operator_at(op, at, &stack[base..count], table, used);
     settle(stack, base, r)
 }
 
@@ -125,91 +128,91 @@ fn call_on(
     name: &[u8],
     tplt: &[u32],
     k: usize,
-    place: Place,
+    at: Place,
     stack: &mut [u32],
     count: usize,
     table: &mut [u32],
     used: usize,
 ) -> Did
     requires { ⌜ Ready count (now stack) used (now table) × Under used (now tplt) × (k ≤ count) ⌝ }
-    ensures { λ r. ⌜ Does (calling (place .0) (stateOf count (now (stack .entry)) used (now (table .entry))) (now (name .entry)) (map (typeAt (now (table .entry))) (now (tplt .entry))) k) r (now (stack .exit)) (now (table .exit)) ⌝ }
+    ensures { λ r. ⌜ Does (calling (at .0) (stateOf count (now (stack .entry)) used (now (table .entry))) (now (name .entry)) (map (typeAt (now (table .entry))) (now (tplt .entry))) k) r (now (stack .exit)) (now (table .exit)) ⌝ }
 {
     let base = count - k;
-    let r = call_ty::call_at(table, used, place, name, tplt, &stack[base..count]);
+    let r = call_ty::call_at(table, used, at, name, tplt, &stack[base..count]);
     settle(stack, base, r)
 }
 
 fn call(
-    sheet: &[u8],
+    items: &[u8],
     name: Part,
     k: u8,
-    place: Place,
+    at: Place,
     stack: &mut [u32],
     count: usize,
     table: &mut [u32],
     used: usize,
 ) -> Did
-    requires { ⌜ Ready count (now stack) used (now table) × Within (length (now sheet)) name ⌝ }
-    ensures { λ r. ⌜ Does (callEffect (place .0) (stateOf count (now (stack .entry)) used (now (table .entry))) (bytesOf (now (sheet .entry)) name) k) r (now (stack .exit)) (now (table .exit)) ⌝ }
+    requires { ⌜ Ready count (now stack) used (now table) × LiesIn (length (now items)) name ⌝ }
+    ensures { λ r. ⌜ Does (callEffect (at .0) (stateOf count (now (stack .entry)) used (now (table .entry))) (bytesOf (sheetOf (now (items .entry))) name) k) r (now (stack .exit)) (now (table .exit)) ⌝ }
 {
     let k = wide(k);
     if count < k {
-        return stopped(Reason::Stack, place, used);
+        return stopped(Reason::Stack, at, used);
     }
-    let bytes = frame::part_of(sheet, name);
+    let bytes = frame::name_in(items, name);
     let list: [u32; 0] = [];
-    call_on(bytes, &list, k, place, stack, count, table, used)
+    call_on(bytes, &list, k, at, stack, count, table, used)
 }
 
 fn call_template(
-    sheet: &[u8],
+    items: &[u8],
     name: Part,
     t: TypeNo,
     k: u8,
-    place: Place,
+    at: Place,
     stack: &mut [u32],
-    high: usize,
+    count: usize,
     table: &mut [u32],
-    n: usize,
+    used: usize,
 ) -> Did
-    requires { ⌜ Ready high (now stack) n (now table) × Within (length (now sheet)) name ⌝ }
-    ensures { λ r. ⌜ Does (templateEffect (place .0) (stateOf high (now (stack .entry)) n (now (table .entry))) (bytesOf (now (sheet .entry)) name) (t .0) k) r (now (stack .exit)) (now (table .exit)) ⌝ }
+    requires { ⌜ Ready count (now stack) used (now table) × LiesIn (length (now items)) name ⌝ }
+    ensures { λ r. ⌜ Does (templateEffect (at .0) (stateOf count (now (stack .entry)) used (now (table .entry))) (bytesOf (sheetOf (now (items .entry))) name) (t .0) k) r (now (stack .exit)) (now (table .exit)) ⌝ }
 {
     let template = t.0;
     let wanted = wide(k);
-    if high < wanted {
-        return stopped(Reason::Stack, place, n);
+    if count < wanted {
+        return stopped(Reason::Stack, at, used);
     }
-    if n <= template {
-        return stopped(Reason::NoSuchType, place, n);
+    if used <= template {
+        return stopped(Reason::NoSuchType, at, used);
     }
-    let bytes = frame::part_of(sheet, name);
+    let bytes = frame::name_in(items, name);
     let first = template as u32;
     let list = [first];
-    call_on(bytes, &list, wanted, place, stack, high, table, n)
+    call_on(bytes, &list, wanted, at, stack, count, table, used)
 }
 
 // The type of an entry, entered where it is absent, as one value more.
 fn take_in(
     e: Entry,
-    here: Place,
+    at: Place,
     stack: &mut [u32],
     count: usize,
     table: &mut [u32],
     used: usize,
 ) -> Did
     requires { ⌜ Ready count (now stack) used (now table) ⌝ }
-    ensures { λ r. ⌜ Does (takeEffect (here .0) (stateOf count (now (stack .entry)) used (now (table .entry))) e) r (now (stack .exit)) (now (table .exit)) ⌝ }
+    ensures { λ r. ⌜ Does (takeEffect (at .0) (stateOf count (now (stack .entry)) used (now (table .entry))) e) r (now (stack .exit)) (now (table .exit)) ⌝ }
 {
     let allowed = table::allowed(table, used, e);
     if !allowed {
-        return stopped(Reason::Template, here, used);
+        return stopped(Reason::Template, at, used);
     }
     if VALUES <= count {
-        return stopped(Reason::Stack, here, used);
+        return stopped(Reason::Stack, at, used);
     }
     let r = entering::enter(table, used, e);
-    settle(stack, count, entering::answer_of(here, used, r))
+    settle(stack, count, entering::answer_of(at, used, r))
 }
 
 // The entry that a take asks for.
@@ -226,31 +229,31 @@ fn entry(kind: u8, p: u32, q: u8, elem: u8) -> Entry
 
 // What stands at a place of the sheet, on the stack of `count` values and the table.
 pub fn step(
-    sheet: &[u8],
+    items: &[u8],
     item: Item,
-    place: Place,
+    at: Place,
     stack: &mut [u32],
     count: usize,
     table: &mut [u32],
     used: usize,
 ) -> Did
-    requires { ⌜ Ready count (now stack) used (now table) × Within (length (now sheet)) (nameOf item) ⌝ }
-    ensures { λ r. ⌜ Does (effectOf (place .0) (stateOf count (now (stack .entry)) used (now (table .entry))) (now (sheet .entry)) item) r (now (stack .exit)) (now (table .exit)) ⌝ }
+    requires { ⌜ Ready count (now stack) used (now table) × NameIn (length (now items)) item ⌝ }
+    ensures { λ r. ⌜ Does (effectOf (at .0) (stateOf count (now (stack .entry)) used (now (table .entry))) (sheetOf (now (items .entry))) item) r (now (stack .exit)) (now (table .exit)) ⌝ }
 {
     match item {
-        Item::Push(t) => push(t, place, stack, count, table, used),
-        Item::Unary(op) => unary(op, place, stack, count, table, used),
-        Item::Binary(op) => binary(op, place, stack, count, table, used),
-        Item::Call { count: k, name } => call(sheet, name, k, place, stack, count, table, used),
+        Item::Push(t) => push(t, at, stack, count, table, used),
+        Item::Unary(op) => operator(op, UNARY, at, stack, count, table, used),
+        Item::Binary(op) => operator(op, BINARY, at, stack, count, table, used),
+        Item::Call { count: k, name } => call(items, name, k, at, stack, count, table, used),
         Item::CallTemplate {
             template,
             count: k,
             name,
-        } => call_template(sheet, name, template, k, place, stack, count, table, used),
+        } => call_template(items, name, template, k, at, stack, count, table, used),
         Item::Take { kind, p, q, elem } => {
-            take_in(entry(kind, p, q, elem), place, stack, count, table, used)
+            take_in(entry(kind, p, q, elem), at, stack, count, table, used)
         }
         Item::End => Did::Ended { count, used },
-        Item::Bad => stopped(Reason::Framing, place, used),
+        Item::Bad => stopped(Reason::Framing, at, used),
     }
 }

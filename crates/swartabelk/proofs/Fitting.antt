@@ -21,7 +21,7 @@ use Rattle.call_ty.proofs.Demand1.{call-kept}
 use Rattle.tplt.specs.Templates.{templateOutcome}
 use Rattle.tplt.proofs.Demand1.{template-kept}
 use Rattle.swartabelk.specs.Reply.{replyOf, Replied, checkAnswer}
-use Rattle.swartabelk.specs.Code.{Fits}
+use Rattle.swartabelk.specs.inner.Code.{Fits}
 use Rattle.swartabelk.specs.declared.Reply.{Reply}
 use Rattle.swartabelk.proofs.Places.{At, type-unary-at, type-binary-at, type-builtin-at, type-template-at}
 

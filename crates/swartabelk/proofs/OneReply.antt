@@ -18,7 +18,7 @@ use Rattle.call_ty.specs.Calls.{typeBuiltinFn}
 use Rattle.tplt.specs.Templates.{templateOutcome}
 use Rattle.sheet.specs.Machine.{typeSheet}
 use Rattle.swartabelk.specs.Reply.{noValue, replyTo, replyOf, Replied, checkAnswer, SpelledOut, partOf}
-use Rattle.swartabelk.specs.Code.{Fits}
+use Rattle.swartabelk.specs.inner.Code.{Fits}
 use Rattle.swartabelk.specs.declared.Reply.{Reply}
 use Rattle.swartabelk.specs.declared.SpelledReply.{SpelledReply}
 use Rattle.swartabelk.specs.declared.NamePart.{NamePart}

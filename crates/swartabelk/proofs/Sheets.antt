@@ -24,10 +24,10 @@ use Rattle.frame.specs.declared.Item.the-variants.{Push, Unary, Binary, Call, C
 use Rattle.frame.proofs.FrameLaws.{framed, own-place, headed}
 use Rattle.step.specs.Effect.{State, height, operands, below, typeOf, Effect, goes, silent, ends, stops, onto, having, holding, calling, pushEffect, unaryEffect, binaryEffect, callEffect, templateEffect, takeEffect, effectOf, entryOf, bytesOf}
 use Rattle.sheet.specs.Machine.{endAnswer, leftAnswer, after, Turned, more, done, turnOf, onward, runItems, begun, typeSheet}
-use Rattle.step.specs.Code.{Good}
+use Rattle.step.specs.inner.Code.{Good}
 use Rattle.step.proofs.Keeping.{EffectKept, item-kept}
 use Rattle.sheet.proofs.Running.{turn-item, turn-kept, sheet-unsound, sheet-unheaded, sheet-runs}
-use Rattle.swartabelk.specs.Code.{Fits}
+use Rattle.swartabelk.specs.inner.Code.{Fits}
 use Rattle.swartabelk.proofs.Places.{At, entering-at, unary-at, binary-at, call-at}
 
 -- AN ITEM refuses at its own place

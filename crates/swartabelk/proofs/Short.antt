@@ -13,7 +13,7 @@ use Rattle.table.proofs.SoundLaws.{sound-of}
 use Rattle.spell.specs.Reply.{spellingAt, inOrder, spellReply}
 use Rattle.spell.specs.declared.Spelled.{Spelled}
 use Rattle.spell.proofs.Short.{type-slim}
-use Rattle.swartabelk.specs.Code.{SpelledFits}
+use Rattle.swartabelk.specs.inner.Code.{SpelledFits}
 
 by-test : (b : Bool) (x y : Spelled) → (b ≡ true → SpelledFits x) → (b ≡ false → SpelledFits y) → SpelledFits (cond b x y)
 by-test true x y f g = f refl

@@ -14,7 +14,7 @@ use Rattle.spell.specs.declared.Spelled.the-variants as spelled
 use Rattle.swartabelk.specs.Reply.{noValue, tell, replyTo, replyOf, spelledOf, SpelledOut}
 use Rattle.swartabelk.specs.declared.Reply.{Reply}
 use Rattle.swartabelk.specs.declared.SpelledReply.{SpelledReply}
-use Rattle.swartabelk.specs.Code.{Fits, SpelledFits}
+use Rattle.swartabelk.specs.inner.Code.{Fits, SpelledFits}
 
 module _ (a : Answer) (f : Fits a) where
   pub value-fits : (t : TypeNo) (m : ℕ) → a ≡ Value t m → (t .0 < 2 ^ 32) × (m < 2 ^ 32)

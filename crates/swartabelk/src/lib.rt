@@ -13,7 +13,7 @@ ghost use Rattle.call_ty.specs.Calls.{typeBuiltinFn};
 ghost use Rattle.tplt.specs.Templates.{templateOutcome};
 ghost use Rattle.sheet.specs.Machine.{typeSheet};
 ghost use Rattle.swartabelk.specs.Reply.{tell, replyOf, Replied, checkAnswer, spelledOf, SpelledOut, partOf};
-ghost use Rattle.swartabelk.specs.Code.{Fits, SpelledFits};
+ghost use Rattle.swartabelk.specs.inner.Code.{Fits, SpelledFits};
 
 // The type of a reply that has no value, or is a refusal.
 pub const NO_VALUE: u32 = 0xFFFF_FFFF;

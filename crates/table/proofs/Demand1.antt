@@ -19,7 +19,7 @@ use Rattle.table.specs.Denote.{typeAt, tyOf, made, kindOf, pOf, qOf}
 use Rattle.table.specs.Enter.{free}
 use Rattle.table.specs.Stands.{Absent, Stands}
 use Rattle.table.specs.Stands.Part.{whole, inside}
-use Rattle.table.specs.Placing.{standsIn, Standing, here, entryOf, placed, Outcome, turnedDown, entering}
+use Rattle.table.specs.Placing.{standsIn, Standing, standsAt, entryOf, placed, Outcome, turnedDown, entering}
 use Rattle.table.specs.declared.Entry.{Entry}
 use Rattle.answer.specs.declared.TypeNo.{TypeNo}
 use Rattle.answer.specs.declared.Refusal.{Refusal}
@@ -134,7 +134,7 @@ module _ (w : List ℕ) (n : ℕ) (s : Sound w n) where
         (record { stands = rw (x .1) at (stands-here w n s (t .0) (x .0)); newest = inl (refl, refl) })
 
     -- R is absent, and becomes the newest entry
-    module _ (k m : ℕ) (v : List ℕ) (g : Grown w n (elementOf R) (here k m v)) where
+    module _ (k m : ℕ) (v : List ℕ) (g : Grown w n (elementOf R) (standsAt k m v)) where
       abbrev e : Entry
       e = entryOf R k
 
@@ -159,7 +159,7 @@ module _ (w : List ℕ) (n : ℕ) (s : Sound w n) where
               absurd (let z : _≡_ {A = ℕ} 0 1 = cc in omega arith))
           go (inr x) = let a = x .0 in let b = x .1 in outer-absent v m (g .stands .sound) k (omega (arith, s .low)) (omega arith) e
 
-      next-grows : standsIn w n R ≡ Nothing → m + 1 - n ≤ free w n → Grown w n R (here m (m + 1) (putEntry v m e))
+      next-grows : standsIn w n R ≡ Nothing → m + 1 - n ≤ free w n → Grown w n R (standsAt m (m + 1) (putEntry v m e))
       next-grows h room =
           let up = g .stands .grows in
           let z : n + (m + 1 - n) ≡ m + 1 = omega arith in

@@ -11,7 +11,7 @@ use lib.Dec.{leb, ltb, eqb}
 use borrow.Author.Tests.{le-ltb, lt-ltb, lt-leb, ltb-true, ltb-false, leb-true, leb-false, eqb-true}
 use Rattle.conv.specs.Types.{Ty, isWidth, isFloat, formed}
 use Rattle.conv.specs.Types.Ty.{scalar}
-use Rattle.table.specs.Table.{stride, scalars, ceiling, kindVec, kindMat, entryAt, putEntry, Key, keyOf, scalarOk, madeOk, entryOk, findIn, allowedb, Sound, Keeps}
+use Rattle.table.specs.Table.{stride, scalars, ceiling, kindVec, kindMat, entryAt, putEntry, Key, entryKey, scalarOk, madeOk, entryOk, findIn, allowedb, Sound, Keeps}
 use Rattle.table.specs.Denote.{made, typeAt, tyOf}
 use Rattle.table.specs.Enter.{free, missing, entered, enterWords, EnterDone}
 use Rattle.table.specs.Stands.{Absent, Part, Stands}
@@ -30,7 +30,7 @@ use Rattle.table.proofs.FormedLaws.{clean, clean-above, allowed-formed,
 use Rattle.table.proofs.EnterCases.{free-room, missing-at, missing-none, enter-found, enter-full, enter-new, elem-below}
 
 -- the type of an entry depends on its key alone
-pub ty-key : (w : List ℕ) (a b : Entry) → keyOf a ≡ keyOf b → tyOf w a ≡ tyOf w b
+pub ty-key : (w : List ℕ) (a b : Entry) → entryKey a ≡ entryKey b → tyOf w a ≡ tyOf w b
 unfolding tyOf made
 ty-key w a b h = ap (λ (k : Key). tyOf w (record { kind = k .kind; p = k .p; q = k .q; elem = k .elem })) h
 
@@ -123,7 +123,7 @@ module _ (w : List ℕ) (n : ℕ) (s : Sound w n) where
 
   module _ (e : Entry) (ok : allowedb w n e ≡ true) where
     -- a scalar kind is the scalar's entry
-    scalar-there : e .kind < scalars → keyOf (entryAt w (e .kind)) ≡ keyOf e
+    scalar-there : e .kind < scalars → entryKey (entryAt w (e .kind)) ≡ entryKey e
     unfolding allowedb
     scalar-there h =
         let r : scalarOk (e .kind) e ≡ true = rw (lt-ltb (e .kind) scalars h) at ok in
@@ -140,7 +140,7 @@ module _ (w : List ℕ) (n : ℕ) (s : Sound w n) where
         (and-right (ltb (e .elem) n) _ (allowed-row w n s e k ok .1))
 
     -- the type stands in the table only under the entry's key
-    key-of-type : (i : ℕ) → i < n → typeAt w i ≡ tyOf w e → keyOf (entryAt w i) ≡ keyOf e
+    key-of-type : (i : ℕ) → i < n → typeAt w i ≡ tyOf w e → entryKey (entryAt w i) ≡ entryKey e
     key-of-type i l h =
         split (ltb (e .kind) scalars)
         (λ b.

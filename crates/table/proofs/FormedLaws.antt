@@ -8,7 +8,7 @@ use native.Mathlib.Omega.{arith}
 use lib.Dec.{leb, ltb, eqb}
 use borrow.Author.Tests.{le-ltb, lt-ltb, ltb-true, ltb-false, ne-eqb}
 use Rattle.conv.specs.Types.{Ty, storage, handle, readWrite, isWidth, isFloat, isAbstract, abstractTy, isValue, isRuntime, isFract, formed}
-use Rattle.table.specs.Table.{scalars, kindVec, kindMat, kindArray, kindRuntime, kindAtomic, kindPtr, kindRef, kindFrexp, kindModf, entryAt, plain, stored, sized, rowOk, baseOf, madeOk, allowedb, Sound}
+use Rattle.table.specs.Table.{scalars, kindVec, kindMat, kindArray, kindRuntime, kindAtomic, kindPtr, kindRef, kindFrexp, kindModf, entryAt, wordsUnused, stored, sized, rowOk, baseOf, madeOk, allowedb, Sound}
 use Rattle.table.specs.Denote.{made, typeAt, tyOf, kindOf}
 use Rattle.table.specs.declared.Entry.{Entry}
 use Rattle.table.proofs.TableLaws.{elemOf, base-scalar}
@@ -22,11 +22,11 @@ clean e =
     cond (eqb (e .kind) kindVec) (eqb (e .q) 0)
     (cond (eqb (e .kind) kindMat) true
     (cond (eqb (e .kind) kindArray) (eqb (e .q) 0)
-    (cond (eqb (e .kind) kindRuntime) (plain e)
-    (cond (eqb (e .kind) kindAtomic) (plain e)
+    (cond (eqb (e .kind) kindRuntime) (wordsUnused e)
+    (cond (eqb (e .kind) kindAtomic) (wordsUnused e)
     (cond (eqb (e .kind) kindPtr) true
     (cond (eqb (e .kind) kindRef) true
-    (cond (eqb (e .kind) kindFrexp || eqb (e .kind) kindModf) (plain e) false)))))))
+    (cond (eqb (e .kind) kindFrexp || eqb (e .kind) kindModf) (wordsUnused e) false)))))))
 
 and-swap : (a b c : Bool) → (a && b && c) ≡ (b && (a && c))
 and-swap true true c = refl
@@ -64,12 +64,12 @@ module _ (e : Entry) (t : Ty) (ek eb : ℕ) (st : stored ek ≡ isValue t) (rt :
       (λ k. rw k
       (and-swap (leb 1 (e .p)) (eqb (e .q) 0) (sized ek)
       ∙ ap (λ (z : Bool). eqb (e .q) 0 && z) (ap (λ (z : Bool). leb 1 (e .p) && z) sz ∙ so (leb 1 (e .p) && (isValue t && not (isRuntime t))))))
-      (λ k. rw k (ap (λ (z : Bool). plain e && z) (sz ∙ so (isValue t && not (isRuntime t)))))
+      (λ k. rw k (ap (λ (z : Bool). wordsUnused e && z) (sz ∙ so (isValue t && not (isRuntime t)))))
       (λ k. rw k refl)
       (λ k. rw k (pointer (leb (e .p) storage && leb (e .q) readWrite)))
       (λ k. rw k (pointer (leb (e .p) handle && leb (e .q) readWrite)))
-      (λ k. rw k (result (plain e)))
-      (λ k. rw k (result (plain e)))
+      (λ k. rw k (result (wordsUnused e)))
+      (λ k. rw k (result (wordsUnused e)))
       (λ n1 n2 n3 n4 n5 n6 n7 n8 n9. rw (n1, n2, n3, n4, n5, n6, n7, n8, n9))
 
 module _ (w : List ℕ) (n : ℕ) (s : Sound w n) where

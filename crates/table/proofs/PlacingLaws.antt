@@ -18,7 +18,7 @@ use Rattle.table.specs.Table.{scalars, putEntry, orElse, findIn, allowed
 use Rattle.table.specs.Denote.{typeAt, tyOf, made, kindOf, pOf, qOf}
 use Rattle.table.specs.Enter.{free, missing, numberOr, addAt, entered, enterWords, EnterDone, entryAnswer, container, EnterTwoDone}
 use Rattle.table.specs.Stands.{Absent}
-use Rattle.table.specs.Placing.{standsIn, Standing, here, entryOf, over, placed, Outcome, turnedDown, entering}
+use Rattle.table.specs.Placing.{standsIn, Standing, standsAt, entryOf, placedOver, placed, Outcome, turnedDown, entering}
 use Rattle.table.specs.declared.Entry.{Entry}
 use Rattle.answer.specs.declared.TypeNo.{TypeNo}
 use Rattle.answer.specs.declared.Reason.the-variants.{NoRoom}
@@ -70,7 +70,7 @@ module _ (w : List ℕ) (R : Ty) where
           (eq-or-lt-of-le (le-of-suc-le-suc l))
 
 -- a type above the scalars is placed over its element
-pub placed-over : (w : List ℕ) (n : ℕ) (R : Ty) → isScalar R ≡ false → placed w n R ≡ over w n R (placed w n (elementOf R))
+pub placed-over : (w : List ℕ) (n : ℕ) (R : Ty) → isScalar R ≡ false → placed w n R ≡ placedOver w n R (placed w n (elementOf R))
 unfolding placed isScalar elementOf
 placed-over w n (scalar s) h = absurd (let z : _≡_ {A = ℕ} 0 1 = cc in omega arith)
 placed-over w n (vec k s) h = refl
@@ -83,17 +83,17 @@ placed-over w n (ref a b t) h = refl
 placed-over w n (frexp t) h = refl
 placed-over w n (modf t) h = refl
 
-pub placed-scalar : (w : List ℕ) (n s : ℕ) → placed w n (scalar s) ≡ here s n w
+pub placed-scalar : (w : List ℕ) (n s : ℕ) → placed w n (scalar s) ≡ standsAt s n w
 unfolding placed
 placed-scalar w n s = refl
 
-pub over-found : (w : List ℕ) (n : ℕ) (R : Ty) (inner : Standing) (t : TypeNo) → standsIn w n R ≡ At t → over w n R inner ≡ here (t .0) n w
-unfolding over
+pub over-found : (w : List ℕ) (n : ℕ) (R : Ty) (inner : Standing) (t : TypeNo) → standsIn w n R ≡ At t → placedOver w n R inner ≡ standsAt (t .0) n w
+unfolding placedOver
 over-found w n R inner t q = rw q
 
 pub over-next : (w : List ℕ) (n : ℕ) (R : Ty) (inner : Standing) → standsIn w n R ≡ Nothing
-    → over w n R inner ≡ here (inner .used) (inner .used + 1) (putEntry (inner .words) (inner .used) (entryOf R (inner .number)))
-unfolding over
+    → placedOver w n R inner ≡ standsAt (inner .used) (inner .used + 1) (putEntry (inner .words) (inner .used) (entryOf R (inner .number)))
+unfolding placedOver
 over-next w n R inner q = rw q
 
 module _ (w : List ℕ) (n : ℕ) (s : Sound w n) where
@@ -102,7 +102,7 @@ module _ (w : List ℕ) (n : ℕ) (s : Sound w n) where
   number-of i R l e = stands-at w R n i l e (λ j lj h. type-injective w n s j i lj l (h ∙ sym e))
 
   -- PRESENT: it stays at its number, and nothing is added
-  pub placed-at : (i : ℕ) (R : Ty) → i < n → typeAt w i ≡ R → placed w n R ≡ here i n w
+  pub placed-at : (i : ℕ) (R : Ty) → i < n → typeAt w i ≡ R → placed w n R ≡ standsAt i n w
   placed-at i R l e =
       split (ltb i scalars)
       (λ b. let h = ltb-true i scalars b in ap (placed w n) (sym e ∙ type-scalar w i h) ∙ placed-scalar w n i)
@@ -120,17 +120,17 @@ module _ (w : List ℕ) (n : ℕ) (s : Sound w n) where
         let q = ap kindOf (ty-made w e k) ∙ x .kind in
         λ i. record { kind = (ap kindOf (ty-made w e k) ∙ x .kind) i; p = (ap pOf (ty-made w e k) ∙ x .p) i; q = (ap qOf (ty-made w e k) ∙ x .q) i; elem = e .elem }
 
-    above : scalars ≤ e .kind → placed w n (tyOf w e) ≡ over w n (tyOf w e) (here (e .elem) n w)
+    above : scalars ≤ e .kind → placed w n (tyOf w e) ≡ placedOver w n (tyOf w e) (standsAt (e .elem) n w)
     above k =
         let x = entry-words w n s e ok k in
         let m = ty-made w e k in
         placed-over w n (tyOf w e) (ap isScalar m ∙ x .above)
-        ∙ ap (over w n (tyOf w e)) (ap (placed w n) (ap elementOf m ∙ x .elem) ∙ placed-at (e .elem) (typeAt w (e .elem)) (allowed-row w n s e k ok .0) refl)
+        ∙ ap (placedOver w n (tyOf w e)) (ap (placed w n) (ap elementOf m ∙ x .elem) ∙ placed-at (e .elem) (typeAt w (e .elem)) (allowed-row w n s e k ok .0) refl)
 
-    found-placed : (t : TypeNo) → findIn w n e ≡ At t → placed w n (tyOf w e) ≡ here (t .0) n w
+    found-placed : (t : TypeNo) → findIn w n e ≡ At t → placed w n (tyOf w e) ≡ standsAt (t .0) n w
     found-placed t h = let a = at-type w n s e ok t h in placed-at (t .0) (tyOf w e) (a .0) (a .1)
 
-    new-placed : findIn w n e ≡ Nothing → placed w n (tyOf w e) ≡ here n (n + 1) (putEntry w n e)
+    new-placed : findIn w n e ≡ Nothing → placed w n (tyOf w e) ≡ standsAt n (n + 1) (putEntry w n e)
     new-placed h =
         split (ltb (e .kind) scalars)
         (λ b.
@@ -138,17 +138,17 @@ module _ (w : List ℕ) (n : ℕ) (s : Sound w n) where
         absurd (none-absent w n s e ok h (e .kind) (omega (arith, s .low)) (type-scalar w (e .kind) k ∙ sym (ty-scalar w e k))))
         (λ b.
         let k : scalars ≤ e .kind = ltb-false (e .kind) scalars b in
-        above k ∙ over-next w n (tyOf w e) (here (e .elem) n w) (stands-none w (tyOf w e) n (none-absent w n s e ok h)) ∙ ap (λ (f : Entry). here n (n + 1) (putEntry w n f)) (entry-of k))
+        above k ∙ over-next w n (tyOf w e) (standsAt (e .elem) n w) (stands-none w (tyOf w e) n (none-absent w n s e ok h)) ∙ ap (λ (f : Entry). standsAt n (n + 1) (putEntry w n f)) (entry-of k))
 
-    pub placed-one : placed w n (tyOf w e) ≡ here (numberOr (findIn w n e) n) (n + missing w n e) (addAt (findIn w n e) w n e)
+    pub placed-one : placed w n (tyOf w e) ≡ standsAt (numberOr (findIn w n e) n) (n + missing w n e) (addAt (findIn w n e) w n e)
     placed-one = go (findIn w n e) refl
       where
-        go : (r : Found) → findIn w n e ≡ r → placed w n (tyOf w e) ≡ here (numberOr (findIn w n e) n) (n + missing w n e) (addAt (findIn w n e) w n e)
+        go : (r : Found) → findIn w n e ≡ r → placed w n (tyOf w e) ≡ standsAt (numberOr (findIn w n e) n) (n + missing w n e) (addAt (findIn w n e) w n e)
         go (At t) h = let z : n + 0 ≡ n = omega arith in found-placed t h ∙ sym (rw (h, missing-at w n e t h, z))
         go Nothing h = new-placed h ∙ sym (rw (h, missing-none w n e h))
 
 -- the outcome by what is missing
-outcome-by : (place : ℕ) (w : List ℕ) (n : ℕ) (R : Ty) (k d : ℕ) (v : List ℕ) → placed w n R ≡ here k (n + d) v
+outcome-by : (place : ℕ) (w : List ℕ) (n : ℕ) (R : Ty) (k d : ℕ) (v : List ℕ) → placed w n R ≡ standsAt k (n + d) v
     → entering place w n R ≡ cond (leb d (free w n)) (record { answer = accept k (n + d); words = v }) (turnedDown NoRoom place w n)
 unfolding entering
 outcome-by place w n R k d v e = let z : n + d - n ≡ d = omega arith in rw (e, z)
@@ -200,13 +200,13 @@ module _ (place : ℕ) (w : List ℕ) (n : ℕ) (s : Sound w n) where
         let under : k < n = let x = elem-in w n s i l no in omega arith in
         none-absent w n s inner ok h k under (elem-of w n s i l no ∙ ap elementOf q ∙ element)
 
-    new-two : findIn w n inner ≡ Nothing → placed w n (made outer (tyOf w inner)) ≡ here (n + 1) (n + 2) (putEntry (putEntry w n inner) (n + 1) (container outer n))
+    new-two : findIn w n inner ≡ Nothing → placed w n (made outer (tyOf w inner)) ≡ standsAt (n + 1) (n + 2) (putEntry (putEntry w n inner) (n + 1) (container outer n))
     new-two h =
         let z : n + 1 + 1 ≡ n + 2 = omega arith in
         placed-over w n (made outer (tyOf w inner)) (holds outer hold (tyOf w inner) .above)
-        ∙ ap (over w n (made outer (tyOf w inner))) (ap (placed w n) element ∙ new-placed w n s inner ok h)
-        ∙ over-next w n (made outer (tyOf w inner)) (here n (n + 1) (putEntry w n inner)) (stands-none w (made outer (tyOf w inner)) n (both-absent h))
-        ∙ (λ i. here (n + 1) (z i) (putEntry (putEntry w n inner) (n + 1) (words (tyOf w inner) n i)))
+        ∙ ap (placedOver w n (made outer (tyOf w inner))) (ap (placed w n) element ∙ new-placed w n s inner ok h)
+        ∙ over-next w n (made outer (tyOf w inner)) (standsAt n (n + 1) (putEntry w n inner)) (stands-none w (made outer (tyOf w inner)) n (both-absent h))
+        ∙ (λ i. standsAt (n + 1) (z i) (putEntry (putEntry w n inner) (n + 1) (words (tyOf w inner) n i)))
 
     absent-two : findIn w n inner ≡ Nothing → (r : Entered) (v : List ℕ) → EnterTwoDone w n inner outer r v
         → record { answer = entryAnswer place r n; words = v } ≡ entering place w n (made outer (tyOf w inner))
@@ -234,6 +234,6 @@ module _ (place : ℕ) (w : List ℕ) (n : ℕ) (s : Sound w n) where
   pub standing-outcome : (i : ℕ) (R : Ty) → i < n → typeAt w i ≡ R → entering place w n R ≡ record { answer = accept i n; words = w }
   standing-outcome i R l e =
       let z : n ≡ n + 0 = omega arith in
-      outcome-by place w n R i 0 w (placed-at w n s i R l e ∙ (λ j. here i (z j) w))
+      outcome-by place w n R i 0 w (placed-at w n s i R l e ∙ (λ j. standsAt i (z j) w))
       ∙ any-room (free w n) _ _
       ∙ (λ j. record { answer = accept i (sym z j); words = w })

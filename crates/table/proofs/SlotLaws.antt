@@ -1,23 +1,24 @@
--- The slots of the soundness test: looking through an entry's slot finds what looking through all entries finds. Assumes nothing.
-use Prim.Native.Nat.{ℕ, zero, suc, _+_, _*_, _%_, _≤_, _<_}
-use mathlib.Core.Path.{_≡_, refl, sym, _∙_, ap}
-use mathlib.Core.Bool.{Bool, true, false, _&&_, cond}
+-- The ways of the soundness test: looking along an entry's way finds what looking through all entries finds. Assumes nothing.
+use Prim.Native.Nat.{ℕ, zero, suc, _+_, _*_, _/_, _≤_, _<_}
+use mathlib.Core.Path.{_≡_, refl, sym, _∙_, ap, subst}
+use mathlib.Core.Bool.{Bool, true, false, _&&_}
 use mathlib.Core.List.{List, [], _∷_}
 use mathlib.Core.Logic.{_≢_}
 use native.Mathlib.Omega.{arith}
-use native.Mathlib.Numerals.{add-one}
+use native.Mathlib.Nat.{mul-le-mul}
 use lib.ListN.{length, getD, set, length-set}
 use lib.Seq.{getD-set-same, getD-set-other}
 use lib.Dec.{ltb, eqb}
-use borrow.Author.Tests.{lt-ltb, le-ltb, ltb-true, ltb-false, eqb-true, eqb-false, eq-eqb, ne-eqb}
+use borrow.Author.Tests.{lt-ltb, le-ltb, ltb-true, ltb-false, eqb-true, eqb-false, ne-eqb}
 use Rattle.table.specs.Tools.{allBelow}
-use Rattle.table.specs.Table.{scalars, ceiling, entryAt, Key, sameb, rowOk, madeOk, entryOk, orElse, findIn, isNothing, goodAt}
-use Rattle.table.specs.Slots.{scalarAt, slots, slotOf, lastIn, Links, Slotted}
+use Rattle.table.specs.Table.{scalars, ceiling, entryAt, Key, entryKey, sameb, rowOk, baseOf, madeOk, entryOk, findIn, isNothing, goodAt}
+use Rattle.table.specs.inner.Slots.{scalarAt, slots, places, wordEnd, entrySlot, turnsOf, fork, Way, Linked, Free, Based}
+use Rattle.table.specs.inner.Slots.Way.{here, on}
 use Rattle.table.specs.declared.Entry.{Entry}
 use Rattle.table.specs.declared.Found.{Found}
 use Rattle.table.specs.declared.Found.the-variants.{At, Nothing}
-use Rattle.table.proofs.TableLaws.{find-none}
-use Rattle.table.proofs.SoundLaws.{and-left, and-right, and-both, and-on, all-at, all-of, sameb-true, find-hit, find-miss}
+use Rattle.table.proofs.TableLaws.{elemOf, base-scalar, base-step}
+use Rattle.table.proofs.SoundLaws.{and-left, and-right, and-both, all-at, all-of, sameb-true, sameb-refl, find-hit, find-miss}
 use Rattle.table.proofs.KindLaws.{split, clash}
 
 -- THE SCALARS
@@ -68,153 +69,147 @@ module _ (w : List ℕ) (h : allBelow (scalarAt w) scalars ≡ true) (e : Entry)
       (λ j lj q. let a = scalar-kind w h j lj in let b : entryAt w j .kind ≡ e .kind = ap (λ (k : Key). k .kind) q in omega arith)
 
 -- an entry above the scalars is good if its row holds and it is new
-pub made-good : (w : List ℕ) (i : ℕ) → scalars ≤ i → allBelow (scalarAt w) scalars ≡ true → (e : Entry) → e ≡ entryAt w i → (m new : Bool) → m ≡ madeOk w i e
-    → (findIn w scalars e ≡ Nothing → scalars ≤ i → new ≡ isNothing (findIn w i e)) → (m && new) ≡ goodAt w i
+pub made-good : (w : List ℕ) (i : ℕ) → scalars ≤ i → (e : Entry) → e ≡ entryAt w i → (madeOk w i e && isNothing (findIn w i e)) ≡ goodAt w i
 unfolding entryOk
-made-good w i l h e q m new x y =
-    let s : (m && new) ≡ (entryOk w i e && isNothing (findIn w i e)) = rw (le-ltb i 7 l, ← x) (and-on m (λ t. y (made-new w h e i (sym x ∙ t)) l)) in
+made-good w i l e q =
+    let s : (madeOk w i e && isNothing (findIn w i e)) ≡ (entryOk w i e && isNothing (findIn w i e)) = rw (le-ltb i 7 l) in
     s ∙ ap (λ (z : Entry). entryOk w i z && isNothing (findIn w i z)) q
 
--- THE SLOTS
+pub made-below : (w : List ℕ) (i : ℕ) (e : Entry) → madeOk w i e ≡ true → e .elem < i
+unfolding madeOk
+made-below w i e h = ltb-true _ _ (and-left (ltb (e .elem) i) _ h)
 
-pub slot-below : (e : Entry) → slotOf e < slots
-unfolding slotOf
+-- THE WAYS
+
+pub square : {x : ℕ} → x < wordEnd → x * x ≤ 4294967295 * 4294967295
+square {x} l = let h : x ≤ 4294967295 = omega arith in mul-le-mul h h
+
+pub slot-below : (e : Entry) → entrySlot e < slots
+unfolding entrySlot
 slot-below e = omega arith
 
--- equal entries have one slot
-same-slot : (a b : Entry) → eqb (slotOf a) (slotOf b) ≡ false → sameb a b ≡ false
-unfolding slotOf
-same-slot a b h =
-    split (sameb a b)
-    (λ t. clash (eq-eqb (slotOf a) (slotOf b) (ap (λ (k : Key). (k .kind % 256 * 37 + k .p % 256 * 11 + k .q % 256 * 101 + k .elem % 256) % 256) (sameb-true a b t))) h)
-    (λ f. f)
+withKey : Key → Entry
+withKey k = record { kind = k .kind; p = k .p; q = k .q; elem = k .elem }
 
-orElse-nothing : (f : Found) → orElse f Nothing ≡ f
-orElse-nothing (At t) = refl
-orElse-nothing Nothing = refl
+-- equal entries have one way
+same-way : (links : List ℕ) (a b : Entry) (k : ℕ) → entryKey a ≡ entryKey b → Way links (entrySlot a) (turnsOf a) k → Way links (entrySlot b) (turnsOf b) k
+unfolding withKey
+same-way links a b k q v = subst (λ (x : Key). Way links (entrySlot (withKey x)) (turnsOf (withKey x)) k) q v
 
-module _ (w : List ℕ) where
-  -- the scalars are in no slot
-  pub last-few : (n s : ℕ) → n ≤ scalars → lastIn w n s ≡ 0
-  unfolding lastIn
-  last-few zero s h = refl
-  last-few (suc n) s h = rw (lt-ltb n 7 (omega arith))
+-- every entry that has a place keeps it
+abbrev Grown : List ℕ → List ℕ → Type 0
+Grown links more = (place : ℕ) → 0 < getD links place 0 → getD more place 0 ≡ getD links place 0
 
-  -- what stands in a slot is no scalar and has that slot
-  last-slot : (n s k : ℕ) → lastIn w n s ≡ suc k → (k < n) × (scalars ≤ k) × (slotOf (entryAt w k) ≡ s)
-  unfolding lastIn
-  last-slot zero s k h = absurd (omega arith)
-  last-slot (suc n) s k h = go (last-slot n s k)
-    where
-      go : (lastIn w n s ≡ suc k → (k < n) × (scalars ≤ k) × (slotOf (entryAt w k) ≡ s)) → (k < suc n) × (scalars ≤ k) × (slotOf (entryAt w k) ≡ s)
-      go ih =
-          split (ltb n 7)
-          (λ a. let q : 0 ≡ suc k = rw a at h in absurd (omega arith))
-          (λ a.
-          let l : 7 ≤ n = ltb-false _ _ a in
-          split (eqb (slotOf (entryAt w n)) s)
-          (λ b. let q : suc n ≡ suc k = rw (a, b) at h in let e : n ≡ k = omega arith in (omega arith, omega arith, rw (← e) (eqb-true _ _ b)))
-          (λ b. let q : lastIn w n s ≡ suc k = rw (a, b) at h in let d = ih q in (omega arith, d .1, d .2)))
+way-end : {links : List ℕ} {place turns k : ℕ} → getD links place 0 ≡ 0 → Way links place turns k → ⊥
+way-end z (here p q) = omega arith
+way-end z (on p r) = omega arith
 
-  -- an entry that differs from e may be passed by
-  find-pass : (e : Entry) (n : ℕ) → sameb (entryAt w n) e ≡ false → findIn w (suc n) e ≡ findIn w n e
-  unfolding findIn
-  find-pass e n h = rw h (orElse-nothing (findIn w n e))
+way-next : {links : List ℕ} {place turns k : ℕ} (at : ℕ) → getD links place 0 ≡ at → k ≢ at → Way links place turns k → Way links (fork at turns) (turns / 2) k
+way-next at q d (here p r) = absurd (d (sym r ∙ q))
+way-next {links} {place} {turns} {k} at q d (on p r) = subst (λ x. Way links (fork x turns) (turns / 2) k) q r
 
-  -- so may all that are in another slot
-  find-skip : (e : Entry) → findIn w scalars e ≡ Nothing → (n : ℕ) → scalars ≤ n → findIn w n e ≡ findIn w (lastIn w n (slotOf e)) e
-  unfolding lastIn
-  find-skip e h zero l = absurd (omega arith)
-  find-skip e h (suc n) l = go (find-skip e h n)
-    where
-      go : (scalars ≤ n → findIn w n e ≡ findIn w (lastIn w n (slotOf e)) e) → findIn w (suc n) e ≡ findIn w (cond (ltb n scalars) 0 (cond (eqb (slotOf (entryAt w n)) (slotOf e)) (suc n) (lastIn w n (slotOf e)))) e
-      go ih =
-          split (ltb n scalars)
-          (λ a. let k : n < 7 = ltb-true _ _ a in let m : suc n ≡ 7 = omega arith in rw (a, m) (h ∙ sym (find-none w e)))
-          (λ a.
-          let k : 7 ≤ n = ltb-false _ _ a in
-          split (eqb (slotOf (entryAt w n)) (slotOf e))
-          (λ b. rw (a, b))
-          (λ b. rw (a, b) (find-pass e n (same-slot (entryAt w n) e b) ∙ ih k)))
+way-kept : {links more : List ℕ} {place turns k : ℕ} → Grown links more → Way links place turns k → Way more place turns k
+way-kept {links} {more} {place} g (here p q) = here p (g place (omega arith) ∙ q)
+way-kept {links} {more} {place} {turns} {k} g (on p r) =
+    let m = g place p in
+    on {place = place} (omega arith) (subst (λ x. Way more (fork x turns) (turns / 2) k) (sym m) (way-kept g r))
 
--- looking through e's slot has come to `at`: the entries from there on are not e, or not in its slot
-pub record Walk (w : List ℕ) (i : ℕ) (e : Entry) (at : ℕ) : Type 0 where
-  pub low : at ≤ i
-  pub left : findIn w scalars e ≡ Nothing → scalars ≤ i → findIn w i e ≡ findIn w at e
-  pub own : (k : ℕ) → at ≡ suc k → (scalars ≤ k) × (slotOf (entryAt w k) ≡ slotOf e)
+set-grown : (links : List ℕ) (place k : ℕ) → getD links place 0 ≡ 0 → Grown links (set links place k)
+set-grown links place k z j l = getD-set-other links place j k 0 (λ q. let m : getD links j 0 ≡ 0 = ap (λ x. getD links x 0) q ∙ z in omega arith)
 
-module _ (w : List ℕ) (i : ℕ) (e : Entry) where
-  last-low : (n s : ℕ) → lastIn w n s ≤ n
-  last-low n s = go (lastIn w n s) refl
-    where
-      go : (x : ℕ) → lastIn w n s ≡ x → x ≤ n
-      go zero q = omega arith
-      go (suc k) q = let d = last-slot w n s k q in let b = d .0 in omega arith
+-- looking along e's way has come to a place: e stands from there on or nowhere, and what stands from there on stands on e's way
+pub record Walk (w : List ℕ) (i : ℕ) (links : List ℕ) (e : Entry) (place turns : ℕ) : Type 0 where
+  pub inside : place < slots + 2 * i
+  pub left : (k : ℕ) → entryKey (entryAt w k) ≡ entryKey e → Way links (entrySlot e) (turnsOf e) k → Way links place turns k
+  pub back : (more : List ℕ) → Grown links more → (k : ℕ) → Way more place turns k → Way more (entrySlot e) (turnsOf e) k
 
-  pub walk-start : (at : ℕ) → at ≡ lastIn w i (slotOf e) → Walk w i e at
-  walk-start at q =
+module _ (w : List ℕ) (i : ℕ) (links : List ℕ) (e : Entry) (low : scalars ≤ i) (high : i ≤ ceiling) (s : Linked w i links) where
+  pub walk-start : (place turns : ℕ) → place ≡ entrySlot e → turns ≡ turnsOf e → Walk w i links e place turns
+  walk-start place turns p q =
       record {
-        low = let l = last-low i (slotOf e) in omega arith;
-        left = λ h l. find-skip w e h i l ∙ ap (λ x. findIn w x e) (sym q);
-        own = λ k z. let d = last-slot w i (slotOf e) k (sym q ∙ z) in (d .1, d .2);
+        inside = let b = slot-below e in omega arith;
+        left = λ k _ v. rw (p, q) v;
+        back = λ more _ k v. rw (p, q) at v;
       }
 
-  module _ (at k : ℕ) (z : at ≡ suc k) (walk : Walk w i e at) where
-    pub walk-hit : sameb (entryAt w k) e ≡ true → findIn w scalars e ≡ Nothing → scalars ≤ i → false ≡ isNothing (findIn w i e)
-    walk-hit s h l = go (findIn w i e) refl
+  module _ (place turns : ℕ) (walk : Walk w i links e place turns) (at : ℕ) (here-at : at ≡ getD links place 0) where
+    pub walk-hit : sameb (entryAt w at) e ≡ true → false ≡ isNothing (findIn w i e)
+    walk-hit h = go (findIn w i e) refl
       where
         go : (f : Found) → findIn w i e ≡ f → false ≡ isNothing f
         go (At t) q = refl
-        go Nothing q = let m = walk .low in absurd (find-hit w e i k (omega arith) (sameb-true (entryAt w k) e s) q)
+        go Nothing q = let m = s .low place in absurd (find-hit w e i at (omega arith) (sameb-true (entryAt w at) e h) q)
 
-    pub walk-step : (before : List ℕ) → Links w i before → sameb (entryAt w k) e ≡ false → (next : ℕ) → next ≡ getD before k 0 → Walk w i e next × (next < at)
-    walk-step before links s next q =
-        let m = walk .low in
-        let o = walk .own k z in
-        let r : next ≡ lastIn w k (slotOf e) = q ∙ links k (omega arith) ∙ ap (lastIn w k) (o .1) in
-        let b = last-low k (slotOf e) in (
-          record {
-            low = omega arith;
-            left = λ h l. walk .left h l ∙ ap (λ x. findIn w x e) z ∙ find-pass w e k s ∙ find-skip w e h k (o .0) ∙ ap (λ x. findIn w x e) (sym r);
-            own = λ j y. let d = last-slot w k (slotOf e) j (sym r ∙ y) in (d .1, d .2);
-          },
-          omega arith,
-        )
+    pub walk-rise : 0 < at → place < fork at turns
+    walk-rise p = let r = s .rising place (omega arith) in omega arith
 
-  pub walk-end : (at : ℕ) → at ≡ 0 → Walk w i e at → findIn w scalars e ≡ Nothing → scalars ≤ i → true ≡ isNothing (findIn w i e)
-  walk-end at z walk h l = sym (ap isNothing (walk .left h l ∙ ap (λ x. findIn w x e) z ∙ find-none w e))
+    pub walk-step : 0 < at → sameb (entryAt w at) e ≡ false → Walk w i links e (fork at turns) (turns / 2)
+    walk-step p h =
+        record {
+          inside = let m = s .low place in omega arith;
+          left = λ k q v. way-next at (sym here-at) (λ z. clash (sameb-refl (entryAt w at) e (ap (λ x. entryKey (entryAt w x)) (sym z) ∙ q)) h) (walk .left k q v);
+          back = λ more g k v.
+              let m : getD more place 0 ≡ at = g place (omega arith) ∙ sym here-at in
+              walk .back more g k (on {place = place} (omega arith) (subst (λ x. Way more (fork x turns) (turns / 2) k) (sym m) v));
+        }
 
--- the next entry is put into its slot
-module _ (w : List ℕ) (i : ℕ) (low : scalars ≤ i) (high : i < ceiling) (last before : List ℕ) (s : Slotted w i last before) where
-  pub slotted-next : (k : ℕ) → k ≡ slotOf (entryAt w i) → Slotted w (i + 1) (set last k (i + 1)) (set before i (getD last k 0))
-  unfolding lastIn
-  slotted-next k q =
-      let b = slot-below (entryAt w i) in
-      let wide = s .wide in
-      let long = s .long in
-      record {
-        wide = length-set last k (i + 1) ∙ s .wide;
-        long = length-set before i (getD last k 0) ∙ s .long;
-        ends = λ j l.
-            split (eqb (slotOf (entryAt w i)) j)
-            (λ t.
-            let e : k ≡ j = q ∙ eqb-true _ _ t in
-            let lj : j < length last = omega arith in
-            rw (add-one, e, le-ltb i 7 low, t) (getD-set-same last j (suc i) 0 lj))
-            (λ f.
-            let d : slotOf (entryAt w i) ≢ j = eqb-false _ _ f in
-            let e : j ≢ k = λ z. d (sym q ∙ sym z) in
-            rw (add-one, le-ltb i 7 low, f) (getD-set-other last k j (suc i) 0 e ∙ s .ends j l));
-        linked = λ j l.
-            split (eqb j i)
-            (λ t.
-            let e : j ≡ i = eqb-true _ _ t in
-            let li : i < length before = omega arith in
-            rw e (getD-set-same before i (getD last k 0) 0 li ∙ s .ends k (omega arith) ∙ ap (lastIn w i) q))
-            (λ f. let e : j ≢ i = eqb-false _ _ f in getD-set-other before i j (getD last k 0) 0 e ∙ s .linked j (omega arith));
-      }
+    pub walk-end : at ≡ 0 → findIn w scalars e ≡ Nothing → Free w i links e place
+    walk-end z none =
+        let empty : getD links place 0 ≡ 0 = sym here-at ∙ z in
+        let wide = s .wide in
+        let inside = walk .inside in
+        record {
+          new = ap isNothing
+              (find-miss w e i
+              (λ j l q.
+              split (ltb j scalars)
+              (λ a. find-hit w e scalars j (ltb-true _ _ a) q none)
+              (λ a. way-end empty (walk .left j q (same-way links (entryAt w j) e j q (s .standing j (ltb-false _ _ a) l))))));
+          below = inside;
+          empty = empty;
+          reached = λ k p. walk .back (set links place k) (set-grown links place k empty) k (here p (getD-set-same links place k 0 (omega arith)));
+        }
 
--- empty slots, which a test finds
+-- the next entry takes the free place on its way
+pub linked-next : (w : List ℕ) (i : ℕ) → scalars ≤ i → i < ceiling → (links : List ℕ) → Linked w i links → (e : Entry) → e ≡ entryAt w i → (place : ℕ) → Free w i links e place → Linked w (i + 1) (set links place i)
+linked-next w i low high links s e q place f =
+    let wide = s .wide in
+    let below = f .below in
+    let taken : getD (set links place i) place 0 ≡ i = getD-set-same links place i 0 (omega arith) in
+    let other : (j : ℕ) → j ≢ place → getD (set links place i) j 0 ≡ getD links j 0 = λ j d. getD-set-other links place j i 0 d in
+    record {
+      wide = length-set links place i ∙ s .wide;
+      low = λ j.
+          split (eqb j place)
+          (λ t. rw (eqb-true j place t, taken) (omega arith))
+          (λ t. let m = other j (eqb-false j place t) in let l = s .low j in omega arith);
+      rising = λ j p.
+          split (eqb j place)
+          (λ t. rw (eqb-true j place t, taken) (omega arith))
+          (λ t. let m = other j (eqb-false j place t) in let l = s .rising j (omega arith) in omega arith);
+      standing = λ k lk l.
+          split (eqb k i)
+          (λ t. rw (eqb-true k i t) (subst (λ (x : Entry). Way (set links place i) (entrySlot x) (turnsOf x) i) q (f .reached i (omega arith))))
+          (λ t. let d : k ≢ i = eqb-false k i t in way-kept (set-grown links place i (f .empty)) (s .standing k lk (omega arith)));
+    }
+
+-- THE INNERMOST SCALARS
+
+pub based-next : (w : List ℕ) (i : ℕ) → scalars ≤ i → i < ceiling → (bases : List ℕ) → Based w i bases → (el : ℕ) → el ≡ elemOf w i → el < i → Based w (i + 1) (set bases i (getD bases el 0))
+based-next w i low high bases s el q l =
+    let long = s .long in
+    record {
+      long = length-set bases i (getD bases el 0) ∙ s .long;
+      base = λ k lk.
+          split (eqb k i)
+          (λ t. rw (eqb-true k i t) (getD-set-same bases i (getD bases el 0) 0 (omega arith) ∙ s .base el l ∙ ap (baseOf w) q ∙ sym (base-step w i low (omega arith))))
+          (λ t. let d : k ≢ i = eqb-false k i t in getD-set-other bases i k (getD bases el 0) 0 d ∙ s .base k (omega arith));
+    }
+
+pub based-scalars : (w bases : List ℕ) → length bases ≡ ceiling → ((k : ℕ) → k < scalars → getD bases k 0 ≡ k) → Based w scalars bases
+based-scalars w bases h f = record { long = h; base = λ k l. f k l ∙ sym (base-scalar w k l) }
+
+-- free places, which a test finds
 unfoldable pub zeros : List ℕ → Bool
 zeros [] = true
 zeros (x ∷ xs) = eqb x 0 && zeros xs
@@ -225,11 +220,11 @@ zero-at [] h i = refl
 zero-at (x ∷ xs) h zero = eqb-true x 0 (and-left (eqb x 0) _ h)
 zero-at (x ∷ xs) h (suc i) = zero-at xs (and-right (eqb x 0) _ h) i
 
-pub slotted-none : (w last before : List ℕ) → length last ≡ slots → length before ≡ ceiling → zeros last ≡ true → zeros before ≡ true → Slotted w scalars last before
-slotted-none w last before a b p q =
+pub linked-none : (w links : List ℕ) → length links ≡ places → zeros links ≡ true → Linked w scalars links
+linked-none w links h z =
     record {
-      wide = a;
-      long = b;
-      ends = λ s l. zero-at last p s ∙ sym (last-few w scalars s (omega arith));
-      linked = λ i l. zero-at before q i ∙ sym (last-few w i (slotOf (entryAt w i)) (omega arith));
+      wide = h;
+      low = λ j. let m = zero-at links z j in omega arith;
+      rising = λ j p. let m = zero-at links z j in omega arith;
+      standing = λ k a b. absurd (omega arith);
     }

@@ -10,9 +10,9 @@ use native.Mathlib.Omega.{arith}
 use lib.ListN.{length, getD, set, length-set}
 use lib.Seq.{getD-set-same, getD-set-other}
 use lib.Dec.{leb, ltb, eqb}
-use borrow.Author.Tests.{le-leb, ltb-true, leb-true, eqb-true, eq-eqb}
+use borrow.Author.Tests.{le-leb, ltb-true, leb-true, eqb-true, eq-eqb, ne-eqb}
 use Rattle.table.specs.Tools.{allBelow}
-use Rattle.table.specs.Table.{stride, ceiling, entryAt, putEntry, Key, keyOf, sameb, chainBy, chain, baseOf, entryOk, orElse, findIn, isNothing, goodAt, soundb, Sound, Keeps, scalarOk, madeOk}
+use Rattle.table.specs.Table.{stride, ceiling, entryAt, putEntry, Key, entryKey, sameb, chainBy, chain, baseOf, entryOk, orElse, findIn, isNothing, goodAt, soundb, Sound, Keeps, scalarOk, madeOk}
 use Rattle.table.specs.declared.Entry.{Entry}
 use Rattle.answer.specs.declared.TypeNo.{TypeNo}
 use Rattle.table.specs.declared.Found.{Found}
@@ -58,7 +58,7 @@ module _ (f : ℕ → Bool) where
 
 -- equal entries
 
-pub sameb-true : (a b : Entry) → sameb a b ≡ true → keyOf a ≡ keyOf b
+pub sameb-true : (a b : Entry) → sameb a b ≡ true → entryKey a ≡ entryKey b
 sameb-true a b h =
     λ i. record {
       kind = eqb-true (a .kind) (b .kind) (and-left _ _ (and-left _ _ (and-left _ _ h))) i;
@@ -67,41 +67,52 @@ sameb-true a b h =
       elem = eqb-true (a .elem) (b .elem) (and-right (eqb (a .kind) (b .kind) && eqb (a .p) (b .p) && eqb (a .q) (b .q)) _ h) i;
     }
 
-pub sameb-refl : (a b : Entry) → keyOf a ≡ keyOf b → sameb a b ≡ true
+pub sameb-refl : (a b : Entry) → entryKey a ≡ entryKey b → sameb a b ≡ true
 sameb-refl a b h =
     rw (eq-eqb (a .kind) (b .kind) (ap (λ (k : Key). k .kind) h), eq-eqb (a .p) (b .p) (ap (λ (k : Key). k .p) h), eq-eqb (a .q) (b .q) (ap (λ (k : Key). k .q) h), eq-eqb (a .elem) (b .elem) (ap (λ (k : Key). k .elem) h))
+
+-- two that differ in p or in elem
+no-right : (b : Bool) → (b && false) ≡ false
+no-right true = refl
+no-right false = refl
+
+pub other-p : (a b : Entry) → a .p ≢ b .p → sameb a b ≡ false
+other-p a b d = rw (ne-eqb (a .p) (b .p) d, no-right (eqb (a .kind) (b .kind)))
+
+pub other-elem : (a b : Entry) → a .elem ≢ b .elem → sameb a b ≡ false
+other-elem a b d = rw (ne-eqb (a .elem) (b .elem) d) (no-right (eqb (a .kind) (b .kind) && eqb (a .p) (b .p) && eqb (a .q) (b .q)))
 
 -- what finding says
 
 module _ (w : List ℕ) (e : Entry) where
   -- an entry that is there is found, at its number or before
-  pub find-hit : (n i : ℕ) → i < n → keyOf (entryAt w i) ≡ keyOf e → findIn w n e ≡ Nothing → ⊥
+  pub find-hit : (n i : ℕ) → i < n → entryKey (entryAt w i) ≡ entryKey e → findIn w n e ≡ Nothing → ⊥
   unfolding findIn
   find-hit zero i l h q = not-suc-le-zero l
   find-hit (suc n) i l h q = go (findIn w n e) refl (find-hit n i)
     where
-      go : (r : Found) → findIn w n e ≡ r → (i < n → keyOf (entryAt w i) ≡ keyOf e → findIn w n e ≡ Nothing → ⊥) → ⊥
+      go : (r : Found) → findIn w n e ≡ r → (i < n → entryKey (entryAt w i) ≡ entryKey e → findIn w n e ≡ Nothing → ⊥) → ⊥
       go (At t) k ih = let z : _≡_ {A = ℕ} 0 1 = cc in omega arith
       go Nothing k ih =
           ⊎-elim (λ m. let s : sameb (entryAt w n) e ≡ true = sameb-refl (entryAt w n) e (rw (← m) h) in let z : _≡_ {A = ℕ} 0 1 = cc in omega arith)
           (λ lt. ih lt h k) (eq-or-lt-of-le (le-of-suc-le-suc l))
 
   -- what is found is below n, and equals e
-  pub find-at : (n : ℕ) (t : TypeNo) → findIn w n e ≡ At t → (t .0 < n) × (keyOf (entryAt w (t .0)) ≡ keyOf e)
+  pub find-at : (n : ℕ) (t : TypeNo) → findIn w n e ≡ At t → (t .0 < n) × (entryKey (entryAt w (t .0)) ≡ entryKey e)
   unfolding findIn
   find-at zero t q = absurd (let z : _≡_ {A = ℕ} 0 1 = cc in omega arith)
   find-at (suc n) t q = go (findIn w n e) refl (find-at n t)
     where
-      got : (b : Bool) → sameb (entryAt w n) e ≡ b → cond b (At (record { 0 = n })) Nothing ≡ At t → (t .0 < suc n) × (keyOf (entryAt w (t .0)) ≡ keyOf e)
+      got : (b : Bool) → sameb (entryAt w n) e ≡ b → cond b (At (record { 0 = n })) Nothing ≡ At t → (t .0 < suc n) × (entryKey (entryAt w (t .0)) ≡ entryKey e)
       got true s k = let m : n ≡ t .0 = ap (λ (u : TypeNo). u .0) (cc) in (omega arith, rw (← m) (sameb-true (entryAt w n) e s))
       got false s k = absurd (let z : _≡_ {A = ℕ} 0 1 = cc in omega arith)
 
-      go : (r : Found) → findIn w n e ≡ r → (findIn w n e ≡ At t → (t .0 < n) × (keyOf (entryAt w (t .0)) ≡ keyOf e)) → (t .0 < suc n) × (keyOf (entryAt w (t .0)) ≡ keyOf e)
+      go : (r : Found) → findIn w n e ≡ r → (findIn w n e ≡ At t → (t .0 < n) × (entryKey (entryAt w (t .0)) ≡ entryKey e)) → (t .0 < suc n) × (entryKey (entryAt w (t .0)) ≡ entryKey e)
       go (At u) k ih = let d = ih (cc) in (omega arith, d .1)
       go Nothing k ih = got (sameb (entryAt w n) e) refl (rw k at q)
 
   -- where none equals e, nothing is found
-  pub find-miss : (n : ℕ) → ((i : ℕ) → i < n → keyOf (entryAt w i) ≡ keyOf e → ⊥) → findIn w n e ≡ Nothing
+  pub find-miss : (n : ℕ) → ((i : ℕ) → i < n → entryKey (entryAt w i) ≡ entryKey e → ⊥) → findIn w n e ≡ Nothing
   find-miss n h = go (findIn w n e) refl
     where
       go : (r : Found) → findIn w n e ≡ r → findIn w n e ≡ Nothing
@@ -138,7 +149,7 @@ module _ (w : List ℕ) (n : ℕ) where
       (all-of (goodAt w) n (λ i l. and-both (entryOk w i (entryAt w i)) _ (s .rows i l) (ap isNothing (find-miss w (entryAt w i) i (λ j lj q. s .apart i j lj l q)))))
 
   -- finding is exact: the number of an entry that is there, and no other
-  pub find-unique : Sound w n → (i : ℕ) (e : Entry) → i < n → keyOf (entryAt w i) ≡ keyOf e → findIn w n e ≡ At (record { 0 = i })
+  pub find-unique : Sound w n → (i : ℕ) (e : Entry) → i < n → entryKey (entryAt w i) ≡ entryKey e → findIn w n e ≡ At (record { 0 = i })
   find-unique s i e l q =
       find-stop w e i n
       (find-miss w e i (λ j lj r. s .apart i j lj l (r ∙ sym q))) (sameb-refl (entryAt w i) e q) l
@@ -239,7 +250,7 @@ module _ (w : List ℕ) (n : ℕ) (e : Entry) (s : Sound w n) (ok : entryOk w n 
             (λ i l. ap (entryOk v i) (old i l) ∙ keeps-ok w v n (put-keeps w n e) i (entryAt w i) (omega arith) ∙ s .rows i l)
             (ap (entryOk v n) new ∙ keeps-ok w v n (put-keeps w n e) n e (omega arith) ∙ ok);
         apart = λ i j lj l q.
-            below-split (λ i. (j : ℕ) → j < i → keyOf (entryAt v j) ≡ keyOf (entryAt v i) → ⊥) n
-            (λ i l j lj q. s .apart i j lj l (sym (ap keyOf (old j (omega arith))) ∙ q ∙ ap keyOf (old i l)))
-            (λ j lj q. find-hit w e n j lj (sym (ap keyOf (old j lj)) ∙ q ∙ ap keyOf new) f) i l j lj q;
+            below-split (λ i. (j : ℕ) → j < i → entryKey (entryAt v j) ≡ entryKey (entryAt v i) → ⊥) n
+            (λ i l j lj q. s .apart i j lj l (sym (ap entryKey (old j (omega arith))) ∙ q ∙ ap entryKey (old i l)))
+            (λ j lj q. find-hit w e n j lj (sym (ap entryKey (old j lj)) ∙ q ∙ ap entryKey new) f) i l j lj q;
       }

@@ -9,7 +9,7 @@ use lib.Dec.{leb, ltb, eqb}
 use borrow.Author.Tests.{le-ltb, lt-ltb, ltb-true, ltb-false, eqb-true}
 use Rattle.conv.specs.Types.{Ty, isWidth}
 use Rattle.conv.specs.Types.Ty.{scalar, vec, mat, array, runtime, atomic, ptr, ref, frexp, modf}
-use Rattle.table.specs.Table.{scalars, kindVec, kindMat, kindArray, kindRuntime, kindAtomic, kindPtr, kindRef, kindFrexp, kindModf, entryAt, Key, keyOf, plain, rowOk, baseOf, scalarOk, madeOk, entryOk, Sound, Keeps}
+use Rattle.table.specs.Table.{scalars, kindVec, kindMat, kindArray, kindRuntime, kindAtomic, kindPtr, kindRef, kindFrexp, kindModf, entryAt, Key, entryKey, wordsUnused, rowOk, baseOf, scalarOk, madeOk, entryOk, Sound, Keeps}
 use Rattle.table.specs.Denote.{made, typeAt, kindOf, pOf, qOf}
 use Rattle.conv.specs.Rank.{elementOf}
 use Rattle.table.specs.declared.Entry.{Entry}
@@ -66,7 +66,7 @@ pub record Words (e : Entry) (T t : Ty) : Type 0 where
   pub high : scalars ≤ e .kind
 
 module _ (e : Entry) (t : Ty) (component : e .elem < scalars → t ≡ scalar (e .elem)) where
-  plain-words : plain e ≡ true → (0 ≡ e .p) × (0 ≡ e .q)
+  plain-words : wordsUnused e ≡ true → (0 ≡ e .p) × (0 ≡ e .q)
   plain-words h = (sym (eqb-true _ _ (and-left _ _ h)), sym (eqb-true _ _ (and-right (eqb (e .p) 0) _ h)))
 
   pub row-words : (ek eb : ℕ) → rowOk e ek eb ≡ true → Words e (made e t) t
@@ -100,7 +100,7 @@ module _ (e : Entry) (t : Ty) (component : e .elem < scalars → t ≡ scalar (e
       rw (made-runtime e t k) (record { kind = sym k; p = z .0; q = z .1; elem = refl; above = refl; high = omega arith }))
       (λ k. let r = rw k at h in let z = plain-words (and-left _ _ r) in
       rw (made-atomic e t k)
-      (record { kind = sym k; p = z .0; q = z .1; elem = sym (component (int-scalar (e .elem) (and-right (plain e) _ r))); above = refl; high = omega arith }))
+      (record { kind = sym k; p = z .0; q = z .1; elem = sym (component (int-scalar (e .elem) (and-right (wordsUnused e) _ r))); above = refl; high = omega arith }))
       (λ k. rw (made-ptr e t k) (record { kind = sym k; p = refl; q = refl; elem = refl; above = refl; high = omega arith }))
       (λ k. rw (made-ref e t k) (record { kind = sym k; p = refl; q = refl; elem = refl; above = refl; high = omega arith }))
       (λ k. let r = rw k at h in let z = plain-words (and-left _ _ (and-left _ _ r)) in
@@ -110,7 +110,7 @@ module _ (e : Entry) (t : Ty) (component : e .elem < scalars → t ≡ scalar (e
       (λ n1 n2 n3 n4 n5 n6 n7 n8 n9. clash h (rw (n1, n2, n3, n4, n5, n6, n7, n8, n9)))
 
 -- one type and one elem are one key
-pub same-key : (a b : Entry) {S T t u : Ty} → Words a S t → Words b T u → S ≡ T → a .elem ≡ b .elem → keyOf a ≡ keyOf b
+pub same-key : (a b : Entry) {S T t u : Ty} → Words a S t → Words b T u → S ≡ T → a .elem ≡ b .elem → entryKey a ≡ entryKey b
 same-key a b x y h m =
     λ i. record {
       kind = (sym (x .kind) ∙ ap kindOf h ∙ y .kind) i;
@@ -138,7 +138,7 @@ module _ (w : List ℕ) (n : ℕ) (s : Sound w n) where
       (ltb-true _ _ (and-left _ _ r), and-right (ltb (elemOf w i) i) _ r)
 
   -- the entry of a scalar
-  pub scalar-key : (i : ℕ) → i < scalars → keyOf (entryAt w i) ≡ record { kind = i; p = 0; q = 0; elem = 0 }
+  pub scalar-key : (i : ℕ) → i < scalars → entryKey (entryAt w i) ≡ record { kind = i; p = 0; q = 0; elem = 0 }
   unfolding entryOk
   scalar-key i h =
       let e = entryAt w i in
@@ -242,7 +242,7 @@ module _ (w : List ℕ) (n : ℕ) (s : Sound w n) where
         (λ t. cc (type-scalar w i (ltb-true _ _ t)))
         (λ t. clash (ap isScalar h) (type-words i (ltb-false _ _ t) l .above))
 
-  apart : (i j : ℕ) → i < n → j < n → keyOf (entryAt w i) ≡ keyOf (entryAt w j) → i ≡ j
+  apart : (i j : ℕ) → i < n → j < n → entryKey (entryAt w i) ≡ entryKey (entryAt w j) → i ≡ j
   apart i j li lj q =
       split (ltb i j) (λ h. absurd (s .apart j i (ltb-true _ _ h) lj q)) (λ h.
       split (ltb j i) (λ k. absurd (s .apart i j (ltb-true _ _ k) li (sym q))) (λ k.

@@ -1,6 +1,6 @@
 pub mod Tools
 pub mod Table
-pub mod Slots
+pub mod inner
 pub mod Denote
 pub mod Enter
 pub mod Stands

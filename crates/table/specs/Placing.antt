@@ -30,8 +30,8 @@ pub record Standing : Type 0 where
   pub used : ℕ
   pub words : List ℕ
 
-abbrev pub here : ℕ → ℕ → List ℕ → Standing
-here k n w = record { number = k; used = n; words = w }
+abbrev pub standsAt : ℕ → ℕ → List ℕ → Standing
+standsAt k n w = record { number = k; used = n; words = w }
 
 -- the entry of R over the number of its element
 abbrev pub entryOf : Ty → ℕ → Entry
@@ -39,23 +39,23 @@ entryOf R k = record { kind = kindOf R; p = pOf R; q = qOf R; elem = k }
 
 -- R, whose element has its place already: at its number, or as the next entry
 abbrev pub orNext : Found → ℕ → List ℕ → Ty → Standing → Standing
-orNext (At t) n w R inner = here (t .0) n w
-orNext Nothing n w R inner = here (inner .used) (inner .used + 1) (putEntry (inner .words) (inner .used) (entryOf R (inner .number)))
+orNext (At t) n w R inner = standsAt (t .0) n w
+orNext Nothing n w R inner = standsAt (inner .used) (inner .used + 1) (putEntry (inner .words) (inner .used) (entryOf R (inner .number)))
 
-unfoldable pub over : List ℕ → ℕ → Ty → Standing → Standing
-over w n R inner = orNext (standsIn w n R) n w R inner
+unfoldable pub placedOver : List ℕ → ℕ → Ty → Standing → Standing
+placedOver w n R inner = orNext (standsIn w n R) n w R inner
 
 unfoldable pub placed : List ℕ → ℕ → Ty → Standing
-placed w n (scalar s) = here s n w
-placed w n (vec k s) = over w n (vec k s) (here s n w)
-placed w n (mat c r s) = over w n (mat c r s) (here s n w)
-placed w n (array k t) = over w n (array k t) (placed w n t)
-placed w n (runtime t) = over w n (runtime t) (placed w n t)
-placed w n (atomic s) = over w n (atomic s) (here s n w)
-placed w n (ptr space access t) = over w n (ptr space access t) (placed w n t)
-placed w n (ref space access t) = over w n (ref space access t) (placed w n t)
-placed w n (frexp t) = over w n (frexp t) (placed w n t)
-placed w n (modf t) = over w n (modf t) (placed w n t)
+placed w n (scalar s) = standsAt s n w
+placed w n (vec k s) = placedOver w n (vec k s) (standsAt s n w)
+placed w n (mat c r s) = placedOver w n (mat c r s) (standsAt s n w)
+placed w n (array k t) = placedOver w n (array k t) (placed w n t)
+placed w n (runtime t) = placedOver w n (runtime t) (placed w n t)
+placed w n (atomic s) = placedOver w n (atomic s) (standsAt s n w)
+placed w n (ptr space access t) = placedOver w n (ptr space access t) (placed w n t)
+placed w n (ref space access t) = placedOver w n (ref space access t) (placed w n t)
+placed w n (frexp t) = placedOver w n (frexp t) (placed w n t)
+placed w n (modf t) = placedOver w n (modf t) (placed w n t)
 
 -- a call's answer, and every word of the table afterwards
 pub record Outcome : Type 0 where

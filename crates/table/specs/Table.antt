@@ -72,16 +72,16 @@ pub record Key : Type 0 where
   pub q : ℕ
   pub elem : ℕ
 
-abbrev pub keyOf : Entry → Key
-keyOf e = record { kind = e .kind; p = e .p; q = e .q; elem = e .elem }
+abbrev pub entryKey : Entry → Key
+entryKey e = record { kind = e .kind; p = e .p; q = e .q; elem = e .elem }
 
 -- two entries have one key
 abbrev pub sameb : Entry → Entry → Bool
 sameb a b = eqb (a .kind) (b .kind) && eqb (a .p) (b .p) && eqb (a .q) (b .q) && eqb (a .elem) (b .elem)
 
 -- "unused words are 0", where p and q are unused
-abbrev pub plain : Entry → Bool
-plain e = eqb (e .p) 0 && eqb (e .q) 0
+abbrev pub wordsUnused : Entry → Bool
+wordsUnused e = eqb (e .p) 0 && eqb (e .q) 0
 
 -- a kind of elem: no pointer or reference; and no array without count either
 abbrev pub stored : ℕ → Bool
@@ -108,11 +108,11 @@ arrayRow e ek = leb 1 (e .p) && eqb (e .q) 0 && sized ek
 
 -- kind 10: "array without count"; elem as for kind 9
 abbrev pub runtimeRow : Entry → ℕ → Bool
-runtimeRow e ek = plain e && sized ek
+runtimeRow e ek = wordsUnused e && sized ek
 
 -- kind 11: "atomic"; "elem 3 or 4"
 abbrev pub atomicRow : Entry → Bool
-atomicRow e = plain e && (eqb (e .elem) i32 || eqb (e .elem) u32)
+atomicRow e = wordsUnused e && (eqb (e .elem) i32 || eqb (e .elem) u32)
 
 -- kind 12: "pointer, reference: p space, q access"; "elem neither 12 nor 13, nor abstract at any depth"; handle is for references only
 abbrev pub ptrRow : Entry → ℕ → ℕ → Bool
@@ -124,7 +124,7 @@ refRow e ek eb = leb (e .p) handle && leb (e .q) readWrite && stored ek && not (
 
 -- kinds 14, 15: "frexp result, modf result"; "elem = type of `fract`: float scalar or float vector"
 abbrev pub resultRow : Entry → ℕ → ℕ → Bool
-resultRow e ek eb = plain e && isFloat eb && (ltb (e .elem) scalars || eqb ek kindVec)
+resultRow e ek eb = wordsUnused e && isFloat eb && (ltb (e .elem) scalars || eqb ek kindVec)
 
 -- e is as its row says: ek is the kind of its elem, eb the innermost scalar of its elem
 unfoldable pub rowOk : Entry → ℕ → ℕ → Bool
@@ -188,7 +188,7 @@ pub record Sound (w : List ℕ) (n : ℕ) : Type 0 where
   pub high : n ≤ ceiling
   pub room : n * stride ≤ length w
   pub rows : (i : ℕ) → i < n → entryOk w i (entryAt w i) ≡ true
-  pub apart : (i j : ℕ) → j < i → i < n → keyOf (entryAt w j) ≡ keyOf (entryAt w i) → ⊥
+  pub apart : (i j : ℕ) → j < i → i < n → entryKey (entryAt w j) ≡ entryKey (entryAt w i) → ⊥
 
 -- the first n entries of w stand in v
 abbrev pub Keeps : List ℕ → List ℕ → ℕ → Type 0

@@ -1,12 +1,13 @@
 // The type table: entries of four words in a lent slice.
 ghost use mathlib.Core.Path.{_≡_};
 ghost use Prim.Native.Nat.{ℕ, _+_, _*_, _≤_, _<_};
+ghost use mathlib.Core.List.{List};
 ghost use lib.ListN.{length};
 ghost use Rattle.conv.specs.Types.{isWidth, isFloat, isAbstract};
-ghost use Rattle.table.specs.Table.{stride, scalars, ceiling, kindPtr, entryAt, sameb, plain, stored, sized, rowOk, baseOf, scalarOk, madeOk, findIn, isNothing, goodAt, soundb, allowedb, Sound};
+ghost use Rattle.table.specs.Table.{stride, scalars, ceiling, kindPtr, entryAt, sameb, wordsUnused, stored, sized, rowOk, baseOf, scalarOk, madeOk, findIn, isNothing, goodAt, soundb, allowedb, Sound};
 ghost use mathlib.Core.Bool.{true};
 ghost use Rattle.table.specs.Tools.{allBelow};
-ghost use Rattle.table.specs.Slots.{scalarAt, slotOf, lastIn, Links, Slotted};
+ghost use Rattle.table.specs.inner.Slots.{scalarAt, places, wordEnd, mixed, folded, entrySlot, turnsOf, fork, Linked, Ended, Based};
 ghost use Rattle.table.specs.declared.Found.the-variants.{Nothing};
 pub use answer::Answer;
 pub use answer::Place;
@@ -23,8 +24,19 @@ pub const STRIDE: usize = 4;
 
 pub const CEILING: usize = 256;
 
-// How many slots the soundness test sorts the entries into.
-const SLOTS: usize = 256;
+// How many slots the soundness test has, and how many places: these, and two for each entry.
+const SLOTS: usize = 512;
+
+const PLACES: usize = SLOTS + 2 * CEILING;
+
+// How many numbers a word can be, how many of them one slot has, and two large odd numbers that spread bits.
+const WORD_END: u64 = 4294967296;
+
+const SLOT_WIDTH: u64 = 8388608;
+
+const SPREAD: u64 = 2654435761;
+
+const STIR: u64 = 1181783497;
 
 // The scalars are the entries below this number, each by its own.
 pub const SCALARS: usize = conv::SCALARS as usize;
@@ -123,6 +135,19 @@ fn same(a: Entry, b: Entry) -> bool
     (a.kind == b.kind) & (a.p == b.p) & (a.q == b.q) & (a.elem == b.elem)
 }
 
+// The same, for entries that mostly differ in p. `same` takes all words at once, which is slower here.
+fn alike(a: Entry, b: Entry) -> bool
+    ensures { λ r. ⌜ r ≡ sameb a b ⌝ }
+{
+    if a.p != b.p {
+        return false;
+    }
+    if a.elem != b.elem {
+        return false;
+    }
+    same(a, b)
+}
+
 fn is_width(x: u32) -> bool
     ensures { λ r. ⌜ r ≡ isWidth x ⌝ }
 {
@@ -142,8 +167,8 @@ fn is_abstract(s: usize) -> bool
 }
 
 // p and q are unused.
-fn is_plain(e: Entry) -> bool
-    ensures { λ r. ⌜ r ≡ plain e ⌝ }
+fn words_unused(e: Entry) -> bool
+    ensures { λ r. ⌜ r ≡ wordsUnused e ⌝ }
 {
     (e.p == 0) & (e.q == 0)
 }
@@ -178,10 +203,10 @@ fn flat_ok(e: Entry, ek: u32) -> bool
         return (1 <= e.p) & (e.q == 0) & is_sized(ek);
     }
     if k == KIND_RUNTIME {
-        return is_plain(e) & is_sized(ek);
+        return words_unused(e) & is_sized(ek);
     }
     if k == KIND_ATOMIC {
-        return is_plain(e) & ((el == I32) | (el == U32));
+        return words_unused(e) & ((el == I32) | (el == U32));
     }
     false
 }
@@ -206,7 +231,7 @@ fn deep_ok(e: Entry, ek: u32, eb: usize) -> bool
             & !is_abstract(eb);
     }
     if (k == KIND_FREXP) | (k == KIND_MODF) {
-        return is_plain(e) & is_float(eb) & ((el < SCALARS) | (ek == KIND_VEC));
+        return words_unused(e) & is_float(eb) & ((el < SCALARS) | (ek == KIND_VEC));
     }
     false
 }
@@ -281,50 +306,107 @@ fn scalars_stand(words: &[u32]) -> bool
     true
 }
 
-// The slot of an entry: equal entries have one slot.
-fn slot_of(e: Entry) -> usize
-    ensures { λ r. ⌜ r ≡ slotOf e ⌝ }
+// The words of an entry, mixed into one.
+fn mixed_of(e: Entry) -> u64
+    ensures { λ r. ⌜ (r ≡ mixed e) × (r < wordEnd) ⌝ }
 {
-    cast::word((e.kind % 256 * 37 + e.p % 256 * 11 + e.q % 256 * 101 + e.elem % 256) % 256)
+    let rest = (cast::word64(e.elem) * 64 + cast::word64(e.kind) * 4 + cast::word64(e.q))
+        % WORD_END;
+    (cast::word64(e.p) + rest * SPREAD) % WORD_END
 }
 
-// Whether none of the first i entries has e's key, for an e that is no scalar. Only the entries of e's slot are looked at, from the last one back.
-fn is_new(words: &[u32], before: &[u16], i: usize, last: usize, e: Entry) -> bool
-    requires { ⌜ (i * stride ≤ length (now words)) × (i ≤ length (now before)) × Links (now words) i (now before) × (last ≡ lastIn (now words) i (slotOf e)) ⌝ }
-    ensures { λ r. ⌜ (findIn (now (words .entry)) scalars e ≡ Nothing → scalars ≤ i → r ≡ isNothing (findIn (now (words .entry)) i e)) ⌝ }
+// Both halves of the square of a word.
+fn folded_of(x: u64) -> u64
+    requires { ⌜ x < wordEnd ⌝ }
+    ensures { λ r. ⌜ (r ≡ folded x) × (r < 2 * wordEnd) ⌝ }
 {
-    let mut at = last;
+    x * x / WORD_END + x * x % WORD_END
+}
+
+// The slot of an entry: equal entries have one slot.
+fn slot_of(e: Entry) -> usize
+    ensures { λ r. ⌜ r ≡ entrySlot e ⌝ }
+{
+    (folded_of(mixed_of(e)) * STIR % WORD_END / SLOT_WIDTH) as usize
+}
+
+// The turns of an entry's way: equal entries have one way.
+fn turns_of(e: Entry) -> u64
+    ensures { λ r. ⌜ r ≡ turnsOf e ⌝ }
+{
+    cast::word64(e.p) + cast::word64(e.elem) * WORD_END
+}
+
+// The place behind entry k.
+fn fork_of(k: usize, turns: u64) -> usize
+    requires { ⌜ k < ceiling ⌝ }
+    ensures { λ r. ⌜ r ≡ fork k turns ⌝ }
+{
+    SLOTS + 2 * k + (turns % 2) as usize
+}
+
+// The free place on e's way; or `PLACES` where an entry with e's key stands on it.
+fn free_place(words: &[u32], links: &[u8], i: usize, e: Entry) -> usize
+    requires { ⌜ (i * stride ≤ length (now words)) × (scalars ≤ i) × (i ≤ ceiling) × (findIn (now words) scalars e ≡ Nothing) × Linked (now words) i (now links) ⌝ }
+    ensures { λ r. ⌜ Ended (now (words .entry)) i (now (links .entry)) e r ⌝ }
+{
+    let mut place = slot_of(e);
+    let mut turns = turns_of(e);
+    let mut at = cast::wide(links[place]);
     while 0 < at {
-        let k = at - 1;
-        if same(entry_at(words, k), e) {
-            return false;
+        if alike(entry_at(words, at), e) {
+            return PLACES;
         }
-        at = cast::half(before[k]);
+        place = fork_of(at, turns);
+        turns = turns / 2;
+        at = cast::wide(links[place]);
     }
+    place
+}
+
+// `made_ok` of entry i, where the innermost scalars of those before it are known.
+fn made_next(words: &[u32], bases: &[u8], i: usize, e: Entry) -> bool
+    requires { ⌜ (i * stride ≤ length (now words)) × (i ≤ ceiling) × Based (now words) i (now bases) ⌝ }
+    ensures { λ r. ⌜ r ≡ madeOk (now (words .entry)) i e ⌝ }
+{
+    let el = cast::word(e.elem);
+    if i <= el {
+        return false;
+    }
+    let f = entry_at(words, el);
+    if e.kind < KIND_PTR {
+        return flat_ok(e, f.kind);
+    }
+    deep_ok(e, f.kind, cast::wide(bases[el]))
+}
+
+// Whether entry i is good; then it stands on its way, and its innermost scalar is known.
+fn good_next(words: &[u32], i: usize, links: &mut [u8], bases: &mut [u8]) -> bool
+    requires { ⌜ ((i + 1) * stride ≤ length (now words)) × (scalars ≤ i) × (i < ceiling) × (allBelow (scalarAt (now words)) scalars ≡ true) × Linked (now words) i (now links) × Based (now words) i (now bases) ⌝ }
+    ensures { λ r. ⌜ (r ≡ goodAt (now (words .entry)) i) × (length (now (links .exit)) ≡ places) × (length (now (bases .exit)) ≡ ceiling) × (r ≡ true → Linked (now (words .entry)) (i + 1) (now (links .exit)) × Based (now (words .entry)) (i + 1) (now (bases .exit))) ⌝ }
+{
+    let e = entry_at(words, i);
+    if !made_next(words, bases, i, e) {
+        return false;
+    }
+    let place = free_place(words, links, i, e);
+    if place == PLACES {
+        return false;
+    }
+    links[place] = i as u8;
+    let el = cast::word(e.elem);
+    bases[i] = bases[el];
     true
 }
 
-// Whether entry i is good, which is put into its slot.
-fn good_next(words: &[u32], i: usize, last: &mut [u16], before: &mut [u16]) -> bool
-    requires { ⌜ ((i + 1) * stride ≤ length (now words)) × (scalars ≤ i) × (i < ceiling) × (allBelow (scalarAt (now words)) scalars ≡ true) × Slotted (now words) i (now last) (now before) ⌝ }
-    ensures { λ r. ⌜ (r ≡ goodAt (now (words .entry)) i) × Slotted (now (words .entry)) (i + 1) (now (last .exit)) (now (before .exit)) ⌝ }
-{
-    let e = entry_at(words, i);
-    let s = slot_of(e);
-    let t = last[s];
-    before[i] = t;
-    last[s] = (i + 1) as u16;
-    made_ok(words, i, e) & is_new(words, before, i, cast::half(t), e)
-}
-
-// Whether the first n entries are good, where the scalars stand and the slots are empty.
-fn rest_good(words: &[u32], n: usize, last: &mut [u16], before: &mut [u16]) -> bool
-    requires { ⌜ (n * stride ≤ length (now words)) × (scalars ≤ n) × (n ≤ ceiling) × (allBelow (scalarAt (now words)) scalars ≡ true) × Slotted (now words) scalars (now last) (now before) ⌝ }
+// Whether the first n entries are good, where the scalars stand and alone are known.
+fn rest_good(words: &[u32], n: usize, links: &mut [u8], bases: &mut [u8]) -> bool
+    requires { ⌜ (n * stride ≤ length (now words)) × (scalars ≤ n) × (n ≤ ceiling) × (allBelow (scalarAt (now words)) scalars ≡ true) × Linked (now words) scalars (now links) × Based (now words) scalars (now bases) ⌝ }
     ensures { λ r. ⌜ r ≡ allBelow (goodAt (now (words .entry))) n ⌝ }
 {
     let mut i = SCALARS;
     while i < n {
-        if !good_next(words, i, last, before) {
+        if !good_next(words, i, links, bases) {
             return false;
         }
         i += 1;
@@ -332,16 +414,29 @@ fn rest_good(words: &[u32], n: usize, last: &mut [u16], before: &mut [u16]) -> b
     true
 }
 
-// `rest_good`, with slots of its own.
+// Each scalar is its own innermost scalar.
+fn put_bases(bases: &mut [u8])
+    requires { ⌜ length (now bases) ≡ ceiling ⌝ }
+    ensures { λ _. ⌜ ((w : List ℕ) → Based w scalars (now (bases .exit))) ⌝ }
+{
+    let mut k = 0;
+    while k < SCALARS {
+        bases[k] = k as u8;
+        k += 1;
+    }
+}
+
+// `rest_good`, with places of its own.
 fn rest_sorted(words: &[u32], n: usize) -> bool
     requires { ⌜ (n * stride ≤ length (now words)) × (scalars ≤ n) × (n ≤ ceiling) × (allBelow (scalarAt (now words)) scalars ≡ true) ⌝ }
     ensures { λ r. ⌜ r ≡ allBelow (goodAt (now (words .entry))) n ⌝ }
 {
-    let mut lasts = [0u16; SLOTS];
-    let last: &mut [u16] = &mut lasts;
-    let mut befores = [0u16; CEILING];
-    let before: &mut [u16] = &mut befores;
-    rest_good(words, n, last, before)
+    let mut free = [0u8; PLACES];
+    let links: &mut [u8] = &mut free;
+    let mut unknown = [0u8; CEILING];
+    let bases: &mut [u8] = &mut unknown;
+    put_bases(bases);
+    rest_good(words, n, links, bases)
 }
 
 // Whether the words hold a sound table of n entries.

@@ -22,7 +22,7 @@ use Rattle.table.proofs.Keeping.{kept-as, kept-refused, kept-entering}
 use Rattle.tplt.specs.Heads.{headOf}
 use Rattle.tplt.specs.Params.{paramsOf, typesKnown, argumentsOf}
 use Rattle.tplt.specs.Templates.{parsedOf, typeOf, outcomeOf, templateOutcome}
-use Rattle.tplt.specs.Steps.{Fit}
+use Rattle.tplt.specs.inner.Steps.{Fit}
 use Rattle.tplt.specs.declared.Parsed.{Parsed}
 use Rattle.tplt.specs.declared.Parsed.the-variants.{OfVec, OfMat, OfAtomic, OfArray, Wrong}
 use Rattle.tplt.proofs.OutcomeLaws.{unsound-outcome, unknown-outcome, parsed-outcome, call-fit}

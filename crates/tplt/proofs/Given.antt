@@ -13,7 +13,8 @@ use Rattle.table.specs.Table.{scalars, soundb}
 use Rattle.table.specs.Denote.{typeAt}
 use Rattle.table.specs.Placing.{turnedDown, entering}
 use Rattle.answer.specs.declared.Reason.the-variants.{Unknown, Template, Count}
-use Rattle.tplt.specs.Heads.{nameOf, headOf}
+use Rattle.text.specs.Text.{ascii}
+use Rattle.tplt.specs.Heads.{headName, headOf}
 use Rattle.tplt.specs.Params.{typeParam, i32Param, u32Param, paramOf, paramsOf, isKnown, isTyped, typesKnown, argumentsOf, countZ, countOf}
 use Rattle.tplt.specs.Templates.{isConcrete, isMatrixComponent, isAtomicComponent, isElement, vecParsed, matParsed, atomicParsed, arrayOfType, arrayParsed, parsedOf, typeOf, outcomeOf, templateOutcome}
 use Rattle.tplt.specs.declared.head.Head.{Head}
@@ -44,24 +45,24 @@ by-width P a b c k h =
     let z : k ≡ 4 = omega arith in
     subst P (sym z) c))
 
-pub vec-name : (k : ℕ) → isWidth k ≡ true → headOf (nameOf (Vector k)) ≡ Vector k
-unfolding headOf
-vec-name k h = by-width (λ (k : ℕ). headOf (nameOf (Vector k)) ≡ Vector k) refl refl refl k h
+pub vec-name : (k : ℕ) → isWidth k ≡ true → headOf (headName (Vector k)) ≡ Vector k
+unfolding headOf ascii
+vec-name k h = by-width (λ (k : ℕ). headOf (headName (Vector k)) ≡ Vector k) refl refl refl k h
 
-pub mat-name : (c r : ℕ) → isWidth c ≡ true → isWidth r ≡ true → headOf (nameOf (Matrix c r)) ≡ Matrix c r
-unfolding headOf
+pub mat-name : (c r : ℕ) → isWidth c ≡ true → isWidth r ≡ true → headOf (headName (Matrix c r)) ≡ Matrix c r
+unfolding headOf ascii
 mat-name c r hc hr =
-    by-width (λ (c : ℕ). headOf (nameOf (Matrix c r)) ≡ Matrix c r)
-    (by-width (λ (r : ℕ). headOf (nameOf (Matrix 2 r)) ≡ Matrix 2 r) refl refl refl r hr)
-    (by-width (λ (r : ℕ). headOf (nameOf (Matrix 3 r)) ≡ Matrix 3 r) refl refl refl r hr)
-    (by-width (λ (r : ℕ). headOf (nameOf (Matrix 4 r)) ≡ Matrix 4 r) refl refl refl r hr) c hc
+    by-width (λ (c : ℕ). headOf (headName (Matrix c r)) ≡ Matrix c r)
+    (by-width (λ (r : ℕ). headOf (headName (Matrix 2 r)) ≡ Matrix 2 r) refl refl refl r hr)
+    (by-width (λ (r : ℕ). headOf (headName (Matrix 3 r)) ≡ Matrix 3 r) refl refl refl r hr)
+    (by-width (λ (r : ℕ). headOf (headName (Matrix 4 r)) ≡ Matrix 4 r) refl refl refl r hr) c hc
 
-pub atomic-name : headOf (nameOf Atomic) ≡ Atomic
-unfolding headOf
+pub atomic-name : headOf (headName Atomic) ≡ Atomic
+unfolding headOf ascii
 atomic-name = refl
 
-pub array-name : headOf (nameOf Array) ≡ Array
-unfolding headOf
+pub array-name : headOf (headName Array) ≡ Array
+unfolding headOf ascii
 array-name = refl
 
 -- THE COUNT OF A LITERAL
@@ -173,53 +174,53 @@ module _ (w : List ℕ) (n : ℕ) (sound : soundb w n ≡ true) where
   low s a = let b = sound-of w n sound .low in omega arith
 
   -- vec: bool, i32, u32, f32, f16
-  pub vec-given : (k s : ℕ) → isWidth k ≡ true → isConcrete s ≡ true → templateOutcome w n (nameOf (Vector k)) (typeArg s) ≡ entering 0 w n (vec k s)
+  pub vec-given : (k s : ℕ) → isWidth k ≡ true → isConcrete s ≡ true → templateOutcome w n (headName (Vector k)) (typeArg s) ≡ entering 0 w n (vec k s)
   unfolding parsedOf vecParsed outcomeOf typeOf
   vec-given k s h c =
       let l = low s (ltb-true s scalars (concrete-scalar s c)) in
-      given (nameOf (Vector k)) (typeArg s) (Vector k) (One (record { 0 = s })) (OfVec (record { n = k; ty = record { 0 = s } })) (one-known s l) (vec-name k h) (one-list s l) (rw c)
+      given (headName (Vector k)) (typeArg s) (Vector k) (One (record { 0 = s })) (OfVec (record { n = k; ty = record { 0 = s } })) (one-known s l) (vec-name k h) (one-list s l) (rw c)
 
   -- mat: f32, f16
   pub mat-given : (c r s : ℕ) → isWidth c ≡ true → isWidth r ≡ true → isMatrixComponent s ≡ true
-      → templateOutcome w n (nameOf (Matrix c r)) (typeArg s) ≡ entering 0 w n (mat c r s)
+      → templateOutcome w n (headName (Matrix c r)) (typeArg s) ≡ entering 0 w n (mat c r s)
   unfolding parsedOf matParsed outcomeOf typeOf
   mat-given c r s hc hr m =
       let l = low s (float-scalar s (matrix-float s m)) in
-      given (nameOf (Matrix c r)) (typeArg s) (Matrix c r) (One (record { 0 = s })) (OfMat (record { c = c; r = r; ty = record { 0 = s } })) (one-known s l) (mat-name c r hc hr) (one-list s l) (rw m)
+      given (headName (Matrix c r)) (typeArg s) (Matrix c r) (One (record { 0 = s })) (OfMat (record { c = c; r = r; ty = record { 0 = s } })) (one-known s l) (mat-name c r hc hr) (one-list s l) (rw m)
 
   -- atomic: i32, u32
-  pub atomic-given : (s : ℕ) → isAtomicComponent s ≡ true → templateOutcome w n (nameOf Atomic) (typeArg s) ≡ entering 0 w n (atomic s)
+  pub atomic-given : (s : ℕ) → isAtomicComponent s ≡ true → templateOutcome w n (headName Atomic) (typeArg s) ≡ entering 0 w n (atomic s)
   unfolding parsedOf atomicParsed outcomeOf typeOf
   atomic-given s a =
       let l = low s (int-scalar s a) in
-      given (nameOf Atomic) (typeArg s) Atomic (One (record { 0 = s })) (OfAtomic (record { ty = record { 0 = s } })) (one-known s l) atomic-name (one-list s l) (rw a)
+      given (headName Atomic) (typeArg s) Atomic (One (record { 0 = s })) (OfAtomic (record { ty = record { 0 = s } })) (one-known s l) atomic-name (one-list s l) (rw a)
 
   module _ (t : ℕ) (l : t < n) where
     -- array: a type alone
-    pub array-alone : isElement (typeAt w t) ≡ true → templateOutcome w n (nameOf Array) (typeArg t) ≡ entering 0 w n (runtime (typeAt w t))
+    pub array-alone : isElement (typeAt w t) ≡ true → templateOutcome w n (headName Array) (typeArg t) ≡ entering 0 w n (runtime (typeAt w t))
     unfolding parsedOf arrayParsed arrayOfType outcomeOf typeOf
     array-alone e =
-        given (nameOf Array) (typeArg t) Array (One (record { 0 = t })) (OfArray (record { n = Without; ty = record { 0 = t } })) (one-known t l) array-name (one-list t l) (rw e)
+        given (headName Array) (typeArg t) Array (One (record { 0 = t })) (OfArray (record { n = Without; ty = record { 0 = t } })) (one-known t l) array-name (one-list t l) (rw e)
 
     module _ (tag z : ℤ) (literal : isTyped (paramOf n tag z) ≡ false) where
-      by-list : (p : Parsed) → parsedOf w Array (Two (record { 0 = t }) (paramOf n tag z)) ≡ p → templateOutcome w n (nameOf Array) (typeAndLiteral t tag z) ≡ outcomeOf w n p
+      by-list : (p : Parsed) → parsedOf w Array (Two (record { 0 = t }) (paramOf n tag z)) ≡ p → templateOutcome w n (headName Array) (typeAndLiteral t tag z) ≡ outcomeOf w n p
       by-list p q =
-          given (nameOf Array) (typeAndLiteral t tag z) Array (Two (record { 0 = t }) (paramOf n tag z)) p (two-known t l tag z literal) array-name (two-list t l tag z literal) q
+          given (headName Array) (typeAndLiteral t tag z) Array (Two (record { 0 = t }) (paramOf n tag z)) p (two-known t l tag z literal) array-name (two-list t l tag z literal) q
 
       -- or with a literal that is a count
       pub array-counted : (k : ℕ) → isElement (typeAt w t) ≡ true → countOf (paramOf n tag z) ≡ Of k
-          → templateOutcome w n (nameOf Array) (typeAndLiteral t tag z) ≡ entering 0 w n (array k (typeAt w t))
+          → templateOutcome w n (headName Array) (typeAndLiteral t tag z) ≡ entering 0 w n (array k (typeAt w t))
       unfolding parsedOf arrayParsed arrayOfType outcomeOf typeOf
       array-counted k e c = by-list (OfArray (record { n = Of k; ty = record { 0 = t } })) (rw (e, c))
 
       -- a literal that is none: 6
       pub array-miscounted : isElement (typeAt w t) ≡ true → countOf (paramOf n tag z) ≡ Unfit
-          → templateOutcome w n (nameOf Array) (typeAndLiteral t tag z) ≡ turnedDown Count 0 w n
+          → templateOutcome w n (headName Array) (typeAndLiteral t tag z) ≡ turnedDown Count 0 w n
       unfolding parsedOf arrayParsed arrayOfType outcomeOf
       array-miscounted e c = by-list (Wrong Count) (rw (e, c))
 
       -- of a pointer, a reference or an array without count: 5, whatever the literal
-      pub array-forbidden : isElement (typeAt w t) ≡ false → templateOutcome w n (nameOf Array) (typeAndLiteral t tag z) ≡ turnedDown Template 0 w n
+      pub array-forbidden : isElement (typeAt w t) ≡ false → templateOutcome w n (headName Array) (typeAndLiteral t tag z) ≡ turnedDown Template 0 w n
       unfolding parsedOf arrayParsed arrayOfType outcomeOf
       array-forbidden e = by-list (Wrong Template) (rw e)
 
@@ -239,22 +240,22 @@ module _ (w : List ℕ) (n : ℕ) (sound : soundb w n ≡ true) where
     by-type : (head : List ℕ) (h : Head) → headOf head ≡ h → (p : Parsed) → parsedOf w h (One (record { 0 = t })) ≡ p → templateOutcome w n head (typeArg t) ≡ outcomeOf w n p
     by-type head h hq p pq = given head (typeArg t) h (One (record { 0 = t })) p (one-known t l) hq (one-list t l) pq
 
-    pub vec-refused : (k : ℕ) → isWidth k ≡ true → isConcrete t ≡ false → templateOutcome w n (nameOf (Vector k)) (typeArg t) ≡ turnedDown Template 0 w n
+    pub vec-refused : (k : ℕ) → isWidth k ≡ true → isConcrete t ≡ false → templateOutcome w n (headName (Vector k)) (typeArg t) ≡ turnedDown Template 0 w n
     unfolding parsedOf vecParsed outcomeOf
-    vec-refused k h c = by-type (nameOf (Vector k)) (Vector k) (vec-name k h) (Wrong Template) (rw c)
+    vec-refused k h c = by-type (headName (Vector k)) (Vector k) (vec-name k h) (Wrong Template) (rw c)
 
     pub mat-refused : (c r : ℕ) → isWidth c ≡ true → isWidth r ≡ true → isMatrixComponent t ≡ false
-        → templateOutcome w n (nameOf (Matrix c r)) (typeArg t) ≡ turnedDown Template 0 w n
+        → templateOutcome w n (headName (Matrix c r)) (typeArg t) ≡ turnedDown Template 0 w n
     unfolding parsedOf matParsed outcomeOf
-    mat-refused c r hc hr m = by-type (nameOf (Matrix c r)) (Matrix c r) (mat-name c r hc hr) (Wrong Template) (rw m)
+    mat-refused c r hc hr m = by-type (headName (Matrix c r)) (Matrix c r) (mat-name c r hc hr) (Wrong Template) (rw m)
 
-    pub atomic-refused : isAtomicComponent t ≡ false → templateOutcome w n (nameOf Atomic) (typeArg t) ≡ turnedDown Template 0 w n
+    pub atomic-refused : isAtomicComponent t ≡ false → templateOutcome w n (headName Atomic) (typeArg t) ≡ turnedDown Template 0 w n
     unfolding parsedOf atomicParsed outcomeOf
-    atomic-refused a = by-type (nameOf Atomic) Atomic atomic-name (Wrong Template) (rw a)
+    atomic-refused a = by-type (headName Atomic) Atomic atomic-name (Wrong Template) (rw a)
 
-    pub array-refused : isElement (typeAt w t) ≡ false → templateOutcome w n (nameOf Array) (typeArg t) ≡ turnedDown Template 0 w n
+    pub array-refused : isElement (typeAt w t) ≡ false → templateOutcome w n (headName Array) (typeArg t) ≡ turnedDown Template 0 w n
     unfolding parsedOf arrayParsed arrayOfType outcomeOf
-    array-refused e = by-type (nameOf Array) Array array-name (Wrong Template) (rw e)
+    array-refused e = by-type (headName Array) Array array-name (Wrong Template) (rw e)
 
     -- "A count of -3 or 0 is refused with 6, as is one above 4,294,967,295 or another literal; 1 and 4,294,967,295 pass"
     module _ (e : isElement (typeAt w t) ≡ true) where
@@ -262,17 +263,17 @@ module _ (w : List ℕ) (n : ℕ) (sound : soundb w n ≡ true) where
       unfolding paramOf
       no-type z = refl
 
-      pub count-minus-three : templateOutcome w n (nameOf Array) (typeAndLiteral t (pos 1) (negsuc 2)) ≡ turnedDown Count 0 w n
+      pub count-minus-three : templateOutcome w n (headName Array) (typeAndLiteral t (pos 1) (negsuc 2)) ≡ turnedDown Count 0 w n
       count-minus-three = array-miscounted t l (pos 1) (negsuc 2) (no-type (negsuc 2)) e (abstract-negative n 2)
 
-      pub count-nought : templateOutcome w n (nameOf Array) (typeAndLiteral t (pos 1) (pos 0)) ≡ turnedDown Count 0 w n
+      pub count-nought : templateOutcome w n (headName Array) (typeAndLiteral t (pos 1) (pos 0)) ≡ turnedDown Count 0 w n
       count-nought = array-miscounted t l (pos 1) (pos 0) (no-type (pos 0)) e (zero-counts n .0)
 
-      pub count-above : templateOutcome w n (nameOf Array) (typeAndLiteral t (pos 1) (pos 4294967296)) ≡ turnedDown Count 0 w n
+      pub count-above : templateOutcome w n (headName Array) (typeAndLiteral t (pos 1) (pos 4294967296)) ≡ turnedDown Count 0 w n
       count-above = array-miscounted t l (pos 1) (pos 4294967296) (no-type (pos 4294967296)) e (too-many n 4294967296 (omega arith))
 
-      pub count-one : templateOutcome w n (nameOf Array) (typeAndLiteral t (pos 1) (pos 1)) ≡ entering 0 w n (array 1 (typeAt w t))
+      pub count-one : templateOutcome w n (headName Array) (typeAndLiteral t (pos 1) (pos 1)) ≡ entering 0 w n (array 1 (typeAt w t))
       count-one = array-counted t l (pos 1) (pos 1) (no-type (pos 1)) 1 e (abstract-count n 1 (omega arith) (omega arith))
 
-      pub count-most : templateOutcome w n (nameOf Array) (typeAndLiteral t (pos 1) (pos 4294967295)) ≡ entering 0 w n (array 4294967295 (typeAt w t))
+      pub count-most : templateOutcome w n (headName Array) (typeAndLiteral t (pos 1) (pos 4294967295)) ≡ entering 0 w n (array 4294967295 (typeAt w t))
       count-most = array-counted t l (pos 1) (pos 4294967295) (no-type (pos 4294967295)) 4294967295 e (abstract-count n 4294967295 (omega arith) (omega arith))

@@ -13,8 +13,9 @@ use borrow.Author.Tests.{eq-eqb, ne-eqb, eqb-true, eqb-false, leb-true, ltb-true
 use Rattle.conv.specs.Types.{isWidth}
 use Rattle.table.proofs.SoundLaws.{and-left, and-right}
 use Rattle.table.proofs.KindLaws.{split}
-use Rattle.tplt.specs.Heads.{nameOf, heads, bytes, named, amongst, headOf}
-use Rattle.tplt.specs.Steps.{longest, keyOf, headAt}
+use Rattle.text.specs.Text.{ascii}
+use Rattle.tplt.specs.Heads.{headName, heads, bytes, named, amongst, headOf}
+use Rattle.tplt.specs.inner.Steps.{longest, keyOf, headAt}
 use Rattle.tplt.specs.declared.head.Head.{Head}
 use Rattle.tplt.specs.declared.head.Head.the-variants.{Vector, Matrix, Atomic, Array, NoHead}
 
@@ -115,17 +116,17 @@ bytes-all (b ∷ l) t (suc i) = bytes-all l (and-right (ltb b 256) _ t) i
 -- the test of every head: its widths, and its name's length and bytes
 all-right : List Head → Bool
 all-right [] = true
-all-right (h ∷ hs) = (wellSized h && (leb (length (nameOf h)) longest && all-bytes (nameOf h))) && all-right hs
+all-right (h ∷ hs) = (wellSized h && (leb (length (headName h)) longest && all-bytes (headName h))) && all-right hs
 
 heads-right : all-right heads ≡ true
-unfolding all-right all-bytes
+unfolding all-right all-bytes ascii
 heads-right = refl
 
 module _ (name : List ℕ) where
   among-sized : (hs : List Head) → all-right hs ≡ true → wellSized (amongst hs name) ≡ true
   unfolding all-right
   among-sized [] q = refl
-  among-sized (h ∷ hs) q = go (named name (nameOf h)) (and-left _ _ (and-left _ _ q)) (among-sized hs (and-right (wellSized h && (leb (length (nameOf h)) longest && all-bytes (nameOf h))) _ q))
+  among-sized (h ∷ hs) q = go (named name (headName h)) (and-left _ _ (and-left _ _ q)) (among-sized hs (and-right (wellSized h && (leb (length (headName h)) longest && all-bytes (headName h))) _ q))
     where
       go : (t : Bool) → wellSized h ≡ true → wellSized (amongst hs name) ≡ true → wellSized (cond t h (amongst hs name)) ≡ true
       go true a b = a
@@ -140,8 +141,8 @@ module _ (name : List ℕ) where
   unfolding all-right
   among-short l [] q = refl
   among-short l (h ∷ hs) q =
-      let s = leb-true (length (nameOf h)) longest (and-left _ _ (and-right (wellSized h) _ (and-left _ _ q))) in
-      rw (ne-eqb (length name) (length (nameOf h)) (λ z. omega arith)) (among-short l hs (and-right (wellSized h && (leb (length (nameOf h)) longest && all-bytes (nameOf h))) _ q))
+      let s = leb-true (length (headName h)) longest (and-left _ _ (and-right (wellSized h) _ (and-left _ _ q))) in
+      rw (ne-eqb (length name) (length (headName h)) (λ z. omega arith)) (among-short l hs (and-right (wellSized h && (leb (length (headName h)) longest && all-bytes (headName h))) _ q))
 
   pub long-name : longest < length name → NoHead ≡ headOf name
   unfolding headOf
@@ -152,8 +153,8 @@ module _ (name : List ℕ) where
   unfolding all-right headAt
   among-key b [] q = refl
   among-key b (h ∷ hs) q =
-      let n = bytes-all (nameOf h) (and-right (leb (length (nameOf h)) longest) _ (and-right (wellSized h) _ (and-left _ _ q))) in
-      rw (same-key name (nameOf h) b n, among-key b hs (and-right (wellSized h && (leb (length (nameOf h)) longest && all-bytes (nameOf h))) _ q))
+      let n = bytes-all (headName h) (and-right (leb (length (headName h)) longest) _ (and-right (wellSized h) _ (and-left _ _ q))) in
+      rw (same-key name (headName h) b n, among-key b hs (and-right (wellSized h && (leb (length (headName h)) longest && all-bytes (headName h))) _ q))
 
   pub head-key : Bytes name → headAt heads (keyOf name) ≡ headOf name
   unfolding headOf

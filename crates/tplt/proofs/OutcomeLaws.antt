@@ -13,7 +13,7 @@ use Rattle.answer.specs.declared.Answer.{Answer}
 use Rattle.tplt.specs.Heads.{headOf}
 use Rattle.tplt.specs.Params.{paramsOf, typesKnown, argumentsOf}
 use Rattle.tplt.specs.Templates.{parsedOf, outcomeOf, templateOutcome}
-use Rattle.tplt.specs.Steps.{Below, Fit, Outcomes}
+use Rattle.tplt.specs.inner.Steps.{Below, Fit, Outcomes}
 use Rattle.tplt.specs.declared.head.Head.{Head}
 use Rattle.tplt.specs.declared.param.Arguments.{Arguments}
 use Rattle.tplt.specs.declared.Parsed.{Parsed}

@@ -12,7 +12,7 @@ use denote.Enum.Declared.{tagOf}
 use types.Run.{OneOf, miss}
 use Rattle.answer.specs.declared.TypeNo.{TypeNo}
 use Rattle.tplt.specs.Params.{typeParam, i32Param, u32Param, paramOf, paramsOf, isKnown, isTyped, typesKnown, alone, before, paired, formOf, argumentsOf, countOf}
-use Rattle.tplt.specs.Steps.{numberOf, paramAt}
+use Rattle.tplt.specs.inner.Steps.{numberOf, paramAt}
 use Rattle.tplt.specs.declared.param.TpltParam.{TpltParam}
 use Rattle.tplt.specs.declared.param.TpltParam.the-variants.{Typed, NoType, AbstractInt, I32, U32, Other}
 use Rattle.tplt.specs.declared.param.Arguments.the-variants.{Two, Amiss}

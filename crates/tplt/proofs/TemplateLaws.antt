@@ -27,7 +27,7 @@ use Rattle.table.proofs.EnterLaws.{allow}
 use Rattle.table.proofs.PlacingLaws.{enter-outcome}
 use Rattle.tplt.specs.Params.{countZ, countOf}
 use Rattle.tplt.specs.Templates.{isConcrete, isMatrixComponent, isAtomicComponent, isElement, component, vecParsed, matParsed, atomicParsed, counted, arrayOfType, arrayParsed, parsedOf, typeOf, outcomeOf, arrayOf}
-use Rattle.tplt.specs.Steps.{aloneIn, vecEntry, matEntry, atomicEntry, countEntry, arrayEntry, entryIn, Below, numberIn, Fit, Outcomes}
+use Rattle.tplt.specs.inner.Steps.{aloneIn, vecEntry, matEntry, atomicEntry, countEntry, arrayEntry, entryIn, Below, numberIn, Fit, Outcomes}
 use Rattle.tplt.specs.declared.head.Head.{Head}
 use Rattle.tplt.specs.declared.head.Head.the-variants.{Vector, Matrix, Atomic, Array, NoHead}
 use Rattle.tplt.specs.declared.param.TpltParam.{TpltParam}

@@ -1,4 +1,4 @@
 pub mod Heads
 pub mod Params
 pub mod Templates
-pub mod Steps
+pub mod inner

@@ -3,7 +3,7 @@ ghost use mathlib.Core.Path.{_≡_};
 ghost use Prim.Native.Nat.{_≤_};
 ghost use lib.ListN.{length};
 ghost use Rattle.tplt.specs.Heads.{headOf, heads};
-ghost use Rattle.tplt.specs.Steps.{longest, keyOf, headAt};
+ghost use Rattle.tplt.specs.inner.Steps.{longest, keyOf, headAt};
 
 // A head: a vector of a width, a matrix of columns and rows, an atomic, an array, or no name of a head.
 pub enum Head {

@@ -5,7 +5,7 @@ ghost use Rattle.table.specs.Table.{ceiling, Sound};
 ghost use Rattle.table.specs.Denote.{typeAt};
 ghost use Rattle.tplt.specs.Templates.{isConcrete, isMatrixComponent, isAtomicComponent, isElement, vecParsed, matParsed, atomicParsed, arrayOfType, arrayParsed, parsedOf, templateOutcome};
 ghost use Rattle.table.specs.Placing.{Gave};
-ghost use Rattle.tplt.specs.Steps.{aloneIn, vecEntry, matEntry, atomicEntry, arrayEntry, numberIn, entryIn, Below, Fit, Outcomes};
+ghost use Rattle.tplt.specs.inner.Steps.{aloneIn, vecEntry, matEntry, atomicEntry, arrayEntry, numberIn, entryIn, Below, Fit, Outcomes};
 
 mod head;
 mod param;

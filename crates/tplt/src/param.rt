@@ -3,7 +3,7 @@ ghost use Prim.Native.Nat.{_+_, _<_};
 ghost use mathlib.Core.Path.{_≡_};
 ghost use lib.ListN.{length};
 ghost use Rattle.tplt.specs.Params.{typeParam, i32Param, u32Param, paramOf, paramsOf, typesKnown, argumentsOf, countZ, countOf};
-ghost use Rattle.tplt.specs.Steps.{paramAt};
+ghost use Rattle.tplt.specs.inner.Steps.{paramAt};
 use table::TypeNo;
 
 // The tags of an argument. Any other tag is another literal.

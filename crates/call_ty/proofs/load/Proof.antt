@@ -8,7 +8,7 @@ use lib.ListN.{length, getD, set, length-set}
 use borrow.Author.Count.{below-more}
 use borrow.Author.Needs.{needs}
 use Rattle.conv.specs.Rank.{isReference}
-use Rattle.overload.specs.Code.{codeOf}
+use Rattle.overload.specs.inner.Code.{codeOf}
 use Rattle.table.proofs.KindLaws.{clash}
 use Rattle.table.specs.Denote.{typeAt}
 use Rattle.ruled.proofs.Loaded.{offered, not-offered}

@@ -3,7 +3,7 @@ use Prim.Native.Nat.{ℕ}
 use mathlib.Core.Path.{_∙_, ap}
 use native.Mathlib.Omega.{arith}
 use borrow.Author.Needs.{needs}
-use Rattle.overload.specs.Code.{codeOf}
+use Rattle.overload.specs.inner.Code.{codeOf}
 use Rattle.table.specs.Denote.{typeAt}
 use Rattle.call_ty.proofs.Ways.{template-none, template-count, template-one}
 use Rattle.call_ty.proofs.template_right.Statement.{statement}

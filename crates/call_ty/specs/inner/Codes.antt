@@ -7,7 +7,7 @@ use mathlib.Core.List.{List, map}
 use lib.Dec.{eqb, ltb, leb}
 use lib.ListN.{length, getD, take}
 use Rattle.conv.specs.Types.{Ty, abstractInt, i32, isFloat, isAbstract}
-use Rattle.overload.specs.Code.{codeOf}
+use Rattle.overload.specs.inner.Code.{codeOf}
 use Rattle.ruled.specs.Call.{anyReference}
 use Rattle.names.specs.Names.Named.{rule}
 use Rattle.names.specs.inner.Table.{numbered}

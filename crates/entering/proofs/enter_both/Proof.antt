@@ -28,8 +28,8 @@ put-entry-requires c κs =
 add-put-entry : tie.Need-add-put-entry
 add-put-entry c = search needs
 
-over-requires : tie.Need-over-requires
-over-requires c κs = search needs
+container-of-requires : tie.Need-container-of-requires
+container-of-requires c κs = search needs
 
 put-entry-requires-2 : tie.Need-put-entry-requires-2
 put-entry-requires-2 c κs =
@@ -51,7 +51,7 @@ returns-2 : tie.Need-returns-2
 returns-2 c =
     let a = c .before .before .before .before .before .before .before .before .before .before .before .before .before .args in
     let z = two-new (a .words .now) (a .n) (a .inner) (a .outer) (c .before .before .before .before .before .before .before .before .before .before .before .before .before .pre .0) (c .before .before .before .before .before .before .before .before .before .before .before .before .before .pre .1) (omega (arith, c .before .before .before .before .before .before .before .before .before .before .free-of .ensures)) in
-    record { reply = z .reply; words = rw (c .before .before .put-entry2 .ensures, c .before .before .before .over .ensures, c .before .before .before .before .before .before .before .put-entry .ensures) (z .words) }
+    record { reply = z .reply; words = rw (c .before .before .put-entry2 .ensures, c .before .before .before .container-of .ensures, c .before .before .before .before .before .before .before .put-entry .ensures) (z .words) }
 
 pub enter-both-spec : {M : Type 1} → statement M
 enter-both-spec =
@@ -62,7 +62,7 @@ enter-both-spec =
     returns
     put-entry-requires
     add-put-entry
-    over-requires
+    container-of-requires
     put-entry-requires-2
     add-t5
     add-t16

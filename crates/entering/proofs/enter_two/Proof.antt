@@ -14,8 +14,8 @@ find-requires c κs = search needs
 enum-known-f : tie.Need-enum-known-f
 enum-known-f c = search needs
 
-over-requires : tie.Need-over-requires
-over-requires c κs =
+container-of-requires : tie.Need-container-of-requires
+container-of-requires c κs =
     let a = c .before .before .before .before .before .before .before .args in
     let t = find-at (a .words .now) (a .inner) (a .n) _ (sym (c .before .before .before .before .find .ensures) ∙ c .before .before .f .given .1) in
     omega (arith, t .0, c .before .before .before .before .before .before .before .pre .high)
@@ -35,7 +35,7 @@ same-length c = search needs
 returns : tie.Need-returns
 returns c =
     let a = c .before .before .before .before .before .before .before .before .before .before .before .args in
-    let o : c .before .before .before .over .result ≡ container (a .outer) (c .before .before .before .before .before .before .f .given .0 .0 .0) = c .before .before .before .over .ensures in
+    let o : c .before .before .before .container-of .result ≡ container (a .outer) (c .before .before .before .before .before .before .f .given .0 .0 .0) = c .before .before .before .container-of .ensures in
     two-found (a .words .now) (a .n) (a .inner) (a .outer) _ (sym (c .before .before .before .before .before .before .before .before .find .ensures) ∙ c .before .before .before .before .before .before .f .given .1) _ _ (rw o at (c .before .before .enter .ensures))
 
 same-length-2 : tie.Need-same-length-2
@@ -50,7 +50,7 @@ enter-two-spec =
     (tie.spec
     find-requires
     enum-known-f
-    over-requires
+    container-of-requires
     enter-requires
     enum-told
     enter-both-requires

@@ -8,8 +8,8 @@ use Rattle.frame.proofs.payload_item.Tie as tie
 add-from : tie.Need-add-from
 add-from c = search needs
 
-add-t17 : tie.Need-add-t17
-add-t17 c = search needs
+add-t16 : tie.Need-add-t16
+add-t16 c = search needs
 
 shared-slice-read-wide : tie.Need-shared-slice-read-wide
 shared-slice-read-wide c = search needs
@@ -21,15 +21,15 @@ returns : tie.Need-returns
 unfolding payloadItem
 returns c = simp (c .before .before .before .match .keys1, eq-eqb _ _ (c .before .before .if1 .taken), c .wide .ensures)
 
-shared-slice-read-t29 : tie.Need-shared-slice-read-t29
-shared-slice-read-t29 c = search needs
+shared-slice-read-t28 : tie.Need-shared-slice-read-t28
+shared-slice-read-t28 c = search needs
 
 returns-2 : tie.Need-returns-2
 unfolding payloadItem
 returns-2 c = simp (c .before .before .match .keys2, eq-eqb _ _ (c .before .if2 .taken))
 
-shared-slice-read-t33 : tie.Need-shared-slice-read-t33
-shared-slice-read-t33 c = search needs
+shared-slice-read-t32 : tie.Need-shared-slice-read-t32
+shared-slice-read-t32 c = search needs
 
 returns-3 : tie.Need-returns-3
 unfolding payloadItem
@@ -46,14 +46,14 @@ returns-5 : tie.Need-returns-5
 unfolding payloadItem
 returns-5 c = simp (c .before .before .match .keys4, lt-ltb _ _ (c .before .if4 .left), lt-leb _ _ (c .if5 .taken))
 
-add-t34 : tie.Need-add-t34
-add-t34 c = search needs
+add-t33 : tie.Need-add-t33
+add-t33 c = search needs
 
-sub-t38 : tie.Need-sub-t38
-sub-t38 c = search needs
+sub-t37 : tie.Need-sub-t37
+sub-t37 c = search needs
 
-shared-slice-read-t40 : tie.Need-shared-slice-read-t40
-shared-slice-read-t40 c = search needs
+shared-slice-read-t39 : tie.Need-shared-slice-read-t39
+shared-slice-read-t39 c = search needs
 
 returns-6 : tie.Need-returns-6
 unfolding payloadItem
@@ -66,11 +66,11 @@ returns-7 : tie.Need-returns-7
 unfolding payloadItem
 returns-7 c = simp (c .before .before .match .keys5, lt-ltb _ _ (c .before .if6 .left), lt-leb _ _ (c .if7 .taken))
 
-add-t41 : tie.Need-add-t41
-add-t41 c = search needs
+add-t40 : tie.Need-add-t40
+add-t40 c = search needs
 
-sub-t45 : tie.Need-sub-t45
-sub-t45 c = search needs
+sub-t44 : tie.Need-sub-t44
+sub-t44 c = search needs
 
 shared-slice-read-wide-2 : tie.Need-shared-slice-read-wide-2
 shared-slice-read-wide-2 c = search needs
@@ -78,11 +78,11 @@ shared-slice-read-wide-2 c = search needs
 wide-requires-2 : tie.Need-wide-requires-2
 wide-requires-2 c κs = search needs
 
-shared-slice-read-t50 : tie.Need-shared-slice-read-t50
-shared-slice-read-t50 c = search needs
+shared-slice-read-t49 : tie.Need-shared-slice-read-t49
+shared-slice-read-t49 c = search needs
 
-shared-slice-read-t54 : tie.Need-shared-slice-read-t54
-shared-slice-read-t54 c = search needs
+shared-slice-read-t53 : tie.Need-shared-slice-read-t53
+shared-slice-read-t53 c = search needs
 
 shared-slice-read-number : tie.Need-shared-slice-read-number
 shared-slice-read-number c = search needs
@@ -99,11 +99,11 @@ shared-slice-read-number-4 c = search needs
 number-requires : tie.Need-number-requires
 number-requires c κs = search needs
 
-shared-slice-read-t65 : tie.Need-shared-slice-read-t65
-shared-slice-read-t65 c = search needs
+shared-slice-read-t64 : tie.Need-shared-slice-read-t64
+shared-slice-read-t64 c = search needs
 
-shared-slice-read-t67 : tie.Need-shared-slice-read-t67
-shared-slice-read-t67 c = search needs
+shared-slice-read-t66 : tie.Need-shared-slice-read-t66
+shared-slice-read-t66 c = search needs
 
 returns-8 : tie.Need-returns-8
 unfolding payloadItem
@@ -142,36 +142,36 @@ payload-item-spec =
     tie.close
     (tie.spec
     add-from
-    add-t17
+    add-t16
     shared-slice-read-wide
     wide-requires
     returns
-    shared-slice-read-t29
+    shared-slice-read-t28
     returns-2
-    shared-slice-read-t33
+    shared-slice-read-t32
     returns-3
     returns-4
     add-if5
     returns-5
-    add-t34
-    sub-t38
-    shared-slice-read-t40
+    add-t33
+    sub-t37
+    shared-slice-read-t39
     returns-6
     add-if7
     returns-7
-    add-t41
-    sub-t45
+    add-t40
+    sub-t44
     shared-slice-read-wide-2
     wide-requires-2
-    shared-slice-read-t50
-    shared-slice-read-t54
+    shared-slice-read-t49
+    shared-slice-read-t53
     shared-slice-read-number
     shared-slice-read-number-2
     shared-slice-read-number-3
     shared-slice-read-number-4
     number-requires
-    shared-slice-read-t65
-    shared-slice-read-t67
+    shared-slice-read-t64
+    shared-slice-read-t66
     returns-8
     returns-9
     returns-10

@@ -5,6 +5,8 @@ use Rattle.names.specs.Names.{said, ruleOf}
 use borrow.Author.Tests.{ltb-false}
 use mathlib.Core.Path.{refl, sym, _∙_, ap}
 use mathlib.Core.Logic.{inl}
+use Rattle.frame.specs.inner.Items.{sheetOf}
+use Rattle.frame.proofs.Parts.{name-bytes}
 use borrow.Author.Needs.{needs}
 use Rattle.memo.proofs.asked_call.Statement.{statement}
 use Rattle.memo.proofs.asked_call.Tie as tie
@@ -12,8 +14,8 @@ use Rattle.memo.proofs.asked_call.Tie as tie
 returns : tie.Need-returns
 returns c = record { asks = inl refl }
 
-part-of-requires : tie.Need-part-of-requires
-part-of-requires c κs = search needs
+name-in-requires : tie.Need-name-in-requires
+name-in-requires c κs = search needs
 
 rule-of-requires : tie.Need-rule-of-requires
 rule-of-requires c κs = search needs
@@ -44,8 +46,8 @@ unfolding said
 returns-3 c = let a = c .before .before .before .before .before .before .before .before .before .before .before .args in
     let n = neither _ _ (c .before .before .before .before .before .before .before .before .before .if1 .left) in
     let g = c .before .before .before .before .before .rule .given in
-    let e = ap ruleOf (sym (c .before .before .before .before .before .before .before .before .part-of .ensures .bytes)) ∙ sym (c .before .before .before .before .before .before .before .rule-of .ensures) ∙ ap said (g .1) in
-    call-asked (a .sheet .now) (a .name) (a .k) (g .0 .0) (c .before .word64 .result) (c .wide .result) (ltb-false _ _ (n .0)) (ltb-false _ _ (n .1)) (c .before .before .before .if2 .left) e (c .before .word64 .ensures ∙ ap (λ (x : ℕ). 24 + x) (c .before .before .wide32 .ensures)) (c .wide .ensures)
+    let e = ap ruleOf (sym (name-bytes (a .items .now) (a .name) (c .before .before .before .before .before .before .before .before .before .before .before .pre .0) (c .before .before .before .before .before .before .before .before .name-in .ensures .bytes))) ∙ sym (c .before .before .before .before .before .before .before .rule-of .ensures) ∙ ap said (g .1) in
+    call-asked (sheetOf (a .items .now)) (a .name) (a .k) (g .0 .0) (c .before .word64 .result) (c .wide .result) (ltb-false _ _ (n .0)) (ltb-false _ _ (n .1)) (c .before .before .before .if2 .left) e (c .before .word64 .ensures ∙ ap (λ (x : ℕ). 24 + x) (c .before .before .wide32 .ensures)) (c .wide .ensures)
 
 returns-4 : tie.Need-returns-4
 returns-4 c = record { asks = inl refl }
@@ -55,7 +57,7 @@ asked-call-spec =
     tie.close
     (tie.spec
     returns
-    part-of-requires
+    name-in-requires
     rule-of-requires
     enum-known-rule
     returns-2

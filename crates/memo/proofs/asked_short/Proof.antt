@@ -1,8 +1,11 @@
--- `memo::asked_short` meets its contract: an operator that is known has its code, and all else none. Assumes nothing.
 use Rattle.memo.proofs.QuickLaws.{short-none, short-binary, short-unary}
+-- `memo::asked_short` meets its contract: an operator that is known has its code, and all else none. Assumes nothing.
 use borrow.Author.Needs.{needs}
 use Rattle.memo.proofs.asked_short.Statement.{statement}
 use Rattle.memo.proofs.asked_short.Tie as tie
+
+wide32-requires : tie.Need-wide32-requires
+wide32-requires c κs = search needs
 
 returns : tie.Need-returns
 returns c = short-none _
@@ -14,7 +17,7 @@ word64-requires : tie.Need-word64-requires
 word64-requires c κs = search needs
 
 returns-2 : tie.Need-returns-2
-returns-2 c = let a = c .before .before .before .args in short-binary (a .x) (c .word64 .result) (c .before .before .if1 .taken) (c .before .if2 .left) (c .word64 .ensures)
+returns-2 c = short-binary (c .before .before .before .before .before .args .x) (c .word64 .result) (c .before .before .before .before .wide32 .result) (c .before .before .before .before .wide32 .ensures) (c .before .before .if1 .taken) (c .before .if2 .left) (c .word64 .ensures)
 
 returns-3 : tie.Need-returns-3
 returns-3 c = short-none _
@@ -26,7 +29,7 @@ word64-requires-2 : tie.Need-word64-requires-2
 word64-requires-2 c κs = search needs
 
 returns-4 : tie.Need-returns-4
-returns-4 c = let a = c .before .before .before .before .args in short-unary (a .x) (c .word642 .result) (c .before .before .if3 .taken) (c .before .if4 .left) (c .word642 .ensures)
+returns-4 c = short-unary (c .before .before .before .before .before .before .before .args .x) (c .word642 .result) (c .before .before .before .before .before .before .wide32 .result) (c .before .before .before .before .before .before .wide32 .ensures) (c .before .before .if3 .taken) (c .before .if4 .left) (c .word642 .ensures)
 
 returns-5 : tie.Need-returns-5
 returns-5 c = short-none _
@@ -35,6 +38,7 @@ pub asked-short-spec : {M : Type 1} → statement M
 asked-short-spec =
     tie.close
     (tie.spec
+    wide32-requires
     returns
     add-word64
     word64-requires

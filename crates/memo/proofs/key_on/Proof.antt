@@ -1,6 +1,6 @@
 -- `memo::key_on` meets its contract: one to three operands, each the next byte. Assumes nothing.
 use Rattle.memo.proofs.MemoLaws.{key-none, key-next, byte-at}
-use Rattle.memo.specs.Memo.{keyUp}
+use Rattle.memo.specs.inner.Memo.{keyUp}
 use lib.ListN.{length}
 use native.Mathlib.Omega.{arith}
 use mathlib.Core.Path.{_≡_, sym, _∙_, ap}

@@ -1,7 +1,9 @@
--- `memo::note` meets its contract: the slot of the key gets its value. Assumes nothing.
-use lib.ListN.{set}
+use Rattle.memo.proofs.MemoLaws.{noted-first}
 use mathlib.Core.Path.{ap}
+use native.Mathlib.Omega.{arith}
 use Prim.Native.Nat.{ℕ, _+_, _*_}
+use lib.ListN.{getD, length-set}
+-- `memo::note` meets its contract: the first slot of the key gets its value, and the second what the first had. Assumes nothing.
 use borrow.Author.Needs.{needs}
 use Rattle.memo.proofs.note.Statement.{statement}
 use Rattle.memo.proofs.note.Tie as tie
@@ -12,8 +14,8 @@ slot-of-requires c κs = search needs
 mul-memo : tie.Need-mul-memo
 mul-memo c = search needs
 
-word64-requires : tie.Need-word64-requires
-word64-requires c κs = search needs
+slice-read-memo : tie.Need-slice-read-memo
+slice-read-memo c = search needs
 
 add-memo : tie.Need-add-memo
 add-memo c = search needs
@@ -24,16 +26,26 @@ mul-memo-2 c = search needs
 slice-write-memo : tie.Need-slice-write-memo
 slice-write-memo c = search needs
 
+mul-memo-3 : tie.Need-mul-memo-3
+mul-memo-3 c = search needs
+
+word64-requires : tie.Need-word64-requires
+word64-requires c κs = search needs
+
+add-memo-2 : tie.Need-add-memo-2
+add-memo-2 c = search needs
+
+mul-memo-4 : tie.Need-mul-memo-4
+mul-memo-4 c = search needs
+
+slice-write-memo-2 : tie.Need-slice-write-memo-2
+slice-write-memo-2 c = let a = c .before .before .before .before .args in let k = c .before .before .slot-of .result in omega (arith, length-set (a .memo .now) (k + 1) (getD (a .memo .now) k 0), c .before .before .before .before .pre .0, c .before .before .slot-of .ensures)
+
 same-length : tie.Need-same-length
 same-length c = search needs
 
 returns : tie.Need-returns
-returns c = let a = c .before .before .before .args in
-    record {
-      slot = c .before .slot-of .result;
-      below = c .before .slot-of .ensures;
-      words = ap (λ (x : ℕ). set (a .memo .now) (c .before .slot-of .result) (a .key * 256 + x)) (c .word64 .ensures);
-    }
+returns c = let a = c .before .before .before .before .args in noted-first (a .memo .now) (c .before .before .slot-of .result) (a .key) (a .t) (a .key * 256 + c .word64 .result) (ap (λ (x : ℕ). a .key * 256 + x) (c .word64 .ensures)) (c .before .before .before .before .pre .0) (c .before .before .slot-of .ensures)
 
 pub note-spec : {M : Type 1} → statement M
 note-spec =
@@ -41,9 +53,14 @@ note-spec =
     (tie.spec
     slot-of-requires
     mul-memo
-    word64-requires
+    slice-read-memo
     add-memo
     mul-memo-2
     slice-write-memo
+    mul-memo-3
+    word64-requires
+    add-memo-2
+    mul-memo-4
+    slice-write-memo-2
     same-length
     returns)

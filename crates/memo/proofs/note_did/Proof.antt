@@ -1,6 +1,6 @@
 -- `memo::note_did` meets its contract: a value that an item left is noted, and nothing else is. Assumes nothing.
 use native.Mathlib.Omega.{arith}
-use Rattle.memo.specs.Memo.{Leaves, NotedStep}
+use Rattle.memo.specs.inner.Memo.{Leaves, NotedStep}
 use Rattle.memo.proofs.Asking.{unnoted}
 use borrow.Author.Needs.{needs}
 use Rattle.memo.proofs.note_did.Statement.{statement}

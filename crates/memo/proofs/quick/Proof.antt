@@ -1,7 +1,7 @@
 -- `memo::quick` meets its contract: a value that the memo has is the one that typing gives. Assumes nothing.
 use Rattle.memo.proofs.QuickLaws.{quick-recalled}
 use Rattle.memo.proofs.Asking.{ready-small, asks-coded, key-small, base-room}
-use Rattle.memo.specs.Quick.{itemOf}
+use Rattle.frame.specs.inner.Items.{itemOf}
 use native.Mathlib.Omega.{arith}
 use mathlib.Core.Path.{refl}
 use mathlib.Core.Logic.{inl}
@@ -23,9 +23,9 @@ asked-short-requires : tie.Need-asked-short-requires
 asked-short-requires c κs = search needs
 
 keyed-requires : tie.Need-keyed-requires
-keyed-requires c κs = let a = c .before .before .before .before .before .before .args in
+keyed-requires c κs = let a = c .before .before .before .before .before .before .before .args in
     let q = c .before .asked-short in
-    (ready-small (a .count) (a .stack .now) (a .used) (a .table .now) (c .before .before .before .before .before .before .pre .0), asks-coded [] (itemOf (a .x)) (q .result .code) (q .result .operands) (q .ensures .asks []))
+    (ready-small (a .count) (a .stack .now) (a .used) (a .table .now) (c .before .before .before .before .before .before .before .pre .0), asks-coded [] (itemOf (a .x)) (q .result .code) (q .result .operands) (q .ensures .asks []))
 
 same-length-2 : tie.Need-same-length-2
 same-length-2 c = search needs
@@ -34,10 +34,10 @@ returns-2 : tie.Need-returns-2
 returns-2 c = record { went = inl (refl, refl) }
 
 recall-requires : tie.Need-recall-requires
-recall-requires c κs = let a = c .before .before .before .before .before .before .before .before .before .args in
+recall-requires c κs = let a = c .before .before .before .before .before .before .before .before .before .before .args in
     let q = c .before .before .before .before .asked-short in
     let k = c .before .before .keyed in
-    (c .before .before .before .before .before .before .before .before .before .pre .1 .size, key-small (a .count) (a .stack .now) (a .used) (a .table .now) (c .before .before .before .before .before .before .before .before .before .pre .0) [] (itemOf (a .x)) (q .result .code) (q .result .operands) (k .result .number) (k .result .base) (q .ensures .asks []) (k .ensures) (c .if2 .left))
+    (c .before .before .before .before .before .before .before .before .before .before .pre .1 .size, key-small (a .count) (a .stack .now) (a .used) (a .table .now) (c .before .before .before .before .before .before .before .before .before .before .pre .0) [] (itemOf (a .x)) (q .result .code) (q .result .operands) (k .result .number) (k .result .base) (q .ensures .asks []) (k .ensures) (c .if2 .left))
 
 same-length-3 : tie.Need-same-length-3
 same-length-3 c = search needs
@@ -46,33 +46,33 @@ returns-3 : tie.Need-returns-3
 returns-3 c = record { went = inl (refl, refl) }
 
 mul-stack : tie.Need-mul-stack
-mul-stack c = let a = c .before .before .before .before .before .before .before .before .before .before .before .args in
+mul-stack c = let a = c .before .before .before .before .before .before .before .before .before .before .before .before .args in
     let q = c .before .before .before .before .before .before .asked-short in
     let k = c .before .before .before .before .keyed in
-    let r = base-room (a .count) (a .stack .now) (a .used) (a .table .now) (c .before .before .before .before .before .before .before .before .before .before .before .pre .0) [] (itemOf (a .x)) (q .result .code) (q .result .operands) (k .result .number) (k .result .base) (q .ensures .asks []) (k .ensures) (c .before .before .if2 .left) in
+    let r = base-room (a .count) (a .stack .now) (a .used) (a .table .now) (c .before .before .before .before .before .before .before .before .before .before .before .before .pre .0) [] (itemOf (a .x)) (q .result .code) (q .result .operands) (k .result .number) (k .result .base) (q .ensures .asks []) (k .ensures) (c .before .before .if2 .left) in
     omega (arith, r .0)
 
 slice-write-stack : tie.Need-slice-write-stack
-slice-write-stack c = let a = c .before .before .before .before .before .before .before .before .before .before .before .args in
+slice-write-stack c = let a = c .before .before .before .before .before .before .before .before .before .before .before .before .args in
     let q = c .before .before .before .before .before .before .asked-short in
     let k = c .before .before .before .before .keyed in
-    base-room (a .count) (a .stack .now) (a .used) (a .table .now) (c .before .before .before .before .before .before .before .before .before .before .before .pre .0) [] (itemOf (a .x)) (q .result .code) (q .result .operands) (k .result .number) (k .result .base) (q .ensures .asks []) (k .ensures) (c .before .before .if2 .left) .1
+    base-room (a .count) (a .stack .now) (a .used) (a .table .now) (c .before .before .before .before .before .before .before .before .before .before .before .before .pre .0) [] (itemOf (a .x)) (q .result .code) (q .result .operands) (k .result .number) (k .result .base) (q .ensures .asks []) (k .ensures) (c .before .before .if2 .left) .1
 
 add-result : tie.Need-add-result
-add-result c = let a = c .before .before .before .before .before .before .before .before .before .before .before .args in
+add-result c = let a = c .before .before .before .before .before .before .before .before .before .before .before .before .args in
     let q = c .before .before .before .before .before .before .asked-short in
     let k = c .before .before .before .before .keyed in
-    let r = base-room (a .count) (a .stack .now) (a .used) (a .table .now) (c .before .before .before .before .before .before .before .before .before .before .before .pre .0) [] (itemOf (a .x)) (q .result .code) (q .result .operands) (k .result .number) (k .result .base) (q .ensures .asks []) (k .ensures) (c .before .before .if2 .left) in
+    let r = base-room (a .count) (a .stack .now) (a .used) (a .table .now) (c .before .before .before .before .before .before .before .before .before .before .before .before .pre .0) [] (itemOf (a .x)) (q .result .code) (q .result .operands) (k .result .number) (k .result .base) (q .ensures .asks []) (k .ensures) (c .before .before .if2 .left) in
     omega (arith, r .0)
 
 same-length-4 : tie.Need-same-length-4
 same-length-4 c = search needs
 
 returns-4 : tie.Need-returns-4
-returns-4 c = let a = c .before .before .before .before .before .before .before .before .before .before .before .args in
+returns-4 c = let a = c .before .before .before .before .before .before .before .before .before .before .before .before .args in
     let q = c .before .before .before .before .before .before .asked-short in
     let k = c .before .before .before .before .keyed in
-    quick-recalled (a .count) (a .stack .now) (a .used) (a .table .now) (c .before .before .before .before .before .before .before .before .before .before .before .pre .0) (a .memo .now) (c .before .before .before .before .before .before .before .before .before .before .before .pre .1) (a .x) (q .result .code) (q .result .operands) (k .result .number) (k .result .base) (c .before .recall .result) (q .ensures) (k .ensures) (c .before .before .if2 .left) (c .before .recall .ensures) (c .if3 .left)
+    quick-recalled (a .count) (a .stack .now) (a .used) (a .table .now) (c .before .before .before .before .before .before .before .before .before .before .before .before .pre .0) (a .memo .now) (c .before .before .before .before .before .before .before .before .before .before .before .before .pre .1) (a .x) (q .result .code) (q .result .operands) (k .result .number) (k .result .base) (c .before .recall .result) (q .ensures) (k .ensures) (c .before .before .if2 .left) (c .before .recall .ensures) (c .if3 .left)
 
 pub quick-spec : {M : Type 1} → statement M
 quick-spec =

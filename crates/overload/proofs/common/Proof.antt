@@ -6,7 +6,7 @@ use mathlib.Core.Path.{_≡_, _∙_, sym, ap, refl}
 use mathlib.Core.Logic.{inl, inr, ⊎-elim}
 use Rattle.conv.specs.Rank.{accepts}
 use Rattle.conv.proofs.Ranks.{common-width}
-use Rattle.overload.proofs.Slots.{plain-accepts, common-accepts}
+use Rattle.overload.proofs.Slots.{plain-accepts, none-reaches, none-accepts, common-reaches}
 use Rattle.overload.proofs.common.Statement.{statement}
 use Rattle.overload.proofs.common.Tie as tie
 
@@ -27,7 +27,11 @@ returns c =
     let s = c .before .before .before in
     let b = c .before .before .base-of .ensures in (
       inl refl,
-      λ t h. ap (λ (k : ℕ). accepts k t) (sym (c .if1 .taken) ∙ c .before .convert-ty .ensures) ∙ common-accepts _ (s .args .j) (s .args .s) t (b .0) (b .1) (s .pre .0) (s .pre .1) h,
+      λ t h.
+          none-reaches t
+          ∙ sym (none-accepts t)
+          ∙ ap (λ (k : ℕ). accepts k t) (sym (c .if1 .taken) ∙ c .before .convert-ty .ensures)
+          ∙ common-reaches _ (s .args .j) (s .args .s) t (b .0) (b .1) (s .pre .0) (s .pre .1) h,
     )
 
 -- a common type is of the width
@@ -54,13 +58,10 @@ returns-2 c =
     let base = c .before .before .base-of .result in (
       inr (omega arith),
       λ t h.
-          plain-accepts (r - base) (r % 7) t (omega arith) (omega arith)
-          ∙ sym (plain-accepts r (r % 7) t l refl)
+          sym (plain-accepts r (r - base) t l (omega arith))
           ∙ ap (λ (k : ℕ). accepts k t) (c .before .convert-ty .ensures)
-          ∙ common-accepts _ (s .args .j) (s .args .s) t (b .0) (b .1) (s .pre .0) (s .pre .1) h,
+          ∙ common-reaches _ (s .args .j) (s .args .s) t (b .0) (b .1) (s .pre .0) (s .pre .1) h,
     )
 
 pub common-spec : {M : Type 1} → statement M
-common-spec =
-    tie.close
-    (tie.spec base-of-requires add-convert-ty add-convert-ty-2 convert-ty-requires returns sub-result returns-2)
+common-spec = tie.close (tie.spec base-of-requires add-convert-ty add-convert-ty-2 convert-ty-requires returns sub-result returns-2)

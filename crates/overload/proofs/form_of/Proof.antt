@@ -3,7 +3,7 @@ use borrow.Author.Needs.{needs}
 use lib.Dec.{ltb, ltb→lt}
 use Rattle.conv.specs.Rank.{both, formOf}
 use Rattle.conv.proofs.Finite.{below}
-use Rattle.overload.specs.Code.{shapeOfNo, entry}
+use Rattle.overload.specs.inner.Code.{shapeOfNo, entry}
 use Rattle.overload.proofs.Lines.{line}
 use Rattle.overload.proofs.form_of.Statement.{statement}
 use Rattle.overload.proofs.form_of.Tie as tie

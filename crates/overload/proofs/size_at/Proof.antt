@@ -1,19 +1,18 @@
-use Rattle.overload.specs.Code.{sizeAt}
-use borrow.Author.Tests.{eq-eqb, ne-eqb}
+-- `overload::size_at` meets its contract. Assumes nothing.
 use borrow.Author.Needs.{needs}
+use native.Mathlib.Omega.{arith}
+use borrow.Author.Tests.{eq-eqb, ne-eqb}
+use Rattle.overload.specs.inner.Code.{sizeAt}
 use Rattle.overload.proofs.size_at.Statement.{statement}
 use Rattle.overload.proofs.size_at.Tie as tie
 
-word-requires : tie.Need-word-requires
-word-requires c κs = search needs
-
 returns : tie.Need-returns
 unfolding sizeAt
-returns c = rw (← c .before .word .ensures, eq-eqb _ 0 (c .if1 .taken))
+returns c = (rw (eq-eqb _ 0 (c .if1 .taken)), omega arith)
 
 returns-2 : tie.Need-returns-2
 unfolding sizeAt
-returns-2 c = rw (← c .before .before .word .ensures, ne-eqb _ 0 (c .before .if1 .left), eq-eqb _ 1 (c .if2 .taken))
+returns-2 c = (rw (ne-eqb _ 0 (c .before .if1 .left), eq-eqb _ 1 (c .if2 .taken)), omega arith)
 
 mul-result : tie.Need-mul-result
 mul-result c = search needs
@@ -26,25 +25,11 @@ add-result-2 c = search needs
 
 returns-3 : tie.Need-returns-3
 unfolding sizeAt
-returns-3 c = rw (← c .before .before .before .word .ensures, ne-eqb _ 0 (c .before .before .if1 .left), ne-eqb _ 1 (c .before .if2 .left), eq-eqb _ 2 (c .if3 .taken))
-
-sub-result : tie.Need-sub-result
-sub-result c = search needs
+returns-3 c = (rw (ne-eqb _ 0 (c .before .before .if1 .left), ne-eqb _ 1 (c .before .if2 .left), eq-eqb _ 2 (c .if3 .taken)), omega arith)
 
 returns-4 : tie.Need-returns-4
 unfolding sizeAt
-returns-4 c = rw (← c .before .before .before .word .ensures, ne-eqb _ 0 (c .before .before .if1 .left), ne-eqb _ 1 (c .before .if2 .left), ne-eqb _ 2 (c .if3 .left))
+returns-4 c = (rw (ne-eqb _ 0 (c .before .before .if1 .left), ne-eqb _ 1 (c .before .if2 .left), ne-eqb _ 2 (c .if3 .left)), omega arith)
 
 pub size-at-spec : {M : Type 1} → statement M
-size-at-spec =
-    tie.close
-    (tie.spec
-    word-requires
-    returns
-    returns-2
-    mul-result
-    add-result
-    add-result-2
-    returns-3
-    sub-result
-    returns-4)
+size-at-spec = tie.close (tie.spec returns returns-2 mul-result add-result add-result-2 returns-3 returns-4)

@@ -4,7 +4,7 @@ use mathlib.Core.Path.{sym, _∙_, ap, subst}
 use mathlib.Core.Bool.{not}
 use lib.Dec.{T}
 use Rattle.conv.specs.Types.{formed, isRuntime}
-use Rattle.overload.specs.Code.{outOf}
+use Rattle.overload.specs.inner.Code.{outOf}
 use Rattle.overload.specs.declared.Out.{Out}
 use Rattle.table.specs.Placing.{entering}
 use Rattle.ruled.proofs.Outcomes.{plain-outcome, frexp-outcome, modf-outcome, gave-from}

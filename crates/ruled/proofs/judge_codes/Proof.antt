@@ -2,7 +2,7 @@
 use borrow.Author.Needs.{needs}
 use mathlib.Core.Path.{sym, _∙_, ap}
 use mathlib.Core.List.{map}
-use Rattle.overload.specs.Code.{operand, outOf, judgedOf}
+use Rattle.overload.specs.inner.Code.{operand, outOf, judgedOf}
 use Rattle.overload.proofs.Results.{gives-formed}
 use Rattle.ruled.proofs.Outcomes.{gave-as, gave-refused}
 use Rattle.ruled.specs.Call.{judgedOutcome}

@@ -1,23 +1,24 @@
--- `sheet::run_on` meets its contract: before every turn, what is left of the items gives what the whole sheet gives. Assumes nothing.
+-- `sheet::run_on` meets its contract: before every turn, what is left of the items gives what the whole items gives. Assumes nothing.
 use lib.ListN.{length}
 use Prim.Native.Nat.{_-_}
 use mathlib.Core.Path.{sym, _∙_}
 use native.Mathlib.Omega.{arith}
+use Rattle.frame.specs.inner.Items.{sheetOf}
 use borrow.Author.Needs.{needs}
-use Rattle.memo.specs.Memo.{Recalls}
-use Rattle.sheet.specs.Code.{AfterTurn}
+use Rattle.memo.specs.inner.Memo.{Recalls}
+use Rattle.sheet.specs.inner.Code.{AfterTurn}
 use Rattle.sheet.proofs.Running.{Left, left-start, left-rushed, left-again, left-less, left-done}
 use Rattle.sheet.proofs.run_on.Statement.{statement}
 use Rattle.sheet.proofs.run_on.Tie as tie
 
 abbrev Inv-loop : tie.InvT-loop
-Inv-loop sheet table₀ used stack₀ memo₀ count₀ n₀ at₀ table stack memo count n at = Left sheet table₀ used table stack count n at × Recalls memo table n
+Inv-loop items table₀ given stack₀ memo₀ count₀ used₀ at₀ table stack memo count used at = Left (sheetOf items) table₀ given table stack count used at × Recalls memo table used
 
 abbrev μ-loop : tie.MeasureT-loop
-μ-loop sheet table₀ used stack₀ memo₀ count₀ n₀ at₀ table stack memo count n at = length sheet - at
+μ-loop items table₀ given stack₀ memo₀ count₀ used₀ at₀ table stack memo count used at = length (sheetOf items) - at
 
 loop-holds : tie.Need-loop-holds Inv-loop μ-loop
-loop-holds c = let a = c .before .before .before .before .args in (left-start (a .sheet .now) (a .table .now) (a .used) (a .stack .now) (c .before .before .before .before .pre .0) (c .before .before .before .before .pre .1), c .before .before .before .before .pre .2)
+loop-holds c = let a = c .before .before .before .before .args in (left-start (sheetOf (a .items .now)) (a .table .now) (a .used) (a .stack .now) (c .before .before .before .before .pre .0) (c .before .before .before .before .pre .1), c .before .before .before .before .pre .2)
 
 rush-requires : tie.Need-rush-requires Inv-loop μ-loop
 rush-requires c κs = (c .before .before .before .loop .inv .0 .ready, c .before .before .before .loop .inv .1)
@@ -33,8 +34,8 @@ loop-less c = let a = c .before .before .before .before .before .before .before 
     let l = c .before .before .before .before .before .before .before .before .before .before .before .before .before .before .before .before .before .before .before .loop in
     let r = c .before .before .before .before .before .before .before .before .before .before .before .before .before .before .before .rush in
     let e = c .before .c .given in
-    let L = left-rushed (a .sheet .now) (a .table .now) (a .used) (l .table) (l .stack) (l .count) (l .n) (l .at) (l .inv .0) _ (r .result) (r .ensures) in
-    let f = left-less (a .sheet .now) (a .table .now) (a .used) (l .table) _ (r .result .count) (l .n) (r .result .at .0) L _ _ (e .0 .0) (e .0 .1 .0) (e .0 .1 .1 .0) (rw (e .1) at (c .before .before .before .before .before .before .before .before .before .one-turn .ensures .0)) in
+    let L = left-rushed (sheetOf (a .items .now)) (a .table .now) (a .used) (l .table) (l .stack) (l .count) (l .used) (l .at) (l .inv .0) _ (r .result) (r .ensures) in
+    let f = left-less (sheetOf (a .items .now)) (a .table .now) (a .used) (l .table) _ (r .result .count) (l .used) (r .result .at .0) L _ _ (e .0 .0) (e .0 .1 .0) (e .0 .1 .1 .0) (rw (e .1) at (c .before .before .before .before .before .before .before .before .before .one-turn .ensures .0)) in
     omega (arith, f .0, f .1, r .ensures .onward)
 
 loop-again : tie.Need-loop-again Inv-loop μ-loop
@@ -43,8 +44,8 @@ loop-again c = let a = c .before .before .before .before .before .before .before
     let l = c .before .before .before .before .before .before .before .before .before .before .before .before .before .before .before .before .before .before .before .loop in
     let r = c .before .before .before .before .before .before .before .before .before .before .before .before .before .before .before .rush in
     let e = c .before .c .given in
-    let L = left-rushed (a .sheet .now) (a .table .now) (a .used) (l .table) (l .stack) (l .count) (l .n) (l .at) (l .inv .0) _ (r .result) (r .ensures) in
-    (left-again (a .sheet .now) (a .table .now) (a .used) (l .table) _ (r .result .count) (l .n) (r .result .at .0) L _ _ (e .0 .0) (e .0 .1 .0) (e .0 .1 .1 .0) (rw (e .1) at (c .before .before .before .before .before .before .before .before .before .one-turn .ensures .0)) (c .before .before .before .before .before .before .before .before .before .one-turn .kept .1 .1 .0) (c .before .before .before .before .before .before .before .before .before .one-turn .kept .1 .1 .1 .1 .0), rw (e .1) at (c .before .before .before .before .before .before .before .before .before .one-turn .ensures .1))
+    let L = left-rushed (sheetOf (a .items .now)) (a .table .now) (a .used) (l .table) (l .stack) (l .count) (l .used) (l .at) (l .inv .0) _ (r .result) (r .ensures) in
+    (left-again (sheetOf (a .items .now)) (a .table .now) (a .used) (l .table) _ (r .result .count) (l .used) (r .result .at .0) L _ _ (e .0 .0) (e .0 .1 .0) (e .0 .1 .1 .0) (rw (e .1) at (c .before .before .before .before .before .before .before .before .before .one-turn .ensures .0)) (c .before .before .before .before .before .before .before .before .before .one-turn .kept .1 .1 .0) (c .before .before .before .before .before .before .before .before .before .one-turn .kept .1 .1 .1 .1 .0), rw (e .1) at (c .before .before .before .before .before .before .before .before .before .one-turn .ensures .1))
 
 enum-known-a : tie.Need-enum-known-a Inv-loop μ-loop
 enum-known-a c = search needs
@@ -63,8 +64,8 @@ returns c = let a = c .before .before .before .before .before .before .before .b
     let l = c .before .before .before .before .before .before .before .before .before .before .before .before .before .before .before .before .before .before .before .loop in
     let r = c .before .before .before .before .before .before .before .before .before .before .before .before .before .before .before .rush in
     let e = c .before .a .given in
-    let L = left-rushed (a .sheet .now) (a .table .now) (a .used) (l .table) (l .stack) (l .count) (l .n) (l .at) (l .inv .0) _ (r .result) (r .ensures) in
-    left-done (a .sheet .now) (a .table .now) (a .used) (l .table) _ (r .result .count) (l .n) (r .result .at .0) L _ _ (e .0 .0) (rw (e .1) at (c .before .before .before .before .before .before .before .before .before .one-turn .ensures .0))
+    let L = left-rushed (sheetOf (a .items .now)) (a .table .now) (a .used) (l .table) (l .stack) (l .count) (l .used) (l .at) (l .inv .0) _ (r .result) (r .ensures) in
+    left-done (sheetOf (a .items .now)) (a .table .now) (a .used) (l .table) _ (r .result .count) (l .used) (r .result .at .0) L _ _ (e .0 .0) (rw (e .1) at (c .before .before .before .before .before .before .before .before .before .one-turn .ensures .0))
 
 pub run-on-spec : {M : Type 1} → statement M
 run-on-spec =

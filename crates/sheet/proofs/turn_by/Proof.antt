@@ -18,22 +18,22 @@ enum-known-d-3 : tie.Need-enum-known-d-3
 enum-known-d-3 c = search needs
 
 finish-requires : tie.Need-finish-requires
-finish-requires c κs = let e = c .before .d3 .given in (c .before .before .before .before .pre .0, counted-end (c .before .before .before .before .args .size) (c .before .before .before .before .args .place .0) (c .before .before .before .before .args .next .0) (c .before .before .before .before .args .stack .now) (e .0 .0) (e .0 .1 .0) (rw (e .1) at (c .before .before .before .before .pre .1)))
+finish-requires c κs = let e = c .before .d3 .given in (c .before .before .before .before .pre .0, counted-end (c .before .before .before .before .args .size) (c .before .before .before .before .args .at .0) (c .before .before .before .before .args .next .0) (c .before .before .before .before .args .stack .now) (e .0 .0) (e .0 .1 .0) (rw (e .1) at (c .before .before .before .before .pre .1)))
 
 enum-known-d-4 : tie.Need-enum-known-d-4
 enum-known-d-4 c = search needs
 
 returns : tie.Need-returns
-returns c = let e = c .before .d .given in rw (e .1) (turn-goes (c .before .before .before .before .args .size) (c .before .before .before .before .args .place .0) (c .before .before .before .before .args .next .0) (c .before .before .before .before .args .stack .now) (e .0 .0) (e .0 .1 .0) (c .before .before .before .before .args .next) refl (rw (e .1) at (c .before .before .before .before .pre .1)))
+returns c = let e = c .before .d .given in rw (e .1) (turn-goes (c .before .before .before .before .args .size) (c .before .before .before .before .args .at .0) (c .before .before .before .before .args .next .0) (c .before .before .before .before .args .stack .now) (e .0 .0) (e .0 .1 .0) (c .before .before .before .before .args .next) refl (rw (e .1) at (c .before .before .before .before .pre .1)))
 
 returns-2 : tie.Need-returns-2
-returns-2 c = let e = c .before .before .d2 .given in rw (e .1) (turn-silent (c .before .before .before .before .before .args .size) (c .before .before .before .before .before .args .place .0) (c .before .before .before .before .before .args .next .0) (c .before .before .before .before .before .args .stack .now) (e .0 .0) (e .0 .1 .0) (c .before .before .before .before .before .pre .0) (rw (e .1) at (c .before .before .before .before .before .pre .1)) (c .leave .result) (c .leave .ensures))
+returns-2 c = let e = c .before .before .d2 .given in rw (e .1) (turn-silent (c .before .before .before .before .before .args .size) (c .before .before .before .before .before .args .at .0) (c .before .before .before .before .before .args .next .0) (c .before .before .before .before .before .args .stack .now) (e .0 .0) (e .0 .1 .0) (c .before .before .before .before .before .pre .0) (rw (e .1) at (c .before .before .before .before .before .pre .1)) (c .leave .result) (c .leave .ensures))
 
 returns-3 : tie.Need-returns-3
-returns-3 c = let e = c .before .before .d3 .given in rw (e .1) (turn-ends (c .before .before .before .before .before .args .size) (c .before .before .before .before .before .args .place .0) (c .before .before .before .before .before .args .next .0) (c .before .before .before .before .before .args .stack .now) (e .0 .0) (e .0 .1 .0) (c .finish .result) (c .finish .ensures))
+returns-3 c = let e = c .before .before .d3 .given in rw (e .1) (turn-ends (c .before .before .before .before .before .args .size) (c .before .before .before .before .before .args .at .0) (c .before .before .before .before .before .args .next .0) (c .before .before .before .before .before .args .stack .now) (e .0 .0) (e .0 .1 .0) (c .finish .result) (c .finish .ensures))
 
 returns-4 : tie.Need-returns-4
-returns-4 c = let e = c .before .d4 .given in rw (e .1) (turn-stops (c .before .before .before .before .args .size) (c .before .before .before .before .args .place .0) (c .before .before .before .before .args .next .0) (c .before .before .before .before .args .stack .now) (e .0 .0))
+returns-4 c = let e = c .before .d4 .given in rw (e .1) (turn-stops (c .before .before .before .before .args .size) (c .before .before .before .before .args .at .0) (c .before .before .before .before .args .next .0) (c .before .before .before .before .args .stack .now) (e .0 .0))
 
 pub turn-by-spec : {M : Type 1} → statement M
 turn-by-spec =

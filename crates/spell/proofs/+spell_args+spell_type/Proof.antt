@@ -14,7 +14,7 @@ use Rattle.table.proofs.entry_at.Reads as entry-at-reads
 use Rattle.cast.proofs.word.Reads as word-reads
 use Rattle.spell.proofs.Entries.{under, alone, with-args, with-result}
 use Rattle.spell.proofs.Heads.{head-long, opening-long, closing-long, fract-long}
-use Rattle.spell.specs.Parts.{half}
+use Rattle.spell.specs.inner.Parts.{half}
 use Rattle.text.proofs.Puts.{put-put}
 use Rattle.spell.proofs.+spell_args+spell_type.{statement}
 use Rattle.spell.proofs.+spell_args+spell_type.Tie.{close}

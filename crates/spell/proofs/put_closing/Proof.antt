@@ -1,7 +1,7 @@
 -- `spell::put_closing` meets its contract: what stands last, and then `>`. Assumes nothing.
 use native.Mathlib.Omega.{arith}
 use Rattle.text.specs.Text.{ascii}
-use Rattle.spell.specs.Parts.{closing}
+use Rattle.spell.specs.inner.Parts.{closing}
 use Rattle.text.proofs.Puts.{put-put}
 use borrow.Author.Needs.{needs}
 use Rattle.spell.proofs.put_closing.Statement.{statement}

@@ -5,7 +5,7 @@ use mathlib.Core.Path.{_≡_, refl, sym, _∙_, ap}
 use native.Mathlib.Omega.{arith}
 use lib.ListN.{length, take, set}
 use lib.Seq.{sets, length-sets, take-all}
-use Rattle.spell.specs.Parts.{textOf}
+use Rattle.spell.specs.inner.Parts.{textOf}
 use Rattle.spell.proofs.Texts.{text-none, text-short, text-end, text-more}
 use Rattle.text.proofs.Puts.{put-nothing, put-more}
 use Rattle.spell.proofs.put_text.Statement.{statement}

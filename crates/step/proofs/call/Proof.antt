@@ -2,6 +2,8 @@
 use Rattle.answer.specs.declared.Reason.the-variants.{Stack}
 use Rattle.step.specs.Effect.{bytesOf}
 use Rattle.step.proofs.Effects.{does-as, refusing, call-short, call-goes}
+use Rattle.frame.specs.inner.Items.{sheetOf}
+use Rattle.frame.proofs.Parts.{name-bytes}
 use borrow.Author.Needs.{needs}
 use Rattle.step.proofs.call.Statement.{statement}
 use Rattle.step.proofs.call.Tie as tie
@@ -15,10 +17,10 @@ stopped-requires c κs = search needs
 returns : tie.Need-returns
 returns c = let a = c .before .before .before .before .before .before .args in
     let l = rw (c .before .before .wide .ensures) at (c .before .if1 .taken) in
-    refusing (a .place) (a .count) (a .stack .now) (a .used) (a .table .now) Stack (c .stopped .ensures) (call-short (a .place) (a .count) (a .stack .now) (a .used) (a .table .now) (c .before .before .before .before .before .before .pre .0) (bytesOf (a .sheet .now) (a .name)) (a .k) l)
+    refusing (a .at) (a .count) (a .stack .now) (a .used) (a .table .now) Stack (c .stopped .ensures) (call-short (a .at) (a .count) (a .stack .now) (a .used) (a .table .now) (c .before .before .before .before .before .before .pre .0) (bytesOf (sheetOf (a .items .now)) (a .name)) (a .k) l)
 
-part-of-requires : tie.Need-part-of-requires
-part-of-requires c κs = search needs
+name-in-requires : tie.Need-name-in-requires
+name-in-requires c κs = search needs
 
 slice-aggregate-call-on : tie.Need-slice-aggregate-call-on
 slice-aggregate-call-on c = search needs
@@ -35,7 +37,7 @@ same-length-2 c = search needs
 returns-2 : tie.Need-returns-2
 returns-2 c = let a = c .before .before .before .before .before .before .before .before .before .before .before .before .before .before .args in
     let l = rw (c .before .before .before .before .before .before .before .before .before .before .wide .ensures) at (c .before .before .before .before .before .before .before .before .before .if1 .left) in
-    does-as (call-goes (a .place) (a .count) (a .stack .now) (a .used) (a .table .now) (c .before .before .before .before .before .before .before .before .before .before .before .before .before .before .pre .0) (bytesOf (a .sheet .now) (a .name)) (a .k) l) (rw (c .before .before .before .before .before .before .before .before .before .before .wide .ensures, c .before .before .before .before .before .before .before .before .part-of .ensures .bytes) at (c .before .before .before .before .call-on .ensures))
+    does-as (call-goes (a .at) (a .count) (a .stack .now) (a .used) (a .table .now) (c .before .before .before .before .before .before .before .before .before .before .before .before .before .before .pre .0) (bytesOf (sheetOf (a .items .now)) (a .name)) (a .k) l) (rw (c .before .before .before .before .before .before .before .before .before .before .wide .ensures, name-bytes (a .items .now) (a .name) (c .before .before .before .before .before .before .before .before .before .before .before .before .before .before .pre .1 .0) (c .before .before .before .before .before .before .before .before .name-in .ensures .bytes)) at (c .before .before .before .before .call-on .ensures))
 
 pub call-spec : {M : Type 1} → statement M
 call-spec =
@@ -44,7 +46,7 @@ call-spec =
     wide-requires
     stopped-requires
     returns
-    part-of-requires
+    name-in-requires
     slice-aggregate-call-on
     call-on-requires
     same-length

@@ -6,6 +6,8 @@ use Prim.Native.Nat.{ℕ, zero, suc, _<_, _≤_}
 use native.Mathlib.Omega.{arith}
 use lib.ListN.{getD}
 use mathlib.Core.List.{[], _∷_}
+use Rattle.frame.specs.inner.Items.{sheetOf}
+use Rattle.frame.proofs.Parts.{name-bytes}
 use borrow.Author.Needs.{needs}
 use Rattle.step.proofs.call_template.Statement.{statement}
 use Rattle.step.proofs.call_template.Tie as tie
@@ -23,19 +25,19 @@ stopped-requires c κs = search needs
 
 returns : tie.Need-returns
 returns c = let a = c .before .before .before .before .before .before .args in
-    let l : a .high < a .k = omega (arith, c .before .before .wide .ensures, c .before .if1 .taken) in
-    refusing (a .place) (a .high) (a .stack .now) (a .n) (a .table .now) Stack (c .stopped .ensures) (template-short (a .place) (a .high) (a .stack .now) (a .n) (a .table .now) (c .before .before .before .before .before .before .pre .0) (bytesOf (a .sheet .now) (a .name)) (a .t .0) (a .k) l)
+    let l : a .count < a .k = omega (arith, c .before .before .wide .ensures, c .before .if1 .taken) in
+    refusing (a .at) (a .count) (a .stack .now) (a .used) (a .table .now) Stack (c .stopped .ensures) (template-short (a .at) (a .count) (a .stack .now) (a .used) (a .table .now) (c .before .before .before .before .before .before .pre .0) (bytesOf (sheetOf (a .items .now)) (a .name)) (a .t .0) (a .k) l)
 
 stopped-requires-2 : tie.Need-stopped-requires-2
 stopped-requires-2 c κs = search needs
 
 returns-2 : tie.Need-returns-2
 returns-2 c = let a = c .before .before .before .before .before .before .before .args in
-    let l : a .k ≤ a .high = omega (arith, c .before .before .before .wide .ensures, c .before .before .if1 .left) in
-    refusing (a .place) (a .high) (a .stack .now) (a .n) (a .table .now) NoSuchType (c .stopped2 .ensures) (template-unknown (a .place) (a .high) (a .stack .now) (a .n) (a .table .now) (c .before .before .before .before .before .before .before .pre .0) (bytesOf (a .sheet .now) (a .name)) (a .t .0) (a .k) l (c .before .if2 .taken))
+    let l : a .k ≤ a .count = omega (arith, c .before .before .before .wide .ensures, c .before .before .if1 .left) in
+    refusing (a .at) (a .count) (a .stack .now) (a .used) (a .table .now) NoSuchType (c .stopped2 .ensures) (template-unknown (a .at) (a .count) (a .stack .now) (a .used) (a .table .now) (c .before .before .before .before .before .before .before .pre .0) (bytesOf (sheetOf (a .items .now)) (a .name)) (a .t .0) (a .k) l (c .before .if2 .taken))
 
-part-of-requires : tie.Need-part-of-requires
-part-of-requires c κs = search needs
+name-in-requires : tie.Need-name-in-requires
+name-in-requires c κs = search needs
 
 cast-first : tie.Need-cast-first
 cast-first c = search needs
@@ -44,7 +46,7 @@ slice-aggregate-call-on : tie.Need-slice-aggregate-call-on
 slice-aggregate-call-on c = search needs
 
 call-on-requires : tie.Need-call-on-requires
-call-on-requires c κs = let a = c .before .before .before .before .before .before .before .before .before .before .args in (c .before .before .before .before .before .before .before .before .before .before .pre .0, one (a .t .0) (a .n) (c .before .before .before .before .if2 .left), c .before .before .before .before .before .if1 .left)
+call-on-requires c κs = let a = c .before .before .before .before .before .before .before .before .before .before .args in (c .before .before .before .before .before .before .before .before .before .before .pre .0, one (a .t .0) (a .used) (c .before .before .before .before .if2 .left), c .before .before .before .before .before .if1 .left)
 
 same-length : tie.Need-same-length
 same-length c = search needs
@@ -54,8 +56,8 @@ same-length-2 c = search needs
 
 returns-3 : tie.Need-returns-3
 returns-3 c = let a = c .before .before .before .before .before .before .before .before .before .before .before .before .before .before .before .args in
-    let l : a .k ≤ a .high = omega (arith, c .before .before .before .before .before .before .before .before .before .before .before .wide .ensures, c .before .before .before .before .before .before .before .before .before .before .if1 .left) in
-    does-as (template-goes (a .place) (a .high) (a .stack .now) (a .n) (a .table .now) (c .before .before .before .before .before .before .before .before .before .before .before .before .before .before .before .pre .0) (bytesOf (a .sheet .now) (a .name)) (a .t .0) (a .k) l (c .before .before .before .before .before .before .before .before .before .if2 .left)) (rw (c .before .before .before .before .before .before .before .before .before .before .before .wide .ensures, c .before .before .before .before .before .before .before .before .part-of .ensures .bytes) at (c .before .before .before .before .call-on .ensures))
+    let l : a .k ≤ a .count = omega (arith, c .before .before .before .before .before .before .before .before .before .before .before .wide .ensures, c .before .before .before .before .before .before .before .before .before .before .if1 .left) in
+    does-as (template-goes (a .at) (a .count) (a .stack .now) (a .used) (a .table .now) (c .before .before .before .before .before .before .before .before .before .before .before .before .before .before .before .pre .0) (bytesOf (sheetOf (a .items .now)) (a .name)) (a .t .0) (a .k) l (c .before .before .before .before .before .before .before .before .before .if2 .left)) (rw (c .before .before .before .before .before .before .before .before .before .before .before .wide .ensures, name-bytes (a .items .now) (a .name) (c .before .before .before .before .before .before .before .before .before .before .before .before .before .before .before .pre .1 .0) (c .before .before .before .before .before .before .before .before .name-in .ensures .bytes)) at (c .before .before .before .before .call-on .ensures))
 
 pub call-template-spec : {M : Type 1} → statement M
 call-template-spec =
@@ -66,7 +68,7 @@ call-template-spec =
     returns
     stopped-requires-2
     returns-2
-    part-of-requires
+    name-in-requires
     cast-first
     slice-aggregate-call-on
     call-on-requires

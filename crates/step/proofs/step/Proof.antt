@@ -1,6 +1,6 @@
 -- `step::step` meets its contract: each item by the function of its kind. Assumes nothing.
 use Rattle.step.specs.Effect.{effectOf}
-use Rattle.step.specs.Code.{effectBy, Counted}
+use Rattle.step.specs.inner.Code.{operatorEffect, effectBy, Counted}
 use Rattle.answer.specs.declared.Reason.the-variants.{Framing}
 use Rattle.step.proofs.Effects.{refusing}
 use mathlib.Core.Path.{refl}
@@ -17,14 +17,14 @@ push-requires c κs = search needs
 enum-known-item-2 : tie.Need-enum-known-item-2
 enum-known-item-2 c = search needs
 
-unary-requires : tie.Need-unary-requires
-unary-requires c κs = search needs
+operator-requires : tie.Need-operator-requires
+operator-requires c κs = search needs
 
 enum-known-item-3 : tie.Need-enum-known-item-3
 enum-known-item-3 c = search needs
 
-binary-requires : tie.Need-binary-requires
-binary-requires c κs = search needs
+operator-requires-2 : tie.Need-operator-requires-2
+operator-requires-2 c κs = search needs
 
 enum-known-item-4 : tie.Need-enum-known-item-4
 enum-known-item-4 c = search needs
@@ -73,8 +73,8 @@ same-length-4 : tie.Need-same-length-4
 same-length-4 c = search needs
 
 returns-2 : tie.Need-returns-2
-unfolding effectOf
-returns-2 c = rw (c .before .before .before .before .before .before .before .before .item2 .given .1) (c .before .before .before .before .unary .ensures)
+unfolding effectOf operatorEffect
+returns-2 c = rw (c .before .before .before .before .before .before .before .before .item2 .given .1) (c .before .before .before .before .operator .ensures)
 
 same-length-5 : tie.Need-same-length-5
 same-length-5 c = search needs
@@ -83,8 +83,8 @@ same-length-6 : tie.Need-same-length-6
 same-length-6 c = search needs
 
 returns-3 : tie.Need-returns-3
-unfolding effectOf
-returns-3 c = rw (c .before .before .before .before .before .before .before .before .item3 .given .1) (c .before .before .before .before .binary .ensures)
+unfolding effectOf operatorEffect
+returns-3 c = rw (c .before .before .before .before .before .before .before .before .item3 .given .1) (c .before .before .before .before .operator2 .ensures)
 
 same-length-7 : tie.Need-same-length-7
 same-length-7 c = search needs
@@ -122,7 +122,7 @@ returns-7 c = rw (c .enum-told .given .1) (record { effect = refl; counted = c .
 
 returns-8 : tie.Need-returns-8
 unfolding effectOf
-returns-8 c = let a = c .before .before .before .before .before .before .args in rw (c .before .enum-told2 .given .1) (refusing (a .place) (a .count) (a .stack .now) (a .used) (a .table .now) Framing (c .stopped .ensures) refl)
+returns-8 c = let a = c .before .before .before .before .before .before .args in rw (c .before .enum-told2 .given .1) (refusing (a .at) (a .count) (a .stack .now) (a .used) (a .table .now) Framing (c .stopped .ensures) refl)
 
 pub step-spec : {M : Type 1} → statement M
 step-spec =
@@ -131,9 +131,9 @@ step-spec =
     enum-known-item
     push-requires
     enum-known-item-2
-    unary-requires
+    operator-requires
     enum-known-item-3
-    binary-requires
+    operator-requires-2
     enum-known-item-4
     call-requires
     enum-known-item-5

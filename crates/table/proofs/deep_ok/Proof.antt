@@ -35,8 +35,8 @@ returns-2 c =
     let l = c .before .before .before .before .before .before .before .pre in
     rw (ne-eqb k 7 (omega arith), ne-eqb k 8 (omega arith), ne-eqb k 9 (omega arith), ne-eqb k 10 (omega arith), ne-eqb k 11 (omega arith), ne-eqb k 12 (c .before .before .before .before .before .if1 .left), eq-eqb k 13 (c .before .before .before .before .if2 .taken), c .is-abstract2 .ensures, c .before .is-stored2 .ensures)
 
-is-plain-requires : tie.Need-is-plain-requires
-is-plain-requires c κs = search needs
+words-unused-requires : tie.Need-words-unused-requires
+words-unused-requires c κs = search needs
 
 is-float-requires : tie.Need-is-float-requires
 is-float-requires c κs = search needs
@@ -46,7 +46,7 @@ unfolding rowOk
 returns-3 c =
     let k = c .before .before .before .before .before .before .args .e .kind in
     let l = c .before .before .before .before .before .before .pre in
-    rw (ne-eqb k 7 (omega arith), ne-eqb k 8 (omega arith), ne-eqb k 9 (omega arith), ne-eqb k 10 (omega arith), ne-eqb k 11 (omega arith), ne-eqb k 12 (c .before .before .before .before .if1 .left), ne-eqb k 13 (c .before .before .before .if2 .left), c .before .before .if3 .taken, c .is-float .ensures, c .before .is-plain .ensures, c .before .before .before .before .before .word .ensures)
+    rw (ne-eqb k 7 (omega arith), ne-eqb k 8 (omega arith), ne-eqb k 9 (omega arith), ne-eqb k 10 (omega arith), ne-eqb k 11 (omega arith), ne-eqb k 12 (c .before .before .before .before .if1 .left), ne-eqb k 13 (c .before .before .before .if2 .left), c .before .before .if3 .taken, c .is-float .ensures, c .before .words-unused .ensures, c .before .before .before .before .before .word .ensures)
 
 returns-4 : tie.Need-returns-4
 unfolding rowOk
@@ -66,7 +66,7 @@ deep-ok-spec =
     is-stored-requires-2
     is-abstract-requires-2
     returns-2
-    is-plain-requires
+    words-unused-requires
     is-float-requires
     returns-3
     returns-4)

@@ -36,22 +36,22 @@ returns-3 : tie.Need-returns-3
 unfolding rowOk
 returns-3 c = let k = c .before .before .before .before .before .before .before .args .e .kind in λ eb. rw (ne-eqb k 7 (c .before .before .before .before .before .if1 .left), ne-eqb k 8 (c .before .before .before .before .if2 .left), eq-eqb k 9 (c .before .before .before .if3 .taken), c .is-sized .ensures)
 
-is-plain-requires : tie.Need-is-plain-requires
-is-plain-requires c κs = search needs
+words-unused-requires : tie.Need-words-unused-requires
+words-unused-requires c κs = search needs
 
 is-sized-requires-2 : tie.Need-is-sized-requires-2
 is-sized-requires-2 c κs = search needs
 
 returns-4 : tie.Need-returns-4
 unfolding rowOk
-returns-4 c = let k = c .before .before .before .before .before .before .before .args .e .kind in λ eb. rw (ne-eqb k 7 (c .before .before .before .before .before .if1 .left), ne-eqb k 8 (c .before .before .before .before .if2 .left), ne-eqb k 9 (c .before .before .before .if3 .left), eq-eqb k 10 (c .before .before .if4 .taken), c .is-sized2 .ensures, c .before .is-plain .ensures)
+returns-4 c = let k = c .before .before .before .before .before .before .before .args .e .kind in λ eb. rw (ne-eqb k 7 (c .before .before .before .before .before .if1 .left), ne-eqb k 8 (c .before .before .before .before .if2 .left), ne-eqb k 9 (c .before .before .before .if3 .left), eq-eqb k 10 (c .before .before .if4 .taken), c .is-sized2 .ensures, c .before .words-unused .ensures)
 
-is-plain-requires-2 : tie.Need-is-plain-requires-2
-is-plain-requires-2 c κs = search needs
+words-unused-requires-2 : tie.Need-words-unused-requires-2
+words-unused-requires-2 c κs = search needs
 
 returns-5 : tie.Need-returns-5
 unfolding rowOk
-returns-5 c = let k = c .before .before .before .before .before .before .before .args .e .kind in λ eb. rw (ne-eqb k 7 (c .before .before .before .before .before .if1 .left), ne-eqb k 8 (c .before .before .before .before .if2 .left), ne-eqb k 9 (c .before .before .before .if3 .left), ne-eqb k 10 (c .before .before .if4 .left), eq-eqb k 11 (c .before .if5 .taken), c .is-plain2 .ensures, c .before .before .before .before .before .before .word .ensures)
+returns-5 c = let k = c .before .before .before .before .before .before .before .args .e .kind in λ eb. rw (ne-eqb k 7 (c .before .before .before .before .before .if1 .left), ne-eqb k 8 (c .before .before .before .before .if2 .left), ne-eqb k 9 (c .before .before .before .if3 .left), ne-eqb k 10 (c .before .before .if4 .left), eq-eqb k 11 (c .before .if5 .taken), c .words-unused2 .ensures, c .before .before .before .before .before .before .word .ensures)
 
 returns-6 : tie.Need-returns-6
 unfolding rowOk
@@ -73,9 +73,9 @@ flat-ok-spec =
     returns-2
     is-sized-requires
     returns-3
-    is-plain-requires
+    words-unused-requires
     is-sized-requires-2
     returns-4
-    is-plain-requires-2
+    words-unused-requires-2
     returns-5
     returns-6)

@@ -1,4 +1,4 @@
--- `table::rest_good` meets its contract. The loop has passed good entries alone, which stand in their slots. Assumes nothing.
+-- `table::rest_good` meets its contract. The loop has passed good entries alone, which stand on their ways. Assumes nothing.
 use Prim.Native.Nat.{_≤_, _-_}
 use mathlib.Core.Path.{_≡_, sym, _∙_}
 use mathlib.Core.Bool.{true, false}
@@ -6,20 +6,20 @@ use native.Mathlib.Omega.{arith}
 use borrow.Author.Tests.{not-true, not-false}
 use Rattle.table.specs.Tools.{allBelow}
 use Rattle.table.specs.Table.{scalars, goodAt}
-use Rattle.table.specs.Slots.{Slotted}
+use Rattle.table.specs.inner.Slots.{Linked, Based}
 use Rattle.table.proofs.TableLaws.{all-more, all-stop}
 use Rattle.table.proofs.SlotLaws.{scalars-good}
 use Rattle.table.proofs.rest_good.Statement.{statement}
 use Rattle.table.proofs.rest_good.Tie as tie
 
 abbrev Inv-loop : tie.InvT-loop
-Inv-loop words n last₀ before₀ i₀ last before i = (scalars ≤ i) × (i ≤ n) × (allBelow (goodAt words) i ≡ true) × Slotted words i last before
+Inv-loop words n links₀ bases₀ i₀ links bases i = (scalars ≤ i) × (i ≤ n) × (allBelow (goodAt words) i ≡ true) × Linked words i links × Based words i bases
 
 abbrev μ-loop : tie.MeasureT-loop
-μ-loop words n last₀ before₀ i₀ last before i = n - i
+μ-loop words n links₀ bases₀ i₀ links bases i = n - i
 
 loop-holds : tie.Need-loop-holds Inv-loop μ-loop
-loop-holds c = let p = c .before .before .before .pre in (omega arith, p .1, scalars-good (c .before .before .before .args .words .now) (p .3), p .4)
+loop-holds c = let p = c .before .before .before .pre in (omega arith, p .1, scalars-good (c .before .before .before .args .words .now) (p .3), p .4, p .5)
 
 good-next-requires : tie.Need-good-next-requires Inv-loop μ-loop
 good-next-requires c κs =
@@ -27,13 +27,13 @@ good-next-requires c κs =
     let p = c .before .before .before .before .before .before .before .pre in
     let room = p .0 in
     let high = p .2 in
-    (omega arith, l .0, omega arith, p .3, l .3)
+    (omega arith, l .0, omega arith, p .3, l .3, l .4)
 
 same-length : tie.Need-same-length Inv-loop μ-loop
-same-length c = c .before .before .before .before .before .good-next .ensures .1 .wide ∙ sym (c .before .before .before .before .before .before .before .before .before .before .before .before .before .pre .4 .wide)
+same-length c = c .before .before .before .before .before .good-next .ensures .1 ∙ sym (c .before .before .before .before .before .before .before .before .before .before .before .before .before .pre .4 .wide)
 
 same-length-2 : tie.Need-same-length-2 Inv-loop μ-loop
-same-length-2 c = c .before .before .before .before .before .good-next .ensures .1 .long ∙ sym (c .before .before .before .before .before .before .before .before .before .before .before .before .before .pre .4 .long)
+same-length-2 c = c .before .before .before .before .before .good-next .ensures .2 ∙ sym (c .before .before .before .before .before .before .before .before .before .before .before .before .before .pre .5 .long)
 
 returns : tie.Need-returns Inv-loop μ-loop
 returns c =
@@ -55,13 +55,14 @@ loop-again c =
     let low = l .0 in
     let h = c .before .before .before .before .before .before .before .before .loop-test .taken in
     let e : goodAt (a .words .now) (c .before .before .before .before .before .before .before .before .before .loop .i) ≡ true = sym (c .before .before .before .before .before .good-next .ensures .0) ∙ not-false _ (c .if1 .left) in
-    (omega arith, omega arith, all-more (goodAt (a .words .now)) (c .before .before .before .before .before .before .before .before .before .loop .i) (l .2) e, c .before .before .before .before .before .good-next .ensures .1)
+    let known = c .before .before .before .before .before .good-next .ensures .3 (not-false _ (c .if1 .left)) in
+    (omega arith, omega arith, all-more (goodAt (a .words .now)) (c .before .before .before .before .before .before .before .before .before .loop .i) (l .2) e, known .0, known .1)
 
 same-length-3 : tie.Need-same-length-3 Inv-loop μ-loop
 same-length-3 c = c .before .loop .inv .3 .wide ∙ sym (c .before .before .before .before .before .pre .4 .wide)
 
 same-length-4 : tie.Need-same-length-4 Inv-loop μ-loop
-same-length-4 c = c .before .loop .inv .3 .long ∙ sym (c .before .before .before .before .before .pre .4 .long)
+same-length-4 c = c .before .loop .inv .4 .long ∙ sym (c .before .before .before .before .before .pre .5 .long)
 
 returns-2 : tie.Need-returns-2 Inv-loop μ-loop
 returns-2 c =

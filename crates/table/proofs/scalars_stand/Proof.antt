@@ -7,7 +7,7 @@ use borrow.Author.Needs.{needs}
 use borrow.Author.Tests.{not-true, not-false}
 use Rattle.table.specs.Tools.{allBelow}
 use Rattle.table.specs.Table.{scalars, scalarOk}
-use Rattle.table.specs.Slots.{scalarAt}
+use Rattle.table.specs.inner.Slots.{scalarAt}
 use Rattle.table.proofs.TableLaws.{all-none, all-more, all-stop}
 use Rattle.table.proofs.scalars_stand.Statement.{statement}
 use Rattle.table.proofs.scalars_stand.Tie as tie

@@ -1,35 +1,21 @@
 -- `table::slot_of` meets its contract: it computes the definition. Assumes nothing.
 use borrow.Author.Needs.{needs}
-use Rattle.table.specs.Slots.{slotOf}
+use Rattle.table.specs.inner.Slots.{entrySlot}
 use Rattle.table.proofs.slot_of.Statement.{statement}
 use Rattle.table.proofs.slot_of.Tie as tie
 
-mul-word : tie.Need-mul-word
-mul-word c = search needs
+mixed-of-requires : tie.Need-mixed-of-requires
+mixed-of-requires c κs = search needs
 
-mul-word-2 : tie.Need-mul-word-2
-mul-word-2 c = search needs
+folded-of-requires : tie.Need-folded-of-requires
+folded-of-requires c κs = search needs
 
-add-word : tie.Need-add-word
-add-word c = search needs
-
-mul-word-3 : tie.Need-mul-word-3
-mul-word-3 c = search needs
-
-add-word-2 : tie.Need-add-word-2
-add-word-2 c = search needs
-
-add-word-3 : tie.Need-add-word-3
-add-word-3 c = search needs
-
-word-requires : tie.Need-word-requires
-word-requires c κs = search needs
+mul-result : tie.Need-mul-result
+mul-result c = search needs
 
 returns : tie.Need-returns
-unfolding slotOf
-returns c = c .word .ensures
+unfolding entrySlot
+returns c = rw (c .folded-of .ensures .0, c .before .mixed-of .ensures .0)
 
 pub slot-of-spec : {M : Type 1} → statement M
-slot-of-spec =
-    tie.close
-    (tie.spec mul-word mul-word-2 add-word mul-word-3 add-word-2 add-word-3 word-requires returns)
+slot-of-spec = tie.close (tie.spec mixed-of-requires folded-of-requires mul-result returns)

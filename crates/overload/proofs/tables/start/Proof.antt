@@ -1,6 +1,4 @@
 -- `overload::tables::start` meets its contract: an entry of the size's line. Assumes nothing.
-use native.Mathlib.Omega.{arith}
-use Prim.Native.Nat.{_/_}
 use borrow.Author.Needs.{needs}
 use Rattle.overload.proofs.tables.start.Statement.{statement}
 use Rattle.overload.proofs.tables.start.Tie as tie
@@ -18,7 +16,7 @@ cast-result-2 : tie.Need-cast-result-2
 cast-result-2 c = search needs
 
 returns : tie.Need-returns
-returns c = c .pre .1 .start (c .args .p / 8) (omega arith) (c .pre .2)
+returns c = c .pre .1 .start (c .args .form) (c .pre .0) (c .pre .2)
 
 pub start-spec : {M : Type 1} → statement M
 start-spec = tie.close (tie.spec mul-result cast-result shr-result cast-result-2 returns)

@@ -3,7 +3,7 @@ use native.Mathlib.Omega.{arith}
 use Rattle.conv.specs.Rank.{both}
 use Rattle.conv.proofs.Finite.{implies, above}
 use Rattle.overload.specs.Rows.{formAt}
-use Rattle.overload.specs.Code as code
+use Rattle.overload.specs.inner.Code as code
 use Rattle.overload.proofs.Lines.{starts-line}
 use Rattle.overload.proofs.tables.starts_at.Statement.{statement}
 use Rattle.overload.proofs.tables.starts_at.Tie as tie

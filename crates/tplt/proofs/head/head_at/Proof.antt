@@ -1,13 +1,14 @@
 -- `tplt::head::head_at` meets its contract: antt computes the head of each number. Assumes nothing.
 use mathlib.Core.Path.{sym, ap}
 use borrow.Author.Tests.{ne-eqb}
+use Rattle.text.specs.Text.{ascii}
 use Rattle.tplt.specs.Heads.{heads}
-use Rattle.tplt.specs.Steps.{keyOf, headAt}
+use Rattle.tplt.specs.inner.Steps.{keyOf, headAt}
 use Rattle.tplt.proofs.head.head_at.Statement.{statement}
 use Rattle.tplt.proofs.head.head_at.Tie as tie
 
 pub head-at-spec : {M : Type 1} → statement M
-unfolding keyOf headAt
+unfolding keyOf headAt ascii
 head-at-spec =
     tie.close
     (tie.spec

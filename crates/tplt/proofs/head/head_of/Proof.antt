@@ -2,7 +2,7 @@
 use mathlib.Core.Path.{_∙_, ap}
 use borrow.Author.Needs.{needs}
 use Rattle.tplt.specs.Heads.{heads}
-use Rattle.tplt.specs.Steps.{headAt}
+use Rattle.tplt.specs.inner.Steps.{headAt}
 use Rattle.tplt.proofs.HeadLaws.{long-name, head-key}
 use Rattle.tplt.proofs.head.head_of.Statement.{statement}
 use Rattle.tplt.proofs.head.head_of.Tie as tie

@@ -5,7 +5,7 @@ use native.Mathlib.Omega.{arith}
 use lib.ListN.{length, drop}
 use lib.Seq.{drop-length}
 use borrow.Author.Needs.{needs}
-use Rattle.tplt.specs.Steps.{keyOf}
+use Rattle.tplt.specs.inner.Steps.{keyOf}
 use Rattle.tplt.proofs.HeadLaws.{room, key-room, key-next}
 use Rattle.tplt.proofs.head.key_of.Statement.{statement}
 use Rattle.tplt.proofs.head.key_of.Tie as tie

@@ -2,7 +2,7 @@
 use mathlib.Core.Path.{sym, _∙_, ap}
 use native.Mathlib.Omega.{arith}
 use Rattle.tplt.specs.Params.{isTyped, alone, paired}
-use Rattle.tplt.specs.Steps.{paramAt}
+use Rattle.tplt.specs.inner.Steps.{paramAt}
 use Rattle.tplt.proofs.ParamLaws.{list-one, list-two, list-other, list-untyped, alone-other, typed-other, two-typed, two-literal}
 use borrow.Author.Needs.{needs}
 use Rattle.tplt.proofs.param.arguments_of.Statement.{statement}

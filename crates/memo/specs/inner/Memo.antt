@@ -1,0 +1,101 @@
+-- The memo of a run: values that operators and calls of builtins gave. A slot is 0, or what was asked, the values of its operands and the value that it gave,
+-- a byte each. What it holds is true of the table as it stands and of every table that grows from it, so a value that is recalled is the one that typing
+-- would give. The promise of `type_sheet` is read without it. Assumes nothing.
+use Prim.Native.Nat.{ℕ, zero, suc, _+_, _-_, _*_, _<_, _≤_}
+use mathlib.Core.Path.{_≡_}
+use mathlib.Core.Logic.{_⊎_}
+use mathlib.Core.List.{List, [], map}
+use lib.ListN.{length, getD}
+use Rattle.conv.specs.Types.{Ty}
+use Rattle.table.specs.Denote.{typeAt}
+use Rattle.table.specs.Placing.{Outcome, entering}
+use Rattle.ops_ty.specs.Ops.{unaryOps, binaryOps, unaryOutcome, binaryOutcome}
+use Rattle.names.specs.Names.Known.{known}
+use Rattle.call_ty.specs.Calls.{firstIn, secondIn, byRule}
+use Rattle.call_ty.specs.Codes.{Under}
+use Rattle.step.specs.declared.Did.{Did}
+use Rattle.step.specs.declared.Did.the-variants as did
+
+-- how many slots there are, and what is answered where nothing is recalled: no value of a table of 256 entries
+abbrev pub slots : ℕ
+slots = 256
+
+abbrev pub nothing : ℕ
+nothing = 256
+
+-- what is asked: a binary operator, a unary one, or a builtin by its rule
+pub data Question : Type 0 where
+  binary : ℕ → Question
+  unary : ℕ → Question
+  builtin : ℕ → Question
+
+-- its code
+abbrev pub codeOf : Question → ℕ
+codeOf (binary op) = op + 1
+codeOf (unary op) = op + 19
+codeOf (builtin rule) = rule + 24
+
+-- it is one that the memo may have, on k operands
+abbrev pub On : Question → ℕ → Type 0
+On (binary op) k = (op < binaryOps) × (k ≡ 2)
+On (unary op) k = (op < unaryOps) × (k ≡ 1)
+On (builtin rule) k = (rule < 128) × (1 ≤ k) × (k ≤ 3)
+
+-- what typing gives, on operands of these types
+abbrev pub typed : ℕ → List ℕ → ℕ → Question → List Ty → Outcome
+typed place w n (binary op) us = binaryOutcome place w n op (firstIn us) (secondIn us)
+typed place w n (unary op) us = unaryOutcome place w n op (firstIn us)
+typed place w n (builtin rule) us = byRule place w n (known rule) [] us
+
+-- on operands of these types it gives the type R, whatever the table and the place
+abbrev pub Gives : Question → List Ty → Ty → Type 0
+Gives q us R = (place : ℕ) (w : List ℕ) (n : ℕ) → typed place w n q us ≡ entering place w n R
+
+-- the key: a code, and the first k of the operands' values
+unfoldable pub keyUp : ℕ → List ℕ → ℕ → ℕ
+keyUp code vs zero = code
+keyUp code vs (suc k) = keyUp code vs k * 256 + getD vs k 0
+
+abbrev pub keyOf : ℕ → List ℕ → ℕ
+keyOf code vs = keyUp code vs (length vs)
+
+abbrev pub slotOf : ℕ → ℕ → ℕ
+slotOf key t = key * 256 + t
+
+-- what a slot says is so
+pub record Holds (w : List ℕ) (n x : ℕ) : Type 0 where
+  pub holds : (q : Question) (vs : List ℕ) (t : ℕ) → On q (length vs) → Under 256 vs → t < 256 → x ≡ slotOf (keyOf (codeOf q) vs) t
+      → Under n vs × (t < n) × Gives q (map (typeAt w) vs) (typeAt w t)
+
+pub record Recalls (memo w : List ℕ) (n : ℕ) : Type 0 where
+  pub size : length memo ≡ slots
+  pub holds : (i : ℕ) → i < slots → Holds w n (getD memo i 0)
+
+-- what looking a key up promises: nothing, or a value that a slot has with this key
+pub record Recalled (memo : List ℕ) (key r : ℕ) : Type 0 where
+  pub found : (r ≡ nothing) ⊎ ((r < 256) × ((i : ℕ) × (i < slots) × (getD memo i 0 ≡ slotOf key r)))
+
+-- what a note promises: a slot has it, or what some slot had
+pub record Noted (memo : List ℕ) (key t : ℕ) (after : List ℕ) : Type 0 where
+  pub size : length after ≡ length memo
+  pub each : (i : ℕ) → i < slots → (getD after i 0 ≡ slotOf key t) ⊎ ((j : ℕ) × (j < slots) × (getD after i 0 ≡ getD memo j 0))
+
+-- what an item left is a value of the slice, below 256; and what noting it promises
+unfoldable pub Leaves : Did → List ℕ → Type 0
+Leaves (did.Went count used) vals = (1 ≤ count) × (count ≤ length vals) × (getD vals (count - 1) 0 < 256)
+Leaves (did.Silent count used) vals = Unit {0}
+Leaves (did.Ended count used) vals = Unit {0}
+Leaves (did.Refused r) vals = Unit {0}
+
+unfoldable pub NotedStep : List ℕ → ℕ → Did → List ℕ → List ℕ → Type 0
+NotedStep memo key (did.Went count used) vals after = Noted memo key (getD vals (count - 1) 0) after
+NotedStep memo key (did.Silent count used) vals after = after ≡ memo
+NotedStep memo key (did.Ended count used) vals after = after ≡ memo
+NotedStep memo key (did.Refused r) vals after = after ≡ memo
+
+-- the memo after an item that went
+unfoldable pub AfterStep : Did → List ℕ → List ℕ → Type 0
+AfterStep (did.Went count used) memo w = Recalls memo w used
+AfterStep (did.Silent count used) memo w = Unit {0}
+AfterStep (did.Ended count used) memo w = Unit {0}
+AfterStep (did.Refused r) memo w = Unit {0}
