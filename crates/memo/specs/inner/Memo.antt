@@ -10,9 +10,8 @@ use Rattle.conv.specs.Types.{Ty}
 use Rattle.table.specs.Denote.{typeAt}
 use Rattle.table.specs.Placing.{Outcome, entering}
 use Rattle.ops_ty.specs.Ops.{unaryOps, binaryOps, unaryOutcome, binaryOutcome}
-use Rattle.names.specs.Names.Known.{known}
-use Rattle.call_ty.specs.Calls.{firstIn, secondIn, byRule}
-use Rattle.call_ty.specs.Codes.{Under}
+use Rattle.call_ty.specs.Calls.{firstIn, secondIn}
+use Rattle.call_ty.specs.inner.Codes.{byNumber, Under}
 use Rattle.step.specs.declared.Did.{Did}
 use Rattle.step.specs.declared.Did.the-variants as did
 
@@ -45,7 +44,7 @@ On (builtin rule) k = (rule < 128) × (1 ≤ k) × (k ≤ 3)
 abbrev pub typed : ℕ → List ℕ → ℕ → Question → List Ty → Outcome
 typed place w n (binary op) us = binaryOutcome place w n op (firstIn us) (secondIn us)
 typed place w n (unary op) us = unaryOutcome place w n op (firstIn us)
-typed place w n (builtin rule) us = byRule place w n (known rule) [] us
+typed place w n (builtin rule) us = byNumber place w n rule [] us
 
 -- on operands of these types it gives the type R, whatever the table and the place
 abbrev pub Gives : Question → List Ty → Ty → Type 0
