@@ -63,7 +63,7 @@ neither false b h = (refl, h)
 on-some : (q : Question) (k : ℕ) → On q k → (1 ≤ k) × (k ≤ 3) × (codeOf q < 256)
 on-some (binary op) k h = let a = h .0 in let b = h .1 in (omega arith, omega arith, omega arith)
 on-some (unary op) k h = let a = h .0 in let b = h .1 in (omega arith, omega arith, omega arith)
-on-some (builtin rule) k h = let a = h .0 in (h .1, h .2, omega arith)
+on-some (builtin number) k h = let a = h .0 in (h .1, h .2, omega arith)
 
 module _ (s : List ℕ) (i : Item) (code k : ℕ) (a : Asks s i code k) where
   pub asks-coded : Coded code k

@@ -54,7 +54,7 @@ impossible e = absurd (omega arith)
 code-byte : (q : Question) (k : ℕ) → On q k → (1 ≤ codeOf q) × (codeOf q < 256)
 code-byte (binary op) k h = let a = h .0 in (omega arith, omega arith)
 code-byte (unary op) k h = let a = h .0 in (omega arith, omega arith)
-code-byte (builtin rule) k h = let a = h .0 in (omega arith, omega arith)
+code-byte (builtin number) k h = let a = h .0 in (omega arith, omega arith)
 
 code-one : (q r : Question) (j k : ℕ) → On q j → On r k → codeOf q ≡ codeOf r → q ≡ r
 code-one (binary a) (binary b) j k g h e = let z : a ≡ b = omega arith in ap binary z
@@ -272,7 +272,7 @@ module _ (place : ℕ) (w : List ℕ) (n : ℕ) (s : Sound w n) (t : TypeNo) (m 
   gives-value (unary op) [] o u e = let z = o .1 in absurd (omega arith)
   gives-value (unary op) (a ∷ []) o u e = gives-unary place w n t m op s a (u 0 (omega arith)) e
   gives-value (unary op) (a ∷ b ∷ vs) o u e = let z = o .1 in absurd (omega arith)
-  gives-value (builtin rule) vs o u e = gives-builtin place w n t m rule (map (typeAt w) vs) (types-formed w n s vs u) e
+  gives-value (builtin number) vs o u e = gives-builtin place w n t m number (map (typeAt w) vs) (types-formed w n s vs u) e
 
   -- A VALUE THAT TYPING GAVE may be noted: the table grew, and the new slot is true
   module _ (q : Question) (vs : List ℕ) (o : On q (length vs)) (u : Under n vs) (v : List ℕ)

@@ -254,7 +254,18 @@ pub fn step(
             template,
             count: k,
             name,
-        } => call_template(items, rows, name, template, k, at, stack, count, table, used),
+        } => call_template(
+            items,
+            rows,
+            name,
+            template,
+            k,
+            at,
+            stack,
+            count,
+            table,
+            used,
+        ),
         Item::Take { kind, p, q, elem } => {
             take_in(entry(kind, p, q, elem), at, stack, count, table, used)
         }

@@ -49,8 +49,8 @@ slice-write-stack c = let a = c .before .before .before .before .before .before 
     let k = c .before .before .before .before .before .keyed in
     base-room (a .count) (a .stack .now) (a .used) (a .table .now) (c .before .before .before .before .before .before .before .before .before .before .before .before .before .pre .0) (sheetOf (a .items .now)) (a .item) (q .result .code) (q .result .operands) (k .result .number) (k .result .base) (q .ensures) (k .ensures) (c .before .before .before .if1 .left) .1
 
-add-t23 : tie.Need-add-t23
-add-t23 c = let a = c .before .before .before .before .before .before .before .before .before .before .before .before .before .args in
+add-t24 : tie.Need-add-t24
+add-t24 c = let a = c .before .before .before .before .before .before .before .before .before .before .before .before .before .args in
     let q = c .before .before .before .before .before .before .before .asked in
     let k = c .before .before .before .before .before .keyed in
     let r = base-room (a .count) (a .stack .now) (a .used) (a .table .now) (c .before .before .before .before .before .before .before .before .before .before .before .before .before .pre .0) (sheetOf (a .items .now)) (a .item) (q .result .code) (q .result .operands) (k .result .number) (k .result .base) (q .ensures) (k .ensures) (c .before .before .before .if1 .left) in
@@ -111,7 +111,7 @@ noted-step-spec =
     recall-requires
     mul-stack
     slice-write-stack
-    add-t23
+    add-t24
     same-length-3
     same-length-4
     returns-2

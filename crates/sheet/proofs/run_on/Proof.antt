@@ -24,7 +24,7 @@ rush-requires : tie.Need-rush-requires Inv-loop μ-loop
 rush-requires c κs = (c .before .before .before .loop .inv .0 .ready, c .before .before .before .loop .inv .1)
 
 one-turn-requires : tie.Need-one-turn-requires Inv-loop μ-loop
-one-turn-requires c κs = (c .before .before .before .before .before .rush .ensures .ready, c .before .before .before .before .before .before .before .before .before .loop .inv .1, START .pre .3)
+one-turn-requires c κs = (c .before .before .before .before .before .rush .ensures .ready, c .before .before .before .before .before .before .before .before .before .loop .inv .1, c .before .before .before .before .before .before .before .before .before .before .before .before .before .before .before .pre .3)
 
 enum-known-c : tie.Need-enum-known-c Inv-loop μ-loop
 enum-known-c c = search needs
