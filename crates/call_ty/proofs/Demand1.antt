@@ -3,29 +3,29 @@
 use Prim.Native.Nat.{ℕ}
 use mathlib.Core.List.{List}
 use Rattle.conv.specs.Types.{Ty}
-use Rattle.names.specs.Names.{Known, ruleOf}
+use Rattle.names.specs.Names.{Named, ruleOf}
 use Rattle.table.specs.Table.{Sound}
 use Rattle.table.specs.Placing.{Outcome}
 use Rattle.table.specs.Kept.{Kept}
 use Rattle.table.proofs.Keeping.{kept-as, kept-refused, kept-none, kept-entering}
 use Rattle.call_ty.specs.Calls.{callOutcome, typeBuiltinFn}
-use Rattle.call_ty.specs.Codes.{Under}
+use Rattle.call_ty.specs.inner.Codes.{Under}
 use Rattle.call_ty.proofs.Lists.{types, types-formed}
-use Rattle.call_ty.proofs.Ends.{Ends, Single, rule-call-ends, single-ends}
+use Rattle.call_ty.proofs.Ends.{Ends, Single, name-call-ends, single-ends}
 use Rattle.call_ty.proofs.Ends.Ends.{refused, silent, valued}
 use Rattle.call_ty.proofs.Ends.Single.{early, late}
 
-ends-kept : (place : ℕ) (w : List ℕ) (n : ℕ) → Sound w n → (rule : Known) (ts us : List Ty) (o : Outcome) → Ends place w n rule ts us o → Kept w n o
-ends-kept place w n s rule ts us o (refused reason f e) = kept-as w n e (kept-refused w n reason place)
-ends-kept place w n s rule ts us o (silent e) = kept-as w n e (kept-none w n)
-ends-kept place w n s rule ts us o (valued R k f q g e) = kept-as w n e (kept-entering w n s place R f)
+ends-kept : (place : ℕ) (w : List ℕ) (n : ℕ) → Sound w n → (named : Named) (ts us : List Ty) (o : Outcome) → Ends place w n named ts us o → Kept w n o
+ends-kept place w n s named ts us o (refused reason f e) = kept-as w n e (kept-refused w n reason place)
+ends-kept place w n s named ts us o (silent e) = kept-as w n e (kept-none w n)
+ends-kept place w n s named ts us o (valued R r f q g e) = kept-as w n e (kept-entering w n s place R f)
 
 -- on loaded operands, at any place
 pub call-at-kept : (place : ℕ) (w : List ℕ) (n : ℕ) → Sound w n → (name tplt args : List ℕ) → Under n tplt → Under n args
     → Kept w n (callOutcome place w n name (types w tplt) (types w args))
 call-at-kept place w n s name tplt args ut ua =
     ends-kept place w n s (ruleOf name) (types w tplt) (types w args) _
-    (rule-call-ends place w n (types w tplt) (types w args) (types-formed w n s tplt ut) (types-formed w n s args ua) (ruleOf name))
+    (name-call-ends place w n (types w tplt) (types w args) (types-formed w n s tplt ut) (types-formed w n s args ua) name)
 
 -- of any table, name and numbers, at place 0
 pub call-kept : (w : List ℕ) (n : ℕ) (name tplt args : List ℕ) → Kept w n (typeBuiltinFn w n name tplt args)

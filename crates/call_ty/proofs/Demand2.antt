@@ -6,8 +6,8 @@ use mathlib.Core.List.{List}
 use native.Mathlib.Omega.{arith}
 use Rattle.conv.specs.Types.{Ty}
 use Rattle.overload.specs.Overload.Judged.{gives}
-use Rattle.names.specs.Names.{Known, ruleOf}
-use Rattle.names.specs.Names.Known.{known}
+use Rattle.names.specs.Names.{Rule, Named, ruleOf}
+use Rattle.names.specs.Names.Named.{rule}
 use Rattle.answer.specs.Answer.{refuse}
 use Rattle.table.specs.Table.{Sound}
 use Rattle.table.specs.Denote.{typeAt}
@@ -17,35 +17,35 @@ use Rattle.answer.specs.declared.Answer.the-variants.{Value, NoValue}
 use Rattle.table.proofs.Demand1.{entering-stands}
 use Rattle.call_ty.specs.Calls.{givenBy, callOutcome, typeBuiltinFn}
 use Rattle.call_ty.specs.Calls.Given.{judgment}
-use Rattle.call_ty.specs.Codes.{Under}
+use Rattle.call_ty.specs.inner.Codes.{Under}
 use Rattle.call_ty.proofs.Lists.{types, types-formed}
-use Rattle.call_ty.proofs.Ends.{Ends, Single, rule-call-ends, single-ends}
+use Rattle.call_ty.proofs.Ends.{Ends, Single, name-call-ends, single-ends}
 use Rattle.call_ty.proofs.Ends.Ends.{refused, silent, valued}
 use Rattle.call_ty.proofs.Ends.Single.{early, late}
 use Rattle.table.proofs.Giving.{whole}
 
 -- the name has a rule, and the rule gives the type at the number that is answered
-pub record Typed (rule : Known) (ts us : List Ty) (t : TypeNo) (v : List ℕ) : Type 0 where
-  pub number : ℕ
-  pub named : rule ≡ known number
-  pub typed : givenBy number ts us ≡ judgment (gives (typeAt v (t .0)))
+pub record Typed (named : Named) (ts us : List Ty) (t : TypeNo) (v : List ℕ) : Type 0 where
+  pub by : Rule
+  pub has : named ≡ rule by
+  pub typed : givenBy by ts us ≡ judgment (gives (typeAt v (t .0)))
 
-module _ (place : ℕ) (w : List ℕ) (n : ℕ) (s : Sound w n) (rule : Known) (ts us : List Ty) (o : Outcome) where
-  value-typed : Ends place w n rule ts us o → (t : TypeNo) (m : ℕ) (v : List ℕ) → o ≡ record { answer = Value t m; words = v } → Typed rule ts us t v
+module _ (place : ℕ) (w : List ℕ) (n : ℕ) (s : Sound w n) (named : Named) (ts us : List Ty) (o : Outcome) where
+  value-typed : Ends place w n named ts us o → (t : TypeNo) (m : ℕ) (v : List ℕ) → o ≡ record { answer = Value t m; words = v } → Typed named ts us t v
   value-typed (refused reason f e) t m v h =
       let a : Value t m ≡ refuse reason place n = ap (λ (x : Outcome). x .answer) (sym h ∙ e) in
       absurd (let z : _≡_ {A = ℕ} 0 1 = cc in omega arith)
   value-typed (silent e) t m v h =
       let a : Value t m ≡ NoValue n = ap (λ (x : Outcome). x .answer) (sym h ∙ e) in
       absurd (let z : _≡_ {A = ℕ} 0 1 = cc in omega arith)
-  value-typed (valued R k f q g e) t m v h =
-      record { number = k; named = q; typed = g ∙ ap (λ (x : Ty). judgment (gives x)) (sym (entering-stands place w n s R f t m v (sym e ∙ h) .stands)) }
+  value-typed (valued R r f q g e) t m v h =
+      record { by = r; has = q; typed = g ∙ ap (λ (x : Ty). judgment (gives x)) (sym (entering-stands place w n s R f t m v (sym e ∙ h) .stands)) }
 
 pub call-typed : (place : ℕ) (w : List ℕ) (n : ℕ) (s : Sound w n) (name tplt args : List ℕ) → Under n tplt → Under n args → (t : TypeNo) (m : ℕ) (v : List ℕ)
     → Gave (callOutcome place w n name (types w tplt) (types w args)) (Value t m) v → Typed (ruleOf name) (types w tplt) (types w args) t v
 call-typed place w n s name tplt args ut ua t m v g =
     value-typed place w n s (ruleOf name) (types w tplt) (types w args) _
-    (rule-call-ends place w n (types w tplt) (types w args) (types-formed w n s tplt ut) (types-formed w n s args ua) (ruleOf name)) t m v (whole _ _ v g)
+    (name-call-ends place w n (types w tplt) (types w args) (types-formed w n s tplt ut) (types-formed w n s args ua) name) t m v (whole _ _ v g)
 
 pub single-typed : (w : List ℕ) (n : ℕ) (name tplt args : List ℕ) (t : TypeNo) (m : ℕ) (v : List ℕ)
     → Gave (typeBuiltinFn w n name tplt args) (Value t m) v → Typed (ruleOf name) (types w tplt) (types w args) t v

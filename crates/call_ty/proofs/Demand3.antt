@@ -1,119 +1,132 @@
--- A ruled name is accepted exactly when an overload of its row fits, with the result of the overload that is preferred to every other; refusal 8
--- exactly when none fits; and no call of a builtin gives 13. From overload's demand 3. Assumes nothing.
-use Prim.Native.Nat.{ℕ, _<_}
+-- DEMANDS 2 AND 3 for builtins: "For .. ruled builtins, loaded operands in a sound table with room". `Demand3` says the demand in the customer's words over the overloads
+-- that a name has, written from the standard; what is answered stands for the preferred overload's result. Assumes nothing.
+use Prim.Native.Nat.{ℕ}
 use mathlib.Core.Path.{_≡_, refl, sym, _∙_, ap, subst}
 use mathlib.Core.Logic.{_≢_}
 use mathlib.Core.Bool.{true, false}
-use mathlib.Core.List.{List}
+use mathlib.Core.List.{List, [], _∷_}
 use native.Mathlib.Omega.{arith}
-use lib.Dec.{T}
+use lib.Dec.{T, eqb}
 use lib.ListN.{length}
-use borrow.Author.Tests.{lt-ltb, eq-eqb}
-use Rattle.conv.specs.Types.{Ty}
-use Rattle.overload.specs.Overload.{Overload, fits, Preferred, Judged, Resolved}
-use Rattle.overload.specs.Overload.Judged.{gives, noneFits, nonePreferred}
-use Rattle.overload.specs.Rows.{overloadsOf, ofRow, judgeRow, rowAt}
-use Rattle.overload.proofs.Operands.{allFormed, never-thirteen}
-use Rattle.overload.proofs.Judge.{judge-resolved}
-use Rattle.overload.proofs.Results.{gives-formed}
-use Rattle.names.specs.Names.{Known, ruleOf, overloadRows}
-use Rattle.names.specs.Names.Known.{known}
-use Rattle.answer.specs.Answer.{refuse, reasonNo}
+use borrow.Author.Tests.{eqb-true, eqb-false, eq-eqb}
+use Rattle.conv.specs.Types.{Ty, formed}
+use Rattle.overload.specs.Overload.{Overload, fits, Preferred}
+use Rattle.overload.specs.Rows.{Ruling, overloadsBy, judgeBy}
+use Rattle.overload.proofs.Operands.{allFormed}
+use Rattle.overload.proofs.Preference.{one-preferred}
+use Rattle.overload.proofs.Rulings.{ruling-resolved, ruling-never, ruling-formed}
+use Rattle.names.specs.Names.{Named, ruleOf}
+use Rattle.names.specs.Names.Rule.{ruling}
+use Rattle.names.specs.Names.Named.{rule}
+use Rattle.names.proofs.Rules.{ruling-known}
+use Rattle.answer.specs.Answer.{reasonNo}
 use Rattle.table.specs.Table.{Sound}
-use Rattle.table.specs.Placing.{Outcome, Gave, turnedDown, entering}
+use Rattle.table.specs.Placing.{Outcome, turnedDown, entering}
 use Rattle.answer.specs.declared.Reason.{Reason}
-use Rattle.answer.specs.declared.Reason.the-variants.{NoOverload, NoRoom}
+use Rattle.answer.specs.declared.Reason.the-variants.{NoOverload, Operands, NoRoom}
 use Rattle.answer.specs.declared.Refusal.{Refusal}
 use Rattle.answer.specs.declared.Answer.the-variants.{NoValue, Refused}
 use Rattle.table.proofs.Demand1.{entering-refused}
+use Rattle.table.proofs.SoundLaws.{of-sound}
+use Rattle.table.proofs.KindLaws.{split}
 use Rattle.ruled.specs.Call.{anyReference, judgedOutcome}
-use Rattle.call_ty.specs.Calls.{templateRight, operandsOf, givenBy, givenOutcome, byRule, callOutcome, typeBuiltinFn}
-use Rattle.call_ty.specs.Codes.{Under}
-use Rattle.call_ty.proofs.Lists.{types, types-formed}
-use Rattle.call_ty.proofs.Ways.{by-call}
-use Rattle.call_ty.proofs.Ends.{Ends, Single, thirteen, rule-call-ends, single-ends}
+use Rattle.ruled.specs.Demand3.{Accepts, HasRoom, Demand3}
+use Rattle.ruled.proofs.Demands.{demand-3, judged-nothing, Never13, never-refused}
+use Rattle.call_ty.specs.Calls.{operandsOf, givenBy, givenOutcome, byRule, templateRight, callOutcome, typeBuiltinFn}
+use Rattle.call_ty.specs.inner.Codes.{Under}
+use Rattle.call_ty.proofs.Lists.{types, types-formed, under-all}
+use Rattle.call_ty.proofs.Counts.{wrong-count}
+use Rattle.call_ty.proofs.Ways.{by-count, by-call, single-call}
+use Rattle.call_ty.proofs.Ends.{Ends, Single, thirteen, name-call-ends, single-ends}
 use Rattle.call_ty.proofs.Ends.Ends.{refused, silent, valued}
 use Rattle.call_ty.proofs.Ends.Single.{early, late}
-use Rattle.table.proofs.Giving.{whole}
 
-module _ (place : ℕ) (w : List ℕ) (n : ℕ) (s : Sound w n) (name : List ℕ) (row : ℕ) (ts us : List Ty)
-    (ruled : ruleOf name ≡ known row) (listed : row < overloadRows) (fu : allFormed us ≡ true)
-    (right : templateRight row ts ≡ true) (count : length us ≡ operandsOf row) (loaded : anyReference us ≡ false) where
-  given : givenOutcome place w n (givenBy row ts us) ≡ judgedOutcome place w n (judgeRow (rowAt row) us)
+-- the demand's own hypotheses: a sound table, a ruled name, no template list, operands below n of which none is a reference
+
+module _ (w : List ℕ) (n : ℕ) (s : Sound w n) (name args : List ℕ) (r : Ruling) (ruled : ruleOf name ≡ rule (ruling r))
+    (under : Under n args) (loaded : anyReference (types w args) ≡ false) where
+  formed-args : allFormed (types w args) ≡ true
+  formed-args = types-formed w n s args under
+
+  no-template : templateRight (ruling r) [] ≡ true
+  unfolding templateRight
+  no-template = refl
+
+  single : byRule 0 w n (rule (ruling r)) [] (types w args) ≡ typeBuiltinFn w n name [] args
+  single =
+      ap (λ (k : Named). byRule 0 w n k [] (types w args)) (sym ruled)
+      ∙ single-call w n name [] args (of-sound w n s) (under-all n [] (λ i l. absurd (omega arith))) (under-all n args under)
+
+  -- as many operands as the name's overloads have parameters: judged by those overloads
+  judged : length (types w args) ≡ operandsOf (ruling r) → judgedOutcome 0 w n (judgeBy r (types w args)) ≡ typeBuiltinFn w n name [] args
   unfolding givenOutcome givenBy
-  given = rw (lt-ltb row overloadRows listed)
+  judged k = by-call 0 w n (ruling r) [] (types w args) no-template k loaded ∙ single
 
-  -- such a call is judged by the overloads of its row
-  pub judged : callOutcome place w n name ts us ≡ judgedOutcome place w n (judgeRow (rowAt row) us)
-  judged = ap (λ (k : Known). byRule place w n k ts us) ruled ∙ sym (by-call place w n row ts us right count loaded) ∙ given
+  -- any other count is refused with 7, and no overload fits
+  pub counted : length (types w args) ≢ operandsOf (ruling r) → typeBuiltinFn w n name [] args ≡ turnedDown Operands 0 w n
+  counted k = sym (by-count 0 w n (ruling r) [] (types w args) no-template k ∙ single)
 
-  by : (j : Judged) → judgeRow (rowAt row) us ≡ j → Resolved (ofRow (rowAt row)) us j
-  by j e = subst (Resolved (ofRow (rowAt row)) us) e (judge-resolved (overloadsOf (rowAt row)) us)
-
-  -- an overload fits: one is preferred, and its result is accepted
-  pub fitting : (p : Overload) → ofRow (rowAt row) p → T (fits (p .params) us)
-      → (o : Overload) × Preferred (ofRow (rowAt row)) us o × (callOutcome place w n name ts us ≡ entering place w n (o .result))
-  unfolding Resolved judgedOutcome
-  fitting p m h = go (judgeRow (rowAt row) us) refl
+  miscounted : length (types w args) ≢ operandsOf (ruling r) → Demand3 (overloadsBy r) (types w args) (typeBuiltinFn w n name [] args)
+  miscounted k =
+      let none : (p : Overload) → overloadsBy r p → T (fits (p .params) (types w args)) → ⊥ = λ p m f. wrong-count r (ruling-known name r ruled) (types w args) k p m f in
+      let no : Accepts (typeBuiltinFn w n name [] args) → ⊥ = λ a. refused-not (typeBuiltinFn w n name [] args) (counted k) a in
+      record {
+        accepted = λ p m f. absurd (none p m f);
+        fitting = λ a. absurd (no a);
+        result = λ t m e. absurd (no (t, m, e));
+        alone = one-preferred (overloadsBy r) (types w args);
+      }
     where
-      go : (j : Judged) → judgeRow (rowAt row) us ≡ j → (o : Overload) × Preferred (ofRow (rowAt row)) us o × (callOutcome place w n name ts us ≡ entering place w n (o .result))
-      go (gives R) e = let q = by (gives R) e in (q .0, q .1, judged ∙ ap (judgedOutcome place w n) e ∙ ap (entering place w n) (q .2))
-      go noneFits e = absurd (by noneFits e p m h)
-      go nonePreferred e = absurd (never-thirteen us fu row (by nonePreferred e))
+      refused-not : (o : Outcome) → o ≡ turnedDown Operands 0 w n → Accepts o → ⊥
+      refused-not o e a =
+          let q = sym (a .2) ∙ ap (λ (x : Outcome). x .answer) e in
+          let z : _≡_ {A = ℕ} 0 1 = cc in
+          omega arith
 
-  -- none fits: refusal 8
-  pub none-fitting : ((p : Overload) → ofRow (rowAt row) p → T (fits (p .params) us) → ⊥) → callOutcome place w n name ts us ≡ turnedDown NoOverload place w n
-  unfolding Resolved judgedOutcome
-  none-fitting h = go (judgeRow (rowAt row) us) refl
-    where
-      go : (j : Judged) → judgeRow (rowAt row) us ≡ j → callOutcome place w n name ts us ≡ turnedDown NoOverload place w n
-      go (gives R) e = let q = by (gives R) e in absurd (h (q .0) (q .1 .among) (q .1 .fitting))
-      go noneFits e = judged ∙ ap (judgedOutcome place w n) e
-      go nonePreferred e = absurd (never-thirteen us fu row (by nonePreferred e))
+  -- DEMAND 3
+  pub builtin-demand-3 : HasRoom (overloadsBy r) w n (types w args) → Demand3 (overloadsBy r) (types w args) (typeBuiltinFn w n name [] args)
+  builtin-demand-3 room =
+      let known = ruling-known name r ruled in
+      split (eqb (length (types w args)) (operandsOf (ruling r)))
+      (λ b.
+      subst (Demand3 (overloadsBy r) (types w args)) (judged (eqb-true _ _ b))
+      (demand-3 0 w n s (overloadsBy r) (types w args) (ruling-never (types w args) formed-args r known) (judgeBy r (types w args)) (ruling-resolved (types w args) formed-args r)
+      (ruling-formed (types w args) formed-args r known) room))
+      (λ b. miscounted (eqb-false _ _ b))
 
-  -- and refusal 8 only then
-  pub eight-only : callOutcome place w n name ts us ≡ turnedDown NoOverload place w n → (p : Overload) → ofRow (rowAt row) p → T (fits (p .params) us) → ⊥
-  unfolding Resolved judgedOutcome
-  eight-only h p m f = go (judgeRow (rowAt row) us) refl
-    where
-      go : (j : Judged) → judgeRow (rowAt row) us ≡ j → ⊥
-      go (gives R) e =
-          let r = entering-refused place w n s R (gives-formed row us R e .0) _ w (sym (judged ∙ ap (judgedOutcome place w n) e) ∙ h) .1 in
-          let a : reasonNo NoOverload ≡ reasonNo NoRoom = ap (λ (x : Refusal). reasonNo (x .reason)) r in omega arith
-      go noneFits e = by noneFits e p m f
-      go nonePreferred e = never-thirteen us fu row (by nonePreferred e)
+  -- and where none fits the right count: refused with 8
+  pub builtin-none : length (types w args) ≡ operandsOf (ruling r) → ((p : Overload) → overloadsBy r p → T (fits (p .params) (types w args)) → ⊥)
+      → typeBuiltinFn w n name [] args ≡ turnedDown NoOverload 0 w n
+  builtin-none k h =
+      let known = ruling-known name r ruled in
+      sym (judged k)
+      ∙ judged-nothing 0 w n s (overloadsBy r) (types w args) (ruling-never (types w args) formed-args r known) (judgeBy r (types w args)) (ruling-resolved (types w args) formed-args r) h
 
--- REFUSAL 13 IS NEVER GIVEN
+-- REFUSAL 13 IS NEVER GIVEN, of any table, count, name, template list and operands
 
 no-thirteen : (reason : Reason) → thirteen reason ≡ false → reasonNo reason ≢ 13
 no-thirteen reason f e = let a = sym f ∙ eq-eqb (reasonNo reason) 13 e in let z : _≡_ {A = ℕ} 0 1 = cc in omega arith
 
-by-reason : (reason : Reason) (place : ℕ) (w : List ℕ) (n : ℕ) → thirteen reason ≡ false → (r : Refusal) (v : List ℕ)
-    → turnedDown reason place w n ≡ record { answer = Refused r; words = v } → reasonNo (r .reason) ≢ 13
-by-reason reason place w n f r v e h =
-    let a : refuse reason place n ≡ Refused r = ap (λ (x : Outcome). x .answer) e in
-    let b : reason ≡ r .reason = cc in
-    no-thirteen reason f (ap reasonNo b ∙ h)
+never-entering : (place : ℕ) (w : List ℕ) (n : ℕ) → Sound w n → (R : Ty) → formed R ≡ true → Never13 (entering place w n R)
+never-entering place w n s R f r e q =
+    let y = entering-refused place w n s R f r (entering place w n R .words) (λ i. record { answer = e i; words = entering place w n R .words }) .1 in
+    let a : reasonNo (r .reason) ≡ reasonNo NoRoom = ap (λ (z : Refusal). reasonNo (z .reason)) y in omega arith
 
-ends-13 : (place : ℕ) (w : List ℕ) (n : ℕ) → Sound w n → (rule : Known) (ts us : List Ty) (o : Outcome) → Ends place w n rule ts us o
-    → (r : Refusal) (v : List ℕ) → o ≡ record { answer = Refused r; words = v } → reasonNo (r .reason) ≢ 13
-ends-13 place w n s rule ts us o (refused reason f e) r v h = by-reason reason place w n f r v (sym e ∙ h)
-ends-13 place w n s rule ts us o (silent e) r v h =
-    let a : NoValue n ≡ Refused r = ap (λ (x : Outcome). x .answer) (sym e ∙ h) in
-    absurd (let z : _≡_ {A = ℕ} 0 1 = cc in omega arith)
-ends-13 place w n s rule ts us o (valued R k f q x e) r v h =
-    let y = entering-refused place w n s R f r v (sym e ∙ h) .1 in
-    λ t. let a : reasonNo (r .reason) ≡ reasonNo NoRoom = ap (λ (z : Refusal). reasonNo (z .reason)) y in omega arith
+ends-never : (place : ℕ) (w : List ℕ) (n : ℕ) → Sound w n → (named : Named) (ts us : List Ty) (o : Outcome) → Ends place w n named ts us o → Never13 o
+ends-never place w n s named ts us o (refused reason f e) = subst Never13 (sym e) (never-refused w n reason place (no-thirteen reason f))
+ends-never place w n s named ts us o (silent e) =
+    λ r h q. let a : NoValue n ≡ Refused r = ap (λ (x : Outcome). x .answer) (sym e) ∙ h in let z : _≡_ {A = ℕ} 0 1 = cc in omega arith
+ends-never place w n s named ts us o (valued R q f x g e) = subst Never13 (sym e) (never-entering place w n s R f)
 
-pub call-never-13 : (place : ℕ) (w : List ℕ) (n : ℕ) → Sound w n → (name tplt args : List ℕ) → Under n tplt → Under n args → (r : Refusal) (v : List ℕ)
-    → Gave (callOutcome place w n name (types w tplt) (types w args)) (Refused r) v → reasonNo (r .reason) ≢ 13
-call-never-13 place w n s name tplt args ut ua r v g =
-    ends-13 place w n s (ruleOf name) (types w tplt) (types w args) _
-    (rule-call-ends place w n (types w tplt) (types w args) (types-formed w n s tplt ut) (types-formed w n s args ua) (ruleOf name)) r v (whole _ _ v g)
+pub call-never-13 : (place : ℕ) (w : List ℕ) (n : ℕ) → Sound w n → (name tplt args : List ℕ) → Under n tplt → Under n args
+    → Never13 (callOutcome place w n name (types w tplt) (types w args))
+call-never-13 place w n s name tplt args ut ua =
+    ends-never place w n s (ruleOf name) (types w tplt) (types w args) _
+    (name-call-ends place w n (types w tplt) (types w args) (types-formed w n s tplt ut) (types-formed w n s args ua) name)
 
-pub never-13 : (w : List ℕ) (n : ℕ) (name tplt args : List ℕ) (r : Refusal) (v : List ℕ) → Gave (typeBuiltinFn w n name tplt args) (Refused r) v → reasonNo (r .reason) ≢ 13
-never-13 w n name tplt args r v g = go (single-ends w n name tplt args)
+pub builtin-never-13 : (w : List ℕ) (n : ℕ) (name tplt args : List ℕ) → Never13 (typeBuiltinFn w n name tplt args)
+builtin-never-13 w n name tplt args = go (single-ends w n name tplt args)
   where
-    go : Single w n name tplt args (typeBuiltinFn w n name tplt args) → reasonNo (r .reason) ≢ 13
-    go (early reason f e) = by-reason reason 0 w n f r v (sym e ∙ whole _ _ v g)
-    go (late s x) = ends-13 0 w n s (ruleOf name) (types w tplt) (types w args) _ x r v (whole _ _ v g)
+    go : Single w n name tplt args (typeBuiltinFn w n name tplt args) → Never13 (typeBuiltinFn w n name tplt args)
+    go (early reason f e) = subst Never13 (sym e) (never-refused w n reason 0 (no-thirteen reason f))
+    go (late s x) = ends-never 0 w n s (ruleOf name) (types w tplt) (types w args) _ x

@@ -1,20 +1,21 @@
 -- How a call of a builtin can end: refused, with no value, or with the type that its rule gives. The demands are read off this. Assumes nothing.
 use Prim.Native.Nat.{ℕ}
-use mathlib.Core.Path.{_≡_, refl, sym, _∙_, ap}
+use mathlib.Core.Path.{_≡_, refl, sym, _∙_, ap, subst}
 use mathlib.Core.Bool.{Bool, true, false, cond}
 use mathlib.Core.List.{List, [], _∷_}
-use lib.Dec.{eqb, ltb}
+use lib.Dec.{eqb}
 use lib.ListN.{length}
 use Rattle.conv.specs.Types.{Ty, u32, formed}
 use Rattle.conv.specs.Types.Ty.{scalar}
-use Rattle.overload.specs.Overload.{Judged}
+use Rattle.overload.specs.Overload.{Judged, Resolved}
 use Rattle.overload.specs.Overload.Judged.{gives, noneFits, nonePreferred}
-use Rattle.overload.specs.Rows.{overloadsOf, judgeRow, rowAt}
-use Rattle.overload.proofs.Operands.{and-left, allFormed, never-thirteen}
-use Rattle.overload.proofs.Judge.{judge-resolved}
-use Rattle.overload.proofs.Results.{gives-formed}
-use Rattle.names.specs.Names.{Known, ruleOf, overloadRows, ruleBitcast, ruleArrayLength, ruleLdexp}
-use Rattle.names.specs.Names.Known.{known, unknown}
+use Rattle.overload.specs.Rows.{Ruling, overloadsBy, judgeBy, Known}
+use Rattle.overload.proofs.Operands.{and-left, allFormed}
+use Rattle.overload.proofs.Rulings.{ruling-resolved, ruling-never, ruling-formed}
+use Rattle.names.specs.Names.{Rule, Named, ruleOf}
+use Rattle.names.specs.Names.Rule.{ruling, bitcast, arrayLength, ldexp, barrier}
+use Rattle.names.specs.Names.Named.{rule, unknown}
+use Rattle.names.proofs.Rules.{ruling-known}
 use Rattle.answer.specs.Answer.{reasonNo}
 use Rattle.table.specs.Table.{soundb, Sound}
 use Rattle.table.specs.Placing.{Outcome, turnedDown, entering}
@@ -26,18 +27,21 @@ use Rattle.call_ty.specs.Calls.{firstIn, secondIn, templateRight, operan
 use Rattle.call_ty.specs.Calls.Given.{judgment}
 use Rattle.call_ty.proofs.Lists.{types, types-formed, all-under}
 use Rattle.call_ty.proofs.Ways.{by-unknown}
-use Rattle.table.proofs.KindLaws.{split}
 use native.Mathlib.Omega.{arith}
 
 -- no refusal that a call gives has the number 13
 abbrev pub thirteen : Reason → Bool
 thirteen reason = eqb (reasonNo reason) 13
 
-module _ (place : ℕ) (w : List ℕ) (n : ℕ) (rule : Known) (ts us : List Ty) where
+module _ (place : ℕ) (w : List ℕ) (n : ℕ) (named : Named) (ts us : List Ty) where
   pub data Ends (o : Outcome) : Type 0 where
     refused : (reason : Reason) → thirteen reason ≡ false → o ≡ turnedDown reason place w n → Ends o
     silent : o ≡ withoutValue w n → Ends o
-    valued : (R : Ty) (k : ℕ) → formed R ≡ true → rule ≡ known k → givenBy k ts us ≡ judgment (gives R) → o ≡ entering place w n R → Ends o
+    valued : (R : Ty) (r : Rule) → formed R ≡ true → named ≡ rule r → givenBy r ts us ≡ judgment (gives R) → o ≡ entering place w n R → Ends o
+
+-- a ruling among what a name can have is known
+abbrev pub KnownIn : Named → Type 0
+KnownIn named = (r : Ruling) → named ≡ rule (ruling r) → Known r
 
 -- the two sides of a test
 choose : (P : Outcome → Type 0) (b : Bool) (x y : Outcome) → (b ≡ true → P x) → (b ≡ false → P y) → P (cond b x y)
@@ -51,24 +55,25 @@ first-formed (t ∷ ts) f = and-left (formed t) _ f
 
 module _ (place : ℕ) (w : List ℕ) (n : ℕ) (ts us : List Ty) (ft : allFormed ts ≡ true) (fu : allFormed us ≡ true) where
   -- a rule that gives a judgment
-  judged : (k : ℕ) → (j : Judged) → ((R : Ty) → j ≡ gives R → formed R ≡ true) → (j ≡ nonePreferred → ⊥) → givenBy k ts us ≡ judgment j
-      → Ends place w n (known k) ts us (judgedOutcome place w n j)
+  judged : (r : Rule) → (j : Judged) → ((R : Ty) → j ≡ gives R → formed R ≡ true) → (j ≡ nonePreferred → ⊥) → givenBy r ts us ≡ judgment j
+      → Ends place w n (rule r) ts us (judgedOutcome place w n j)
   unfolding judgedOutcome
-  judged k (gives R) f x g = valued R k (f R refl) refl g refl
-  judged k noneFits f x g = refused NoOverload refl refl
-  judged k nonePreferred f x g = absurd (x refl)
+  judged r (gives R) f x g = valued R r (f R refl) refl g refl
+  judged r noneFits f x g = refused NoOverload refl refl
+  judged r nonePreferred f x g = absurd (x refl)
 
-  row-ends : (k : ℕ) → givenBy k ts us ≡ judgment (judgeRow (rowAt k) us) → Ends place w n (known k) ts us (judgedOutcome place w n (judgeRow (rowAt k) us))
-  row-ends k g = judged k (judgeRow (rowAt k) us) (λ R e. gives-formed k us R e .0) (λ e. never-thirteen us fu k (rw e at (judge-resolved (overloadsOf (rowAt k)) us))) g
+  ruling-ends : (r : Ruling) → Known r → givenBy (ruling r) ts us ≡ judgment (judgeBy r us) → Ends place w n (rule (ruling r)) ts us (judgedOutcome place w n (judgeBy r us))
+  ruling-ends r k g =
+      judged (ruling r) (judgeBy r us) (ruling-formed us fu r k) (λ e. ruling-never us fu r k (subst (Resolved (overloadsBy r) us) e (ruling-resolved us fu r))) g
 
-  type-ends : (k : ℕ) (R : Ty) → formed R ≡ true → givenBy k ts us ≡ judgment (gives R) → Ends place w n (known k) ts us (judgedOutcome place w n (gives R))
+  type-ends : (r : Rule) (R : Ty) → formed R ≡ true → givenBy r ts us ≡ judgment (gives R) → Ends place w n (rule r) ts us (judgedOutcome place w n (gives R))
   unfolding judgedOutcome
-  type-ends k R f g = valued R k f refl g refl
+  type-ends r R f g = valued R r f refl g refl
 
-  ldexp-ends : (k : ℕ) → givenBy k ts us ≡ judgment (judgeLdexp (firstIn us) (secondIn us)) → Ends place w n (known k) ts us (judgedOutcome place w n (judgeLdexp (firstIn us) (secondIn us)))
+  ldexp-ends : (r : Rule) → givenBy r ts us ≡ judgment (judgeLdexp (firstIn us) (secondIn us)) → Ends place w n (rule r) ts us (judgedOutcome place w n (judgeLdexp (firstIn us) (secondIn us)))
   unfolding judgeLdexp
-  ldexp-ends k g =
-      judged k (cond (ldexpTakes (firstIn us) (secondIn us)) (gives (firstIn us)) noneFits) (λ R. go (ldexpTakes (firstIn us) (secondIn us)) R) (none (ldexpTakes (firstIn us) (secondIn us))) g
+  ldexp-ends r g =
+      judged r (cond (ldexpTakes (firstIn us) (secondIn us)) (gives (firstIn us)) noneFits) (λ R. go (ldexpTakes (firstIn us) (secondIn us)) R) (none (ldexpTakes (firstIn us) (secondIn us))) g
     where
       go : (b : Bool) (R : Ty) → cond b (gives (firstIn us)) noneFits ≡ gives R → formed R ≡ true
       go true R e = let q : firstIn us ≡ R = cc in ap formed (sym q) ∙ first-formed us fu
@@ -78,27 +83,30 @@ module _ (place : ℕ) (w : List ℕ) (n : ℕ) (ts us : List Ty) (ft : allForme
       none true e = let z : _≡_ {A = ℕ} 0 1 = cc in omega arith
       none false e = let z : _≡_ {A = ℕ} 0 1 = cc in omega arith
 
-  rule-ends : (k : ℕ) → Ends place w n (known k) ts us (givenOutcome place w n (givenBy k ts us))
+  rule-ends : (r : Rule) → KnownIn (rule r) → Ends place w n (rule r) ts us (givenOutcome place w n (givenBy r ts us))
   unfolding givenOutcome givenBy formed
-  rule-ends k =
-      split (ltb k overloadRows) (λ b. rw b (row-ends k (rw b))) (λ r.
-      split (eqb k ruleBitcast) (λ b. rw (r, b) (type-ends k (firstIn ts) (first-formed ts ft) (rw (r, b)))) (λ x.
-      split (eqb k ruleArrayLength) (λ b. rw (r, x, b) (type-ends k (scalar u32) refl (rw (r, x, b)))) (λ y.
-      split (eqb k ruleLdexp) (λ b. rw (r, x, y, b) (ldexp-ends k (rw (r, x, y, b)))) (λ z. rw (r, x, y, z) (silent refl)))))
+  rule-ends (ruling r) k = ruling-ends r (k r refl) refl
+  rule-ends bitcast k = type-ends bitcast (firstIn ts) (first-formed ts ft) refl
+  rule-ends arrayLength k = type-ends arrayLength (scalar u32) refl refl
+  rule-ends ldexp k = ldexp-ends ldexp refl
+  rule-ends barrier k = silent refl
 
-  known-ends : (k : ℕ) → Ends place w n (known k) ts us (byRule place w n (known k) ts us)
+  named-ends : (r : Rule) → KnownIn (rule r) → Ends place w n (rule r) ts us (byRule place w n (rule r) ts us)
   unfolding byRule
-  known-ends k =
-      choose (Ends place w n (known k) ts us) (templateRight k ts) _ _
-      (λ b. choose (Ends place w n (known k) ts us) (eqb (length us) (operandsOf k)) _ _
-      (λ d. choose (Ends place w n (known k) ts us) (anyReference us) _ _ (λ e. refused Reference refl refl) (λ e. rule-ends k))
+  named-ends r k =
+      choose (Ends place w n (rule r) ts us) (templateRight r ts) _ _
+      (λ b. choose (Ends place w n (rule r) ts us) (eqb (length us) (operandsOf r)) _ _
+      (λ d. choose (Ends place w n (rule r) ts us) (anyReference us) _ _ (λ e. refused Reference refl refl) (λ e. rule-ends r k))
       (λ d. refused Operands refl refl))
       (λ b. refused Template refl refl)
 
   -- A CALL ON LOADED OPERANDS
-  pub rule-call-ends : (rule : Known) → Ends place w n rule ts us (byRule place w n rule ts us)
-  rule-call-ends (known k) = known-ends k
-  rule-call-ends unknown = refused Unknown refl (sym (by-unknown place w n ts us))
+  pub rule-call-ends : (named : Named) → KnownIn named → Ends place w n named ts us (byRule place w n named ts us)
+  rule-call-ends (rule r) k = named-ends r k
+  rule-call-ends unknown k = refused Unknown refl (sym (by-unknown place w n ts us))
+
+  pub name-call-ends : (name : List ℕ) → Ends place w n (ruleOf name) ts us (byRule place w n (ruleOf name) ts us)
+  name-call-ends name = rule-call-ends (ruleOf name) (ruling-known name)
 
 -- A SINGLE CALL: of a table that is not sound, or of a number not below n, nothing is said but the refusal
 module _ (w : List ℕ) (n : ℕ) (name tplt args : List ℕ) where
@@ -114,7 +122,7 @@ module _ (w : List ℕ) (n : ℕ) (name tplt args : List ℕ) where
       (λ d. choose Single (allUnder n args) _ _
       (λ e.
       let s = sound-of w n b in
-      late s (rule-call-ends 0 w n (types w tplt) (types w args) (types-formed w n s tplt (all-under n tplt d)) (types-formed w n s args (all-under n args e)) (ruleOf name)))
+      late s (name-call-ends 0 w n (types w tplt) (types w args) (types-formed w n s tplt (all-under n tplt d)) (types-formed w n s args (all-under n args e)) name))
       (λ e. early NoSuchType refl refl))
       (λ d. early NoSuchType refl refl))
       (λ b. early Unsound refl refl)

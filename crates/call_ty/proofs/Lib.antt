@@ -7,4 +7,5 @@ pub mod Ends
 pub mod Demand1
 pub mod Demand2
 pub mod Demand3
+pub mod Sixteen
 pub mod OneReply

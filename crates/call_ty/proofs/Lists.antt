@@ -19,7 +19,7 @@ use Rattle.table.proofs.KindLaws.{and-false}
 use Rattle.table.proofs.FormedLaws.{formed-at}
 use Rattle.ruled.specs.Call.{anyReference}
 use Rattle.call_ty.specs.Calls.{allUnder}
-use Rattle.call_ty.specs.Codes.{Under}
+use Rattle.call_ty.specs.inner.Codes.{Under}
 
 under-rest : (n t : ℕ) (ts : List ℕ) → Under n (t ∷ ts) → Under n ts
 under-rest n t ts u i l = u (suc i) (omega arith)

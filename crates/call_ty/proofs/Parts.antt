@@ -12,7 +12,7 @@ use Rattle.overload.specs.inner.Code.{codeOf}
 use Rattle.overload.proofs.Operands.{code-scalar, code-vec, code-mat, code-other, between, float-small, and-left, and-right}
 use Rattle.table.proofs.KindLaws.{split}
 use Rattle.call_ty.specs.Calls.{isScalar, isVector, isNumeric, wideNumeric, ldexpTakes}
-use Rattle.call_ty.specs.Codes.{numericCode, ldexpCodes}
+use Rattle.call_ty.specs.inner.Codes.{numericCode, ldexpCodes}
 
 pub record Parts (t : Ty) (x : ℕ) : Type 0 where
   pub single : isScalar t ≡ ltb x 7

@@ -5,16 +5,21 @@ use mathlib.Core.Logic.{_≢_}
 use mathlib.Core.Bool.{true, false}
 use mathlib.Core.List.{List, map}
 use native.Mathlib.Omega.{arith}
-use lib.Dec.{eqb}
+use lib.Dec.{eqb, ltb, leb}
 use lib.ListN.{length, getD, length-map}
-use borrow.Author.Tests.{lt-ltb, le-ltb, eq-eqb, ne-eqb, eqb-true}
+use borrow.Author.Tests.{eq-eqb, ne-eqb, eqb-true, eqb-false, ltb-true, ltb-false, leb-true, leb-false}
 use Rattle.conv.specs.Types.{Ty, u32}
 use Rattle.conv.specs.Types.Ty.{scalar}
-use Rattle.overload.specs.Rows.{judgeRow, rowAt}
+use Rattle.overload.specs.Rows.{judgeRow, rowAt, operandCount, judgeBy}
+use Rattle.overload.specs.Rows.Ruling.{byRow}
+use Rattle.overload.proofs.Counts.{count-few}
 use Rattle.overload.specs.inner.Code.{operand, codeOf}
 use Rattle.overload.proofs.Operands.{and-left, allFormed, codesOf, judge-types}
-use Rattle.names.specs.Names.{overloadRows, ruleBitcast, ruleArrayLength, ruleLdexp}
-use Rattle.names.specs.Names.Known.{known, unknown}
+use Rattle.names.specs.Names.{Rule}
+use Rattle.names.specs.Names.Rule.{ruling, bitcast, arrayLength, ldexp, barrier}
+use Rattle.names.specs.Names.Named.{rule, unknown}
+use Rattle.names.specs.inner.Table.{numbered}
+use Rattle.names.proofs.Rules.{numbered-row, numbered-bitcast, numbered-length, numbered-ldexp, numbered-barrier}
 use Rattle.answer.specs.Answer.{accept, Accepted, WithoutValue}
 use Rattle.table.specs.Table.{soundb, Sound}
 use Rattle.table.specs.Denote.{typeAt}
@@ -22,13 +27,14 @@ use Rattle.table.specs.Placing.{Gave, turnedDown}
 use Rattle.answer.specs.declared.Answer.{Answer}
 use Rattle.answer.specs.declared.TypeNo.{TypeNo}
 use Rattle.answer.specs.declared.Reason.the-variants.{Unsound, NoSuchType, Reference, Unknown, Template, Operands, NoOverload}
+use Rattle.table.proofs.KindLaws.{split}
 use Rattle.table.proofs.TypeLaws.{type-scalar}
 use Rattle.table.proofs.FormedLaws.{formed-at}
 use Rattle.table.proofs.PlacingLaws.{standing-outcome}
 use Rattle.table.proofs.Giving.{gave}
 use Rattle.ruled.specs.Call.{anyReference, judgedOutcome}
-use Rattle.call_ty.specs.Calls.{firstIn, wideNumeric, templateRight, operandsOf, ldexpTakes, judgeLdexp, withoutValue, givenBy, givenOutcome, byRule, callOutcome, allUnder, typeBuiltinFn}
-use Rattle.call_ty.specs.Codes.{Under, numericCode, ldexpCodes}
+use Rattle.call_ty.specs.Calls.{firstIn, wideNumeric, templateRight, operandsBy, operandsOf, ldexpTakes, judgeLdexp, withoutValue, givenBy, givenOutcome, byRule, callOutcome, allUnder, typeBuiltinFn}
+use Rattle.call_ty.specs.inner.Codes.{Under, numericCode, ldexpCodes}
 use Rattle.call_ty.proofs.Parts.{numeric-by, ldexp-by}
 use Rattle.call_ty.proofs.Lists.{types, type-in}
 
@@ -41,30 +47,37 @@ gave-none w n a = gave (a .made) refl
 
 -- THE TEMPLATE LIST
 
-module _ (w : List ℕ) (rule : ℕ) (ts : List ℕ) where
-  pub template-none : rule ≢ ruleBitcast → eqb (length ts) 0 ≡ templateRight rule (types w ts)
-  unfolding templateRight
-  template-none h = sym (rw (ne-eqb rule ruleBitcast h) (ap (λ (k : ℕ). eqb k 0) (length-map ts (typeAt w))))
+-- a rule by its number is none but `bitcast`, or wants no list
+no-list : (k : ℕ) (ts : List Ty) → k ≢ 100 → templateRight (numbered k) ts ≡ eqb (length ts) 0
+unfolding templateRight numbered
+no-list k ts h =
+    split (ltb k 100) (λ a. rw a) (λ a.
+    split (eqb k 101) (λ b. rw (a, ne-eqb k 100 h, b)) (λ b.
+    split (eqb k 102) (λ d. rw (a, ne-eqb k 100 h, b, d)) (λ d. rw (a, ne-eqb k 100 h, b, d))))
 
-  module _ (h : rule ≡ ruleBitcast) where
-    pub template-count : length ts ≢ 1 → false ≡ templateRight rule (types w ts)
-    unfolding templateRight
-    template-count k = sym (rw (eq-eqb rule ruleBitcast h, ne-eqb (length (types w ts)) 1 (λ e. k (sym (length-map ts (typeAt w)) ∙ e))))
+module _ (w : List ℕ) (k : ℕ) (ts : List ℕ) where
+  pub template-none : k ≢ 100 → eqb (length ts) 0 ≡ templateRight (numbered k) (types w ts)
+  template-none h = sym (no-list k (types w ts) h ∙ ap (λ (l : ℕ). eqb l 0) (length-map ts (typeAt w)))
 
-    pub template-one : (n : ℕ) → Sound w n → Under n ts → length ts ≡ 1 → (x : ℕ) → x ≡ codeOf (typeAt w (getD ts 0 0)) → numericCode x ≡ templateRight rule (types w ts)
+  module _ (h : k ≡ 100) where
+    pub template-count : length ts ≢ 1 → false ≡ templateRight (numbered k) (types w ts)
     unfolding templateRight
-    template-one n s u k x e =
+    template-count l = sym (rw (numbered-bitcast k h, ne-eqb (length (types w ts)) 1 (λ e. l (sym (length-map ts (typeAt w)) ∙ e))))
+
+    pub template-one : (n : ℕ) → Sound w n → Under n ts → length ts ≡ 1 → (x : ℕ) → x ≡ codeOf (typeAt w (getD ts 0 0)) → numericCode x ≡ templateRight (numbered k) (types w ts)
+    unfolding templateRight
+    template-one n s u o x e =
         let l : 0 < length ts = omega arith in
         ap numericCode e
         ∙ sym (numeric-by (typeAt w (getD ts 0 0)) (formed-at w n s (getD ts 0 0) (u 0 l)))
         ∙ sym (ap wideNumeric (type-in w ts 0 l))
-        ∙ sym (rw (eq-eqb rule ruleBitcast h, eq-eqb (length (types w ts)) 1 (length-map ts (typeAt w) ∙ k)))
+        ∙ sym (rw (numbered-bitcast k h, eq-eqb (length (types w ts)) 1 (length-map ts (typeAt w) ∙ o)))
 
-    pub template-some : templateRight rule (types w ts) ≡ true → length ts ≡ 1
+    pub template-some : templateRight (numbered k) (types w ts) ≡ true → length ts ≡ 1
     unfolding templateRight
-    template-some k =
+    template-some o =
         sym (length-map ts (typeAt w))
-        ∙ eqb-true (length (types w ts)) 1 (and-left (eqb (length (types w ts)) 1) (wideNumeric (firstIn (types w ts))) (rw (eq-eqb rule ruleBitcast h) at k))
+        ∙ eqb-true (length (types w ts)) 1 (and-left (eqb (length (types w ts)) 1) (wideNumeric (firstIn (types w ts))) (rw (numbered-bitcast k h) at o))
 
 -- THE CRATE RULES
 
@@ -85,68 +98,91 @@ module _ (place : ℕ) (w : List ℕ) (n : ℕ) (s : Sound w n) where
       ldexp-by (typeAt w a) (typeAt w b) (formed-at w n s a l) (formed-at w n s b m) ∙ (λ i. ldexpCodes (sym d i) (sym e i)) ∙ h in
       sym (rw k)
 
-  module _ (rule : ℕ) (tplt args : List ℕ) where
+  module _ (k : ℕ) (tplt args : List ℕ) where
     -- a ruled name, by the numbers of its operands
-    pub rule-row : rule < overloadRows → (us : List Ty) → allFormed us ≡ true → (row : ℕ) → row ≡ rule → (codes : List ℕ) → codes ≡ codesOf us
-        → judgedOutcome place w n (judgeRow (rowAt row) (map operand codes)) ≡ givenOutcome place w n (givenBy rule (types w tplt) us)
-    unfolding givenOutcome givenBy judgedOutcome
+    pub rule-row : k < 100 → (us : List Ty) → allFormed us ≡ true → (row : ℕ) → row ≡ k → (codes : List ℕ) → codes ≡ codesOf us
+        → judgedOutcome place w n (judgeRow (rowAt row) (map operand codes)) ≡ givenOutcome place w n (givenBy (numbered k) (types w tplt) us)
+    unfolding givenOutcome givenBy judgeBy
     rule-row h us f row q codes e =
-        (λ i. judgedOutcome place w n (judgeRow (rowAt (q i)) (map operand (e i)))) ∙ ap (judgedOutcome place w n) (judge-types us f rule) ∙ sym (rw (lt-ltb rule overloadRows h))
+        (λ i. judgedOutcome place w n (judgeRow (rowAt (q i)) (map operand (e i))))
+        ∙ ap (judgedOutcome place w n) (judge-types us f k)
+        ∙ ap (λ (r : Rule). givenOutcome place w n (givenBy r (types w tplt) us)) (sym (numbered-row k h))
 
-    module _ (up : overloadRows ≤ rule) where
-      pub rule-bitcast : rule ≡ ruleBitcast → Under n tplt → length tplt ≡ 1
-          → record { answer = accept (getD tplt 0 0) n; words = w } ≡ givenOutcome place w n (givenBy rule (types w tplt) (types w args))
-      unfolding givenOutcome givenBy judgedOutcome
-      rule-bitcast h u k =
-          let l : 0 < length tplt = omega arith in
-          sym (standing-outcome place w n s (getD tplt 0 0) (firstIn (types w tplt)) (u 0 l) (sym (type-in w tplt 0 l)))
-          ∙ sym (rw (le-ltb rule overloadRows up, eq-eqb rule ruleBitcast h))
+    given-as : (r : Rule) → numbered k ≡ r → givenOutcome place w n (givenBy r (types w tplt) (types w args)) ≡ givenOutcome place w n (givenBy (numbered k) (types w tplt) (types w args))
+    given-as r e = ap (λ (r : Rule). givenOutcome place w n (givenBy r (types w tplt) (types w args))) (sym e)
 
-      module _ (no : rule ≢ ruleBitcast) where
-        pub rule-length : rule ≡ ruleArrayLength → record { answer = accept u32 n; words = w } ≡ givenOutcome place w n (givenBy rule (types w tplt) (types w args))
-        unfolding givenOutcome givenBy judgedOutcome
-        rule-length h =
-            let l = s .low in
-            sym (standing-outcome place w n s u32 (scalar u32) (omega arith) (type-scalar w u32 (omega arith)))
-            ∙ sym (rw (le-ltb rule overloadRows up, ne-eqb rule ruleBitcast no, eq-eqb rule ruleArrayLength h))
+    pub rule-bitcast : k ≡ 100 → Under n tplt → length tplt ≡ 1
+        → record { answer = accept (getD tplt 0 0) n; words = w } ≡ givenOutcome place w n (givenBy (numbered k) (types w tplt) (types w args))
+    unfolding givenOutcome givenBy judgedOutcome
+    rule-bitcast h u o =
+        let l : 0 < length tplt = omega arith in
+        sym (standing-outcome place w n s (getD tplt 0 0) (firstIn (types w tplt)) (u 0 l) (sym (type-in w tplt 0 l))) ∙ given-as bitcast (numbered-bitcast k h)
 
-        module _ (not2 : rule ≢ ruleArrayLength) where
-          pub rule-ldexp : rule ≡ ruleLdexp → length args ≡ 2
-              → judgedOutcome place w n (judgeLdexp (typeAt w (getD args 0 0)) (typeAt w (getD args 1 0))) ≡ givenOutcome place w n (givenBy rule (types w tplt) (types w args))
-          unfolding givenOutcome givenBy judgedOutcome
-          rule-ldexp h k =
-              (λ i. judgedOutcome place w n (judgeLdexp (sym (type-in w args 0 (omega arith)) i) (sym (type-in w args 1 (omega arith)) i)))
-              ∙ sym (rw (le-ltb rule overloadRows up, ne-eqb rule ruleBitcast no, ne-eqb rule ruleArrayLength not2, eq-eqb rule ruleLdexp h))
+    pub rule-length : k ≡ 101 → record { answer = accept u32 n; words = w } ≡ givenOutcome place w n (givenBy (numbered k) (types w tplt) (types w args))
+    unfolding givenOutcome givenBy judgedOutcome
+    rule-length h =
+        let l = s .low in
+        sym (standing-outcome place w n s u32 (scalar u32) (omega arith) (type-scalar w u32 (omega arith))) ∙ given-as arrayLength (numbered-length k h)
 
-          pub rule-barrier : rule ≢ ruleLdexp → withoutValue w n ≡ givenOutcome place w n (givenBy rule (types w tplt) (types w args))
-          unfolding givenOutcome givenBy judgedOutcome
-          rule-barrier h =
-              sym (rw (le-ltb rule overloadRows up, ne-eqb rule ruleBitcast no, ne-eqb rule ruleArrayLength not2, ne-eqb rule ruleLdexp h))
+    pub rule-ldexp : k ≡ 102 → length args ≡ 2
+        → judgedOutcome place w n (judgeLdexp (typeAt w (getD args 0 0)) (typeAt w (getD args 1 0))) ≡ givenOutcome place w n (givenBy (numbered k) (types w tplt) (types w args))
+    unfolding givenOutcome givenBy
+    rule-ldexp h o =
+        (λ i. judgedOutcome place w n (judgeLdexp (sym (type-in w args 0 (omega arith)) i) (sym (type-in w args 1 (omega arith)) i))) ∙ given-as ldexp (numbered-ldexp k h)
 
-pub ldexp-two : (rule : ℕ) → rule ≡ ruleLdexp → operandsOf rule ≡ 2
-unfolding operandsOf
-ldexp-two rule h = rw h
+    pub rule-barrier : 100 ≤ k → k ≢ 100 → k ≢ 101 → k ≢ 102 → withoutValue w n ≡ givenOutcome place w n (givenBy (numbered k) (types w tplt) (types w args))
+    unfolding givenOutcome givenBy
+    rule-barrier h a b c = given-as barrier (numbered-barrier k (omega arith))
+
+-- HOW MANY OPERANDS
+
+module _ (k : ℕ) where
+  pub count-row : k < 100 → operandCount (rowAt k) ≡ operandsOf (numbered k)
+  unfolding operandsOf operandsBy
+  count-row h = ap operandsOf (sym (numbered-row k h))
+
+  pub count-one : 100 ≤ k → k ≤ 101 → 1 ≡ operandsOf (numbered k)
+  unfolding operandsOf
+  count-one l h =
+      split (eqb k 100) (λ e. ap operandsOf (sym (numbered-bitcast k (eqb-true k 100 e)))) (λ e. let q = eqb-false k 100 e in ap operandsOf (sym (numbered-length k (omega arith))))
+
+  pub count-ldexp : k ≡ 102 → 2 ≡ operandsOf (numbered k)
+  unfolding operandsOf
+  count-ldexp h = ap operandsOf (sym (numbered-ldexp k h))
+
+  pub count-none : 101 < k → k ≢ 102 → 0 ≡ operandsOf (numbered k)
+  unfolding operandsOf
+  count-none l h = ap operandsOf (sym (numbered-barrier k (omega arith)))
+
+  -- four at most
+  pub at-most : operandsOf (numbered k) ≤ 4
+  at-most =
+      split (ltb k 100) (λ a. let e = count-row (ltb-true k 100 a) in let f = count-few k in omega (arith, e, f)) (λ a.
+      let l = ltb-false k 100 a in
+      split (leb k 101) (λ b. let e = count-one l (leb-true k 101 b) in omega (arith, e)) (λ b.
+      split (eqb k 102) (λ d. let e = count-ldexp (eqb-true k 102 d) in omega (arith, e))
+      (λ d. let e = count-none (leb-false k 101 b) (eqb-false k 102 d) in omega (arith, e))))
 
 -- A CALL BY ITS RULE
 
-module _ (place : ℕ) (w : List ℕ) (n rule : ℕ) (ts us : List Ty) where
-  pub by-template : templateRight rule ts ≡ false → turnedDown Template place w n ≡ byRule place w n (known rule) ts us
+module _ (place : ℕ) (w : List ℕ) (n : ℕ) (r : Rule) (ts us : List Ty) where
+  pub by-template : templateRight r ts ≡ false → turnedDown Template place w n ≡ byRule place w n (rule r) ts us
   unfolding byRule
   by-template h = sym (rw h)
 
-  module _ (t : templateRight rule ts ≡ true) where
-    pub by-count : length us ≢ operandsOf rule → turnedDown Operands place w n ≡ byRule place w n (known rule) ts us
+  module _ (t : templateRight r ts ≡ true) where
+    pub by-count : length us ≢ operandsOf r → turnedDown Operands place w n ≡ byRule place w n (rule r) ts us
     unfolding byRule
-    by-count h = sym (rw (t, ne-eqb (length us) (operandsOf rule) h))
+    by-count h = sym (rw (t, ne-eqb (length us) (operandsOf r) h))
 
-    module _ (k : length us ≡ operandsOf rule) where
-      pub by-reference : anyReference us ≡ true → turnedDown Reference place w n ≡ byRule place w n (known rule) ts us
+    module _ (k : length us ≡ operandsOf r) where
+      pub by-reference : anyReference us ≡ true → turnedDown Reference place w n ≡ byRule place w n (rule r) ts us
       unfolding byRule
-      by-reference h = sym (rw (t, eq-eqb (length us) (operandsOf rule) k, h))
+      by-reference h = sym (rw (t, eq-eqb (length us) (operandsOf r) k, h))
 
-      pub by-call : anyReference us ≡ false → givenOutcome place w n (givenBy rule ts us) ≡ byRule place w n (known rule) ts us
+      pub by-call : anyReference us ≡ false → givenOutcome place w n (givenBy r ts us) ≡ byRule place w n (rule r) ts us
       unfolding byRule
-      by-call h = sym (rw (t, eq-eqb (length us) (operandsOf rule) k, h))
+      by-call h = sym (rw (t, eq-eqb (length us) (operandsOf r) k, h))
 
 pub by-unknown : (place : ℕ) (w : List ℕ) (n : ℕ) (ts us : List Ty) → turnedDown Unknown place w n ≡ byRule place w n unknown ts us
 unfolding byRule

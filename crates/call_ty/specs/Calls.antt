@@ -9,9 +9,11 @@ use Rattle.conv.specs.Types.Ty.{scalar}
 use Rattle.conv.specs.Rank.{tagOf, componentOf}
 use Rattle.overload.specs.Overload.{Judged}
 use Rattle.overload.specs.Overload.Judged.{gives, noneFits}
-use Rattle.overload.specs.Rows.{Family, rowAt, judgeRow}
-use Rattle.names.specs.Names.{Known, ruleOf, overloadRows, ruleBitcast, ruleArrayLength, ruleLdexp}
-use Rattle.names.specs.Names.Known.{known, unknown}
+use Rattle.overload.specs.Rows.{Ruling, operandCount, judgeBy}
+use Rattle.overload.specs.Rows.Ruling.{byRow, address, indirection}
+use Rattle.names.specs.Names.{Rule, Named, ruleOf}
+use Rattle.names.specs.Names.Rule.{ruling, bitcast, arrayLength, ldexp, barrier}
+use Rattle.names.specs.Names.Named.{rule, unknown}
 use Rattle.table.specs.Table.{soundb}
 use Rattle.table.specs.Denote.{typeAt}
 use Rattle.table.specs.Placing.{Outcome, turnedDown}
@@ -43,21 +45,29 @@ secondIn ts = getD ts 1 (scalar bool)
 
 -- THE TEMPLATE LIST: "`bitcast` with one template type, numeric scalar or vector (else 5)"; no other builtin wants one
 
-unfoldable pub templateRight : ℕ → List Ty → Bool
-templateRight rule ts = cond (eqb rule ruleBitcast) (eqb (length ts) 1 && wideNumeric (firstIn ts)) (eqb (length ts) 0)
+abbrev pub noList : List Ty → Bool
+noList ts = eqb (length ts) 0
 
--- HOW MANY OPERANDS a rule wants: of a row as many as its overloads have parameters; `bitcast` and `arrayLength` one, `ldexp` two, a barrier none
+unfoldable pub templateRight : Rule → List Ty → Bool
+templateRight (ruling r) ts = noList ts
+templateRight bitcast ts = eqb (length ts) 1 && wideNumeric (firstIn ts)
+templateRight arrayLength ts = noList ts
+templateRight ldexp ts = noList ts
+templateRight barrier ts = noList ts
 
-unfoldable pub operandsIn : List Family → ℕ
-operandsIn [] = 0
-operandsIn (f ∷ fs) = length (f .params)
+-- HOW MANY OPERANDS a rule wants: a row as many as its overloads have parameters
 
-unfoldable pub operandsOf : ℕ → ℕ
-operandsOf rule =
-    cond (ltb rule overloadRows) (operandsIn (rowAt rule .families))
-    (cond (eqb rule ruleBitcast) 1
-    (cond (eqb rule ruleArrayLength) 1
-    (cond (eqb rule ruleLdexp) 2 0)))
+unfoldable pub operandsBy : Ruling → ℕ
+operandsBy (byRow r) = operandCount r
+operandsBy address = 1
+operandsBy indirection = 1
+
+unfoldable pub operandsOf : Rule → ℕ
+operandsOf (ruling r) = operandsBy r
+operandsOf bitcast = 1
+operandsOf arrayLength = 1
+operandsOf ldexp = 2
+operandsOf barrier = 0
 
 -- THE RULES, on operands of which none is a reference
 
@@ -78,15 +88,14 @@ pub data Given : Type 0 where
   judgment : Judged → Given
   nothing : Given
 
--- a ruled name by its row; `bitcast` gives its template type; "`arrayLength`, one operand, gives u32"; `ldexp`;
--- "storageBarrier, textureBarrier, workgroupBarrier: no operand, no value", which are the only names left
-unfoldable pub givenBy : ℕ → List Ty → List Ty → Given
-givenBy rule ts us =
-    cond (ltb rule overloadRows) (judgment (judgeRow (rowAt rule) us))
-    (cond (eqb rule ruleBitcast) (judgment (gives (firstIn ts)))
-    (cond (eqb rule ruleArrayLength) (judgment (gives (scalar u32)))
-    (cond (eqb rule ruleLdexp) (judgment (judgeLdexp (firstIn us) (secondIn us)))
-    nothing)))
+-- a ruled name by its overloads; `bitcast` gives its template type; "`arrayLength`, one operand, gives u32"; "storageBarrier, textureBarrier,
+-- workgroupBarrier: no operand, no value"
+unfoldable pub givenBy : Rule → List Ty → List Ty → Given
+givenBy (ruling r) ts us = judgment (judgeBy r us)
+givenBy bitcast ts us = judgment (gives (firstIn ts))
+givenBy arrayLength ts us = judgment (gives (scalar u32))
+givenBy ldexp ts us = judgment (judgeLdexp (firstIn us) (secondIn us))
+givenBy barrier ts us = nothing
 
 -- 8, 13, 9 or the type's number; where there is no value the table stays as it is
 abbrev pub withoutValue : List ℕ → ℕ → Outcome
@@ -98,12 +107,12 @@ givenOutcome place w n nothing = withoutValue w n
 
 -- A CALL ON LOADED OPERANDS, at a place: 4 an unknown name, 5 the template list, 7 the operand count, 3 a reference offered, then its rule
 
-unfoldable pub byRule : ℕ → List ℕ → ℕ → Known → List Ty → List Ty → Outcome
+unfoldable pub byRule : ℕ → List ℕ → ℕ → Named → List Ty → List Ty → Outcome
 byRule place w n unknown ts us = turnedDown Unknown place w n
-byRule place w n (known rule) ts us =
-    cond (templateRight rule ts)
-    (cond (eqb (length us) (operandsOf rule))
-    (cond (anyReference us) (turnedDown Reference place w n) (givenOutcome place w n (givenBy rule ts us)))
+byRule place w n (rule r) ts us =
+    cond (templateRight r ts)
+    (cond (eqb (length us) (operandsOf r))
+    (cond (anyReference us) (turnedDown Reference place w n) (givenOutcome place w n (givenBy r ts us)))
     (turnedDown Operands place w n))
     (turnedDown Template place w n)
 

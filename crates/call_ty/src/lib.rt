@@ -1,7 +1,7 @@
 // The result types of builtins, as wgsl-types' `call_ty.rs` has them, by the standard and by the crate's rules.
 use conv::PLAINS;
 use conv::SCALARS;
-use names::Rule;
+use names::RuleNo;
 use ruled::REFERENCE;
 use table::Answer;
 use table::Place;
@@ -12,17 +12,15 @@ ghost use mathlib.Core.Bool.{true};
 ghost use mathlib.Core.List.{map};
 ghost use Prim.Native.Nat.{_<_, _≤_};
 ghost use lib.ListN.{length};
-ghost use Rattle.names.specs.Names.Known.{known};
+ghost use Rattle.names.specs.inner.Table.{numbered, nameTable};
 ghost use Rattle.conv.specs.Types.{isFloat, isAbstract};
 ghost use Rattle.table.specs.Table.{Sound};
 ghost use Rattle.table.specs.Denote.{typeAt};
 ghost use Rattle.table.specs.Placing.{Gave};
 ghost use Rattle.ruled.specs.Call.{judgedOutcome};
-ghost use Rattle.call_ty.specs.Calls.{templateRight, operandsOf, judgeLdexp, givenBy, givenOutcome, byRule, callOutcome, allUnder, typeBuiltinFn};
-ghost use Rattle.call_ty.specs.Codes.{Under, Loaded, numericCode, ldexpCodes};
+ghost use Rattle.call_ty.specs.Calls.{templateRight, operandsOf, judgeLdexp, givenBy, givenOutcome, callOutcome, allUnder, typeBuiltinFn};
+ghost use Rattle.call_ty.specs.inner.Codes.{byNumber, Under, Loaded, numericCode, ldexpCodes};
 
-// The rows of overloads: a rule below is a row.
-const ROWS: u8 = 47;
 // The most operands of a rule.
 const MOST: usize = 4;
 // The scalars, as an operand's number has them.
@@ -71,44 +69,18 @@ fn ldexp_codes(x: u8, y: u8) -> bool
     (scalars | vectors) & is_float(s) & ((t == ABSTRACT_INT) | (t == I32)) & (concretes | abstracts)
 }
 
-// How many operands a rule wants: the rows of overloads by their numbers, then the crate rules.
+// How many operands a rule wants.
 fn operands_of(rule: u8) -> usize
-    ensures { λ r. ⌜ r ≡ operandsOf rule ⌝ }
+    ensures { λ r. ⌜ r ≡ operandsOf (numbered rule) ⌝ }
 {
-    // The operators with two sides; then atan2, max, distance, dot, reflect, cross, dot4U8Packed and dot4I8Packed, each with the names of its row.
-    let two = ((3 <= rule) & (rule <= 11))
-        | (rule == 13)
-        | (rule == 17)
-        | (rule == 23)
-        | (rule == 24)
-        | (rule == 26)
-        | (rule == 29)
-        | (rule == 43)
-        | (rule == 44);
-    if two {
-        return 2;
+    if rule < names::RULE_BITCAST {
+        return overload::operand_count(cast::wide(rule));
     }
-    // fma, mix, clamp, extractBits, faceForward, refract and select.
-    let three = (rule == 14)
-        | (rule == 15)
-        | (rule == 18)
-        | (rule == 20)
-        | (rule == 27)
-        | (rule == 28)
-        | (rule == 46);
-    if three {
-        return 3;
-    }
-    // insertBits.
-    let four = rule == 21;
-    if four {
-        return 4;
+    if rule <= names::RULE_ARRAY_LENGTH {
+        return 1;
     }
     if rule == names::RULE_LDEXP {
         return 2;
-    }
-    if (rule < ROWS) | (rule == names::RULE_BITCAST) | (rule == names::RULE_ARRAY_LENGTH) {
-        return 1;
     }
     0
 }
@@ -130,7 +102,7 @@ fn all_under(list: &[u32], n: usize) -> bool
 // The template list is as the rule wants it: one numeric scalar or vector for `bitcast`, none for every other.
 fn template_right(words: &[u32], n: usize, rule: u8, tplt: &[u32]) -> bool
     requires { ⌜ Sound (now words) n × Under n (now tplt) ⌝ }
-    ensures { λ r. ⌜ r ≡ templateRight rule (map (typeAt (now (words .entry))) (now (tplt .entry))) ⌝ }
+    ensures { λ r. ⌜ r ≡ templateRight (numbered rule) (map (typeAt (now (words .entry))) (now (tplt .entry))) ⌝ }
 {
     if rule != names::RULE_BITCAST {
         return tplt.len() == 0;
@@ -173,8 +145,8 @@ fn ldexp_at(words: &[u32], n: usize, place: Place, a: usize, b: usize) -> Answer
 
 // A crate rule on loaded operands: each of its types stands in the table already.
 fn crate_rule(words: &[u32], n: usize, place: Place, rule: u8, tplt: &[u32], args: &[u32]) -> Answer
-    requires { ⌜ Sound (now words) n × Under n (now tplt) × Under n (now args) × (47 ≤ rule) × (templateRight rule (map (typeAt (now words)) (now tplt)) ≡ true) × (length (now args) ≡ operandsOf rule) ⌝ }
-    ensures { λ r. ⌜ Gave (givenOutcome (place .0) (now (words .entry)) n (givenBy rule (map (typeAt (now (words .entry))) (now (tplt .entry))) (map (typeAt (now (words .entry))) (now (args .entry))))) r (now (words .entry)) ⌝ }
+    requires { ⌜ Sound (now words) n × Under n (now tplt) × Under n (now args) × (100 ≤ rule) × (templateRight (numbered rule) (map (typeAt (now words)) (now tplt)) ≡ true) × (length (now args) ≡ operandsOf (numbered rule)) ⌝ }
+    ensures { λ r. ⌜ Gave (givenOutcome (place .0) (now (words .entry)) n (givenBy (numbered rule) (map (typeAt (now (words .entry))) (now (tplt .entry))) (map (typeAt (now (words .entry))) (now (args .entry))))) r (now (words .entry)) ⌝ }
 {
     if rule == names::RULE_BITCAST {
         return table::accepted(TypeNo(cast::word(tplt[0])), n);
@@ -198,7 +170,7 @@ fn by_rule(
     args: &[u32],
 ) -> Answer
     requires { ⌜ Sound (now words) n × Under n (now tplt) × Under n (now args) ⌝ }
-    ensures { λ r. ⌜ Gave (byRule (place .0) (now (words .entry)) n (known rule) (map (typeAt (now (words .entry))) (now (tplt .entry))) (map (typeAt (now (words .entry))) (now (args .entry)))) r (now (words .exit)) ⌝ }
+    ensures { λ r. ⌜ Gave (byNumber (place .0) (now (words .entry)) n rule (map (typeAt (now (words .entry))) (now (tplt .entry))) (map (typeAt (now (words .entry))) (now (args .entry)))) r (now (words .exit)) ⌝ }
 {
     if !template_right(words, n, rule, tplt) {
         return table::refused(Reason::Template, place, n);
@@ -211,27 +183,28 @@ fn by_rule(
     if !load(words, n, args, &mut codes) {
         return table::refused(Reason::Reference, place, n);
     }
-    if rule < ROWS {
+    if rule < names::RULE_BITCAST {
         return ruled::judge_codes(words, n, place, cast::wide(rule), &codes[0..k]);
     }
     crate_rule(words, n, place, rule, tplt, args)
 }
 
-// A call of a builtin on loaded operands, at a place.
+// A call of a builtin on loaded operands, at a place; the table of names is lent as rows.
 pub fn call_at(
     words: &mut [u32],
     n: usize,
     place: Place,
+    rows: &[u8],
     name: &[u8],
     tplt: &[u32],
     args: &[u32],
 ) -> Answer
-    requires { ⌜ Sound (now words) n × Under n (now tplt) × Under n (now args) ⌝ }
+    requires { ⌜ Sound (now words) n × Under n (now tplt) × Under n (now args) × (now rows ≡ nameTable) ⌝ }
     ensures { λ r. ⌜ Gave (callOutcome (place .0) (now (words .entry)) n (now (name .entry)) (map (typeAt (now (words .entry))) (now (tplt .entry))) (map (typeAt (now (words .entry))) (now (args .entry)))) r (now (words .exit)) ⌝ }
 {
-    match names::rule_of(name) {
-        Rule::Is(rule) => by_rule(words, n, place, rule, tplt, args),
-        Rule::Unknown => table::refused(Reason::Unknown, place, n),
+    match names::rule_of(rows, name) {
+        RuleNo::Is(rule) => by_rule(words, n, place, rule, tplt, args),
+        RuleNo::Unknown => table::refused(Reason::Unknown, place, n),
     }
 }
 
@@ -254,5 +227,6 @@ pub fn type_builtin_fn(
     if !all_under(args, n) {
         return table::refused(Reason::NoSuchType, Place(0), n);
     }
-    call_at(words, n, Place(0), name, tplt, args)
+    let rows = names::name_table();
+    call_at(words, n, Place(0), &rows, name, tplt, args)
 }

@@ -19,10 +19,11 @@ use Rattle.table.specs.Denote.{typeAt}
 use Rattle.table.specs.Placing.{Outcome, Gave}
 use Rattle.table.proofs.PlacingLaws.{standing-outcome}
 use Rattle.table.proofs.Giving.{gave-whole}
-use Rattle.names.specs.Names.{Known, ruleOf}
-use Rattle.names.specs.Names.Known.{known}
+use Rattle.names.specs.Names.{Named, ruleOf}
+use Rattle.names.specs.Names.Named.{rule}
+use Rattle.names.specs.inner.Table.{numbered}
 use Rattle.call_ty.specs.Calls.{byRule}
-use Rattle.call_ty.specs.Codes.{Under}
+use Rattle.call_ty.specs.inner.Codes.{Under}
 use Rattle.call_ty.proofs.Lists.{type-in}
 use Rattle.ops_ty.specs.Ops.{unaryOps, binaryOps}
 use Rattle.frame.specs.declared.Part.{Part}
@@ -62,7 +63,7 @@ neither false b h = (refl, h)
 on-some : (q : Question) (k : ℕ) → On q k → (1 ≤ k) × (k ≤ 3) × (codeOf q < 256)
 on-some (binary op) k h = let a = h .0 in let b = h .1 in (omega arith, omega arith, omega arith)
 on-some (unary op) k h = let a = h .0 in let b = h .1 in (omega arith, omega arith, omega arith)
-on-some (builtin rule) k h = let a = h .0 in (h .1, h .2, omega arith)
+on-some (builtin number) k h = let a = h .0 in (h .1, h .2, omega arith)
 
 module _ (s : List ℕ) (i : Item) (code k : ℕ) (a : Asks s i code k) where
   pub asks-coded : Coded code k
@@ -131,23 +132,23 @@ unary-asks s op h =
           rw (le-leb 1 (height st) l, type-in (st .words) (operands 1 st) 0 (omega arith));
     }
 
-pub call-asks : (s : List ℕ) (name : Part) (k rule : ℕ) → 1 ≤ k → k ≤ 3 → rule < 128 → ruleOf (bytesOf s name) ≡ known rule → AskedBy s (Call k name) (rule + 24) k
+pub call-asks : (s : List ℕ) (name : Part) (k number : ℕ) → 1 ≤ k → k ≤ 3 → number < 128 → ruleOf (bytesOf s name) ≡ rule (numbered number) → AskedBy s (Call k name) (number + 24) k
 unfolding effectOf callEffect
-call-asks s name k rule l m h e =
+call-asks s name k number l m h e =
     record {
-      question = builtin rule;
+      question = builtin number;
       on = (h, l, m);
       number = refl;
       effect = λ place st g.
           rw (le-leb k (height st) g)
-          (ap (λ (r : Known). onto (below k st) (byRule place (st .words) (st .used) r [] (map (typeAt (st .words)) (operands k st)))) e);
+          (ap (λ (r : Named). onto (below k st) (byRule place (st .words) (st .used) r [] (map (typeAt (st .words)) (operands k st)))) e);
     }
 
 -- the code and the count as they were made
-pub call-asked : (s : List ℕ) (name : Part) (k rule code j : ℕ) → 1 ≤ k → k ≤ 3 → rule < 128 → ruleOf (bytesOf s name) ≡ known rule → code ≡ 24 + rule → j ≡ k → Asks s (Call k name) code j
-call-asked s name k rule code j l m h e c d =
-    let z : code ≡ rule + 24 = omega arith in
-    record { asks = inr (rw (z, d) (call-asks s name k rule l m h e)) }
+pub call-asked : (s : List ℕ) (name : Part) (k number code j : ℕ) → 1 ≤ k → k ≤ 3 → number < 128 → ruleOf (bytesOf s name) ≡ rule (numbered number) → code ≡ 24 + number → j ≡ k → Asks s (Call k name) code j
+call-asked s name k number code j l m h e c d =
+    let z : code ≡ number + 24 = omega arith in
+    record { asks = inr (rw (z, d) (call-asks s name k number l m h e)) }
 
 -- THE LAST VALUES of a slice
 

@@ -17,7 +17,11 @@ use Rattle.overload.specs.Rows.Ruling.{byRow}
 use Rattle.overload.proofs.Rulings.{row-formed, ruling-formed}
 use Rattle.overload.proofs.Operands.{allFormed}
 use Rattle.overload.proofs.Results.{gives-formed}
-use Rattle.names.specs.Names.Known.{known}
+use Rattle.names.specs.Names.{Rule}
+use Rattle.names.specs.Names.Rule.{ruling}
+use Rattle.names.specs.Names.Named.{rule}
+use Rattle.names.specs.inner.Table.{numbered}
+use Rattle.names.proofs.Rules.{number-known}
 use Rattle.answer.specs.Answer.{refuse}
 use Rattle.answer.specs.declared.TypeNo.{TypeNo}
 use Rattle.answer.specs.declared.Answer.the-variants.{Value, NoValue}
@@ -34,7 +38,7 @@ use Rattle.ops_ty.specs.Ops.{unaryOps, unaryRuling, binaryOps, binaryRow, unary
 use Rattle.ops_ty.proofs.Ways.{unary-known, binary-known, one-formed}
 use Rattle.call_ty.specs.Calls.{templateRight, operandsOf, givenBy, givenOutcome, byRule}
 use Rattle.call_ty.specs.Calls.Given.{judgment}
-use Rattle.call_ty.specs.Codes.{Under}
+use Rattle.call_ty.specs.inner.Codes.{byNumber, Under}
 use Rattle.call_ty.proofs.Lists.{types-formed}
 use Rattle.call_ty.proofs.Ends.{Ends, rule-call-ends}
 use Rattle.call_ty.proofs.Ends.Ends.{refused, silent, valued}
@@ -50,7 +54,7 @@ impossible e = absurd (omega arith)
 code-byte : (q : Question) (k : ℕ) → On q k → (1 ≤ codeOf q) × (codeOf q < 256)
 code-byte (binary op) k h = let a = h .0 in (omega arith, omega arith)
 code-byte (unary op) k h = let a = h .0 in (omega arith, omega arith)
-code-byte (builtin rule) k h = let a = h .0 in (omega arith, omega arith)
+code-byte (builtin number) k h = let a = h .0 in (omega arith, omega arith)
 
 code-one : (q r : Question) (j k : ℕ) → On q j → On r k → codeOf q ≡ codeOf r → q ≡ r
 code-one (binary a) (binary b) j k g h e = let z : a ≡ b = omega arith in ap binary z
@@ -232,33 +236,33 @@ module _ (place : ℕ) (w : List ℕ) (n : ℕ) (t : TypeNo) (m : ℕ) where
       (λ a. let q = rw a at e in impossible (cc))
 
   -- the rule of a call that gave a value gives its type
-  rule-gives : (rule : ℕ) (us : List Ty) (o : Outcome) → Ends place w n (known rule) [] us o → o .answer ≡ Value t m
-      → (R : Ty) × (formed R ≡ true) × (givenBy rule [] us ≡ judgment (gives R))
-  rule-gives rule us o (refused reason f e) h =
+  rule-gives : (r : Rule) (us : List Ty) (o : Outcome) → Ends place w n (rule r) [] us o → o .answer ≡ Value t m
+      → (R : Ty) × (formed R ≡ true) × (givenBy r [] us ≡ judgment (gives R))
+  rule-gives r us o (refused reason f e) h =
       let a : Value t m ≡ refuse reason place n = sym h ∙ ap (λ (x : Outcome). x .answer) e in
       impossible (cc)
-  rule-gives rule us o (silent e) h =
+  rule-gives r us o (silent e) h =
       let a : Value t m ≡ NoValue n = sym h ∙ ap (λ (x : Outcome). x .answer) e in
       impossible (cc)
-  rule-gives rule us o (valued R k f q g e) h = let z : rule ≡ k = cc in (R, f, ap (λ (j : ℕ). givenBy j [] us) z ∙ g)
+  rule-gives r us o (valued R k f q g e) h = let z : r ≡ k = cc in (R, f, ap (λ (j : Rule). givenBy j [] us) z ∙ g)
 
-  rule-typed : (rule : ℕ) (us : List Ty) (R : Ty) → givenBy rule [] us ≡ judgment (gives R) → byRule place w n (known rule) [] us .answer ≡ Value t m
-      → (p : ℕ) (v : List ℕ) (k : ℕ) → byRule p v k (known rule) [] us ≡ entering p v k R
+  rule-typed : (r : Rule) (us : List Ty) (R : Ty) → givenBy r [] us ≡ judgment (gives R) → byRule place w n (rule r) [] us .answer ≡ Value t m
+      → (p : ℕ) (v : List ℕ) (k : ℕ) → byRule p v k (rule r) [] us ≡ entering p v k R
   unfolding byRule givenOutcome judgedOutcome
-  rule-typed rule us R g e =
-      split (templateRight rule [])
+  rule-typed r us R g e =
+      split (templateRight r [])
       (λ a.
-      split (eqb (length us) (operandsOf rule))
+      split (eqb (length us) (operandsOf r))
       (λ b. split (anyReference us) (λ c. let q = rw (a, b, c) at e in impossible (cc)) (λ c p v k. rw (a, b, c, g)))
       (λ b. let q = rw (a, b) at e in impossible (cc)))
       (λ a. let q = rw a at e in impossible (cc))
 
-  gives-builtin : (rule : ℕ) (us : List Ty) → allFormed us ≡ true → byRule place w n (known rule) [] us .answer ≡ Value t m
-      → (R : Ty) × (formed R ≡ true) × ((p : ℕ) (v : List ℕ) (k : ℕ) → byRule p v k (known rule) [] us ≡ entering p v k R)
+  gives-builtin : (number : ℕ) (us : List Ty) → allFormed us ≡ true → byNumber place w n number [] us .answer ≡ Value t m
+      → (R : Ty) × (formed R ≡ true) × ((p : ℕ) (v : List ℕ) (k : ℕ) → byNumber p v k number [] us ≡ entering p v k R)
   unfolding allFormed
-  gives-builtin rule us f e =
-      let z = rule-gives rule us (byRule place w n (known rule) [] us) (rule-call-ends place w n [] us refl f (known rule)) e in
-      (z .0, z .1, rule-typed rule us (z .0) (z .2) e)
+  gives-builtin number us f e =
+      let z = rule-gives (numbered number) us (byNumber place w n number [] us) (rule-call-ends place w n [] us refl f (rule (numbered number)) (λ r q. number-known number r (let z : numbered number ≡ ruling r = cc in z))) e in
+      (z .0, z .1, rule-typed (numbered number) us (z .0) (z .2) e)
 
 -- the type that a question on operands of a table gives
 module _ (place : ℕ) (w : List ℕ) (n : ℕ) (s : Sound w n) (t : TypeNo) (m : ℕ) where
@@ -268,7 +272,7 @@ module _ (place : ℕ) (w : List ℕ) (n : ℕ) (s : Sound w n) (t : TypeNo) (m 
   gives-value (unary op) [] o u e = let z = o .1 in absurd (omega arith)
   gives-value (unary op) (a ∷ []) o u e = gives-unary place w n t m op s a (u 0 (omega arith)) e
   gives-value (unary op) (a ∷ b ∷ vs) o u e = let z = o .1 in absurd (omega arith)
-  gives-value (builtin rule) vs o u e = gives-builtin place w n t m rule (map (typeAt w) vs) (types-formed w n s vs u) e
+  gives-value (builtin number) vs o u e = gives-builtin place w n t m number (map (typeAt w) vs) (types-formed w n s vs u) e
 
   -- A VALUE THAT TYPING GAVE may be noted: the table grew, and the new slot is true
   module _ (q : Question) (vs : List ℕ) (o : On q (length vs)) (u : Under n vs) (v : List ℕ)

@@ -9,7 +9,7 @@ use frame::ITEM_UNARY;
 use frame::Item;
 use frame::Part;
 use frame::Short;
-use names::Rule;
+use names::RuleNo;
 use step::Did;
 use step::VALUES;
 use table::Place;
@@ -20,7 +20,8 @@ ghost use lib.ListN.{length};
 ghost use Rattle.frame.specs.Frame.{kindPush};
 ghost use Rattle.frame.specs.inner.Items.{sheetOf, LiesIn, NameIn};
 ghost use Rattle.frame.specs.declared.Item.the-variants.{Call};
-ghost use Rattle.call_ty.specs.Codes.{Under};
+ghost use Rattle.names.specs.inner.Table.{nameTable};
+ghost use Rattle.call_ty.specs.inner.Codes.{Under};
 ghost use Rattle.step.specs.Effect.{effectOf};
 ghost use Rattle.step.specs.inner.Code.{stateOf, Ready, Does};
 ghost use Rattle.memo.specs.inner.Memo.{keyOf, Recalls, Recalled, Noted, Leaves, NotedStep, AfterStep};
@@ -147,8 +148,8 @@ fn asked_short(x: Short) -> Ask
 }
 
 // A call of a builtin asks by the rule of its name.
-fn asked_call(items: &[u8], name: Part, k: u8) -> Ask
-    requires { ⌜ LiesIn (length (now items)) name ⌝ }
+fn asked_call(items: &[u8], rows: &[u8], name: Part, k: u8) -> Ask
+    requires { ⌜ LiesIn (length (now items)) name × (now rows ≡ nameTable) ⌝ }
     ensures { λ r. ⌜ Asks (sheetOf (now (items .entry))) (Call k name) (r .code) (r .operands) ⌝ }
 {
     if (k < 1) | (OPERANDS < k) {
@@ -157,8 +158,8 @@ fn asked_call(items: &[u8], name: Part, k: u8) -> Ask
             operands: 0,
         };
     }
-    match names::rule_of(frame::name_in(items, name)) {
-        Rule::Is(rule) => {
+    match names::rule_of(rows, frame::name_in(items, name)) {
+        RuleNo::Is(rule) => {
             if RULES <= rule {
                 return Ask {
                     code: 0,
@@ -170,15 +171,15 @@ fn asked_call(items: &[u8], name: Part, k: u8) -> Ask
                 operands: wide(k),
             }
         }
-        Rule::Unknown => Ask {
+        RuleNo::Unknown => Ask {
             code: 0,
             operands: 0,
         },
     }
 }
 
-fn asked(items: &[u8], item: Item) -> Ask
-    requires { ⌜ NameIn (length (now items)) item ⌝ }
+fn asked(items: &[u8], rows: &[u8], item: Item) -> Ask
+    requires { ⌜ NameIn (length (now items)) item × (now rows ≡ nameTable) ⌝ }
     ensures { λ r. ⌜ Asks (sheetOf (now (items .entry))) item (r .code) (r .operands) ⌝ }
 {
     match item {
@@ -190,7 +191,7 @@ fn asked(items: &[u8], item: Item) -> Ask
             kind: ITEM_BINARY,
             number: op,
         }),
-        Item::Call { count: k, name } => asked_call(items, name, k),
+        Item::Call { count: k, name } => asked_call(items, rows, name, k),
         _ => Ask {
             code: 0,
             operands: 0,
@@ -293,6 +294,7 @@ pub fn quick_at(
 // What stands at a place of the sheet: recalled where the memo has it, else typed, and noted.
 pub fn noted_step(
     items: &[u8],
+    rows: &[u8],
     item: Item,
     at: Place,
     stack: &mut [u32],
@@ -301,12 +303,12 @@ pub fn noted_step(
     used: usize,
     memo: &mut [u64],
 ) -> Did
-    requires { ⌜ Ready count (now stack) used (now table) × NameIn (length (now items)) item × Recalls (now memo) (now table) used ⌝ }
+    requires { ⌜ Ready count (now stack) used (now table) × NameIn (length (now items)) item × Recalls (now memo) (now table) used × (now rows ≡ nameTable) ⌝ }
     ensures { λ r. ⌜ Does (effectOf (at .0) (stateOf count (now (stack .entry)) used (now (table .entry))) (sheetOf (now (items .entry))) item) r (now (stack .exit)) (now (table .exit)) × AfterStep r (now (memo .exit)) (now (table .exit)) ⌝ }
 {
-    let a = keyed(asked(items, item), stack, count);
+    let a = keyed(asked(items, rows, item), stack, count);
     if a.number == 0 {
-        return step::step(items, item, at, stack, count, table, used);
+        return step::step(items, rows, item, at, stack, count, table, used);
     }
     let t = recall(memo, a.number);
     if t != NOTHING {
@@ -317,7 +319,7 @@ pub fn noted_step(
             used,
         };
     }
-    let d = step::step(items, item, at, stack, count, table, used);
+    let d = step::step(items, rows, item, at, stack, count, table, used);
     note_did(memo, a.number, d, stack);
     d
 }

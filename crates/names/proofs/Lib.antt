@@ -1,7 +1,8 @@
 pub mod Bytes
 pub mod Order
-pub mod Rows
-pub mod Table
-pub mod Slots
+pub mod Lines
+pub mod Found
+pub mod Rules
 pub mod Document
+pub mod Six
 pub mod OneReply

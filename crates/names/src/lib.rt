@@ -1,61 +1,65 @@
 // Which rule the bytes that are offered as a builtin's name have.
 mod tables;
 
-use tables::NameRow;
-pub use tables::RULE_ARRAY_LENGTH;
-pub use tables::RULE_BITCAST;
-pub use tables::RULE_LDEXP;
-pub use tables::RULE_STORAGE_BARRIER;
-pub use tables::RULE_TEXTURE_BARRIER;
-pub use tables::RULE_WORKGROUP_BARRIER;
+use tables::LINE_WIDTH;
+use tables::NAME_WIDTH;
+pub use tables::name_table;
 ghost use mathlib.Core.Path.{_≡_};
-ghost use Prim.Native.Nat.{_≤_, _<_};
-ghost use Rattle.names.specs.Names.{count, nameAt, sameBytes, said, ruleOf};
-ghost use Rattle.names.specs.Search.{slotOf, letterOf, HasEight, HoldsRow};
+ghost use mathlib.Core.Bool.{false};
+ghost use Prim.Native.Nat.{_<_, _≤_};
+ghost use lib.ListN.{length, getD};
+ghost use Rattle.names.specs.Names.{count, nameAt, sameBytes, ruleOf};
+ghost use Rattle.names.specs.inner.Table.{nameTable, blank, hasBlank, StandsAt, replied};
 
-pub enum Rule {
+// The crate rules' numbers. A number below the first is that of a row of overloads.
+pub const RULE_BITCAST: u8 = 100;
+
+pub const RULE_ARRAY_LENGTH: u8 = 101;
+
+pub const RULE_LDEXP: u8 = 102;
+
+pub const RULE_BARRIER: u8 = 103;
+
+// What names are filled up with: it is below every letter and digit.
+const BLANK: u8 = b' ';
+
+pub enum RuleNo {
     Is(u8),
     Unknown,
 }
 
-fn wide(x: u8) -> usize
-    ensures { λ r. ⌜ (r ≡ x) × (r < 256) ⌝ }
+fn has_blank(name: &[u8]) -> bool
+    ensures { λ r. ⌜ r ≡ hasBlank (now (name .entry)) ⌝ }
 {
-    x as usize
-}
-
-// The slot of a name: each of the 94 has one of its own.
-fn slot_of(name: &[u8]) -> usize
-    ensures { λ r. ⌜ r ≡ slotOf (now (name .entry)) ⌝ }
-{
-    let mut mixed = 0;
     let mut i = 0;
     while i < name.len() {
-        mixed = (mixed * 4025 + wide(name[i])) % 65536;
-        i += 1;
-    }
-    mixed * 72241 % 1048576 * 235 / 1048576
-}
-
-// A letter of eight.
-fn letter(eight: u64, i: usize) -> u8
-    requires { ⌜ i < 8 ⌝ }
-    ensures { λ r. ⌜ r ≡ letterOf eight i ⌝ }
-{
-    ((eight >> (56 - 8 * i)) % 256) as u8
-}
-
-// Whether a name has the letters of eight from a place on, as far as it goes.
-fn has_eight(eight: u64, from: usize, name: &[u8]) -> bool
-    requires { ⌜ from ≤ 16 ⌝ }
-    ensures { λ r. ⌜ HasEight eight from (now (name .entry)) r ⌝ }
-{
-    let mut i = 0;
-    while i < 8 {
-        if name.len() <= from + i {
+        if name[i] == BLANK {
             return true;
         }
-        if letter(eight, i) != name[from + i] {
+        i += 1;
+    }
+    false
+}
+
+// A letter of a name that is filled up with blanks.
+fn letter(name: &[u8], i: usize) -> u8
+    ensures { λ r. ⌜ r ≡ getD (now (name .entry)) i blank ⌝ }
+{
+    if i < name.len() {
+        return name[i];
+    }
+    BLANK
+}
+
+// Whether a line's name is this one.
+fn is_named(rows: &[u8], row: usize, name: &[u8]) -> bool
+    requires { ⌜ (now rows ≡ nameTable) × (row < count) × (length (now name) ≤ 32) × (hasBlank (now name) ≡ false) ⌝ }
+    ensures { λ r. ⌜ r ≡ sameBytes (nameAt row) (now (name .entry)) ⌝ }
+{
+    let from = row * LINE_WIDTH;
+    let mut i = 0;
+    while i < NAME_WIDTH {
+        if rows[from + i] != letter(name, i) {
             return false;
         }
         i += 1;
@@ -63,44 +67,36 @@ fn has_eight(eight: u64, from: usize, name: &[u8]) -> bool
     true
 }
 
-// Whether a row's name is this one: the lengths first, then eight letters at a time.
-fn is_named(number: usize, row: NameRow, name: &[u8]) -> bool
-    requires { ⌜ (number < count) × HoldsRow number row ⌝ }
-    ensures { λ r. ⌜ r ≡ sameBytes (nameAt number) (now (name .entry)) ⌝ }
+// The row that has this name, or their count where none has.
+fn row_of(rows: &[u8], name: &[u8], lines: usize) -> usize
+    requires { ⌜ (now rows ≡ nameTable) × (length (now name) ≤ 32) × (hasBlank (now name) ≡ false) × (lines ≡ count) ⌝ }
+    ensures { λ r. ⌜ StandsAt (now (name .entry)) r ⌝ }
 {
-    let size = name.len();
-    if row.3 != size {
-        return false;
+    let mut row = 0;
+    while row < lines {
+        if is_named(rows, row, name) {
+            return row;
+        }
+        row += 1;
     }
-    if !has_eight(row.0, 0, name) {
-        return false;
-    }
-    if size <= 8 {
-        return true;
-    }
-    if !has_eight(row.1, 8, name) {
-        return false;
-    }
-    if size <= 16 {
-        return true;
-    }
-    has_eight(row.2, 16, name)
+    lines
 }
 
-// The rule of the name with these bytes.
-pub fn rule_of(name: &[u8]) -> Rule
-    ensures { λ r. ⌜ said r ≡ ruleOf (now (name .entry)) ⌝ }
+// The number of the rule that the name with these bytes has. For the crates above, which lend the table: a host calls nothing of this crate.
+pub fn rule_of(rows: &[u8], name: &[u8]) -> RuleNo
+    requires { ⌜ now rows ≡ nameTable ⌝ }
+    ensures { λ r. ⌜ r ≡ replied (ruleOf (now (name .entry))) ⌝ }
 {
-    if tables::NAME_WIDTH < name.len() {
-        return Rule::Unknown;
+    if NAME_WIDTH < name.len() {
+        return RuleNo::Unknown;
     }
-    let number = tables::row_of_slot(slot_of(name));
-    if tables::NAME_COUNT <= number {
-        return Rule::Unknown;
+    if has_blank(name) {
+        return RuleNo::Unknown;
     }
-    let row = tables::row_at(number);
-    if is_named(number, row, name) {
-        return Rule::Is(row.4);
+    let lines = rows.len() / LINE_WIDTH;
+    let row = row_of(rows, name, lines);
+    if row < lines {
+        return RuleNo::Is(rows[row * LINE_WIDTH + NAME_WIDTH]);
     }
-    Rule::Unknown
+    RuleNo::Unknown
 }

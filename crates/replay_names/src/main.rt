@@ -1,6 +1,8 @@
 // Replays names from standard input, a line each: three digits of the rule, a blank and the name, as `012 acos`, or `---` for bytes that are no name.
 // A line that begins with `#` ends a group: it is written with the group's counts.
-use names::Rule;
+use names::RuleNo;
+ghost use mathlib.Core.Path.{_≡_};
+ghost use Rattle.names.specs.inner.Table.{nameTable};
 
 const GROUP: u8 = b'#';
 
@@ -25,16 +27,18 @@ struct Tally {
 }
 
 // Whether a reply is the one of a line's three digits.
-fn is_reply(reply: Rule, hundreds: u8, tens: u8, ones: u8) -> bool {
+fn is_reply(reply: RuleNo, hundreds: u8, tens: u8, ones: u8) -> bool {
     match reply {
-        Rule::Is(n) => (ZERO + n / 100 == hundreds)
+        RuleNo::Is(n) => (ZERO + n / 100 == hundreds)
             & (ZERO + n / 10 % 10 == tens)
             & (ZERO + n % 10 == ones),
-        Rule::Unknown => (hundreds == NO_RULE) & (tens == NO_RULE) & (ones == NO_RULE),
+        RuleNo::Unknown => (hundreds == NO_RULE) & (tens == NO_RULE) & (ones == NO_RULE),
     }
 }
 
-fn judged(line: &[u8]) -> Verdict {
+fn judged(rows: &[u8], line: &[u8]) -> Verdict
+    requires { ⌜ now rows ≡ nameTable ⌝ }
+{
     if line.len() < NAME_AT {
         return Verdict::Wrong;
     }
@@ -42,7 +46,7 @@ fn judged(line: &[u8]) -> Verdict {
     if first == GROUP {
         return Verdict::Group;
     }
-    let reply = names::rule_of(&line[NAME_AT..]);
+    let reply = names::rule_of(rows, &line[NAME_AT..]);
     if !is_reply(reply, first, line[1], line[2]) {
         return Verdict::Wrong;
     }
@@ -95,6 +99,7 @@ fn counted(tally: Tally, verdict: Verdict) -> Tally {
 }
 
 fn replay(s: &[u8]) {
+    let rows = names::name_table();
     let mut tally = Tally {
         known: 0,
         unknown: 0,
@@ -104,7 +109,7 @@ fn replay(s: &[u8]) {
     while at < s.len() {
         let end = vectors::line_end(s, at);
         let line = &s[at..end];
-        let verdict = judged(line);
+        let verdict = judged(&rows, line);
         if let Verdict::Group = verdict {
             write_group(line, tally);
         }

@@ -20,7 +20,7 @@ use Rattle.table.proofs.KindLaws.{split}
 use Rattle.table.proofs.Keeping.{enter-call}
 use Rattle.ops_ty.specs.Ops.{unaryOutcome, binaryOutcome, typeUnaryOp, typeBinaryOp}
 use Rattle.call_ty.specs.Calls.{callOutcome, allUnder, typeBuiltinFn}
-use Rattle.call_ty.specs.Codes.{Under}
+use Rattle.call_ty.specs.inner.Codes.{Under}
 use Rattle.call_ty.proofs.Lists.{under-all}
 use Rattle.held.specs.Held.{numberOf}
 use Rattle.step.specs.Effect.{most, State, height, operands, below, stop, onto, calling, unaryEffect, binaryEffect, callEffect, templateEffect, takeEffect}

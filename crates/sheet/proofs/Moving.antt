@@ -11,8 +11,8 @@ use Rattle.overload.specs.Overload.{Judged}
 use Rattle.overload.specs.Overload.Judged.{gives, noneFits, nonePreferred}
 use Rattle.overload.specs.Rows.{Ruling, judgeBy}
 use Rattle.overload.specs.Rows.Ruling.{byRow}
-use Rattle.names.specs.Names.{Known, ruleOf}
-use Rattle.names.specs.Names.Known.{known, unknown}
+use Rattle.names.specs.Names.{Named, ruleOf}
+use Rattle.names.specs.Names.Named.{rule, unknown}
 use Rattle.table.specs.Enter.{free}
 use Rattle.table.specs.Placing.{Outcome, placed, entering}
 use Rattle.ruled.specs.Call.{anyReference, judgedOutcome, offends, ruledOutcome}
@@ -54,10 +54,10 @@ module _ (place : ℕ) (w : List ℕ) (n : ℕ) where
   given-moved (judgment j) = judged-moved j
   given-moved nothing = refl
 
-  rule-moved : (r : Known) (ts us : List Ty) → byRule place w n r ts us ≡ moved place (byRule 0 w n r ts us)
+  rule-moved : (r : Named) (ts us : List Ty) → byRule place w n r ts us ≡ moved place (byRule 0 w n r ts us)
   unfolding byRule
   rule-moved unknown ts us = refl
-  rule-moved (known k) ts us =
+  rule-moved (rule k) ts us =
       either (templateRight k ts) _ _ _ _
       (either (eqb (length us) (operandsOf k)) _ _ _ _ (either (anyReference us) _ _ _ _ refl (given-moved (givenBy k ts us))) refl)
       refl

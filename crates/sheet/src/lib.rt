@@ -1,4 +1,4 @@
-// A sheet typed item by item. The header is judged once, and the part after it is handed on; the stack and the memo belong to `run` and are lent inwards.
+// A sheet typed item by item. The header is judged once, and the part after it is handed on; the names, the stack and the memo belong to `run` and are lent inwards.
 use frame::HEADER;
 use frame::SHORT_BYTES;
 use memo::SLOTS;
@@ -12,6 +12,7 @@ ghost use Prim.Native.Nat.{_≤_};
 ghost use lib.ListN.{length, take};
 ghost use Rattle.table.specs.Table.{Sound};
 ghost use Rattle.table.specs.Placing.{Gave};
+ghost use Rattle.names.specs.inner.Table.{nameTable};
 ghost use Rattle.frame.specs.Frame.{headerSize, itemAt, itemsFrom};
 ghost use Rattle.frame.specs.inner.Items.{sheetOf};
 ghost use Rattle.sheet.specs.Machine.{endAnswer, leftAnswer, turnOf, runItems, begun, typeSheet};
@@ -82,6 +83,7 @@ fn turn_by(d: Did, size: usize, at: Place, next: Place, stack: &[u32]) -> Turn
 // One turn of the machine, at a place.
 fn one_turn(
     items: &[u8],
+    rows: &[u8],
     at: Place,
     stack: &mut [u32],
     count: usize,
@@ -89,12 +91,12 @@ fn one_turn(
     used: usize,
     memo: &mut [u64],
 ) -> Turn
-    requires { ⌜ Ready count (now stack) used (now table) × Recalls (now memo) (now table) used ⌝ }
+    requires { ⌜ Ready count (now stack) used (now table) × Recalls (now memo) (now table) used × (now rows ≡ nameTable) ⌝ }
     ensures { λ r. ⌜ Turns (turnOf (sheetOf (now (items .entry))) (itemAt (sheetOf (now (items .entry))) (at .0)) (stateOf count (now (stack .entry)) used (now (table .entry)))) (itemAt (sheetOf (now (items .entry))) (at .0) .next .0) r (now (stack .exit)) (now (table .exit)) × AfterTurn r (now (memo .exit)) (now (table .exit)) ⌝ }
 {
     let found = frame::item_in(items, at);
     let item = found.item;
-    let d = memo::noted_step(items, item, at, stack, count, table, used, memo);
+    let d = memo::noted_step(items, rows, item, at, stack, count, table, used, memo);
     turn_by(d, HEADER + items.len(), at, found.next, stack)
 }
 
@@ -129,12 +131,13 @@ fn rush(
 // The items from the first to the end, or to the first that is refused, over a stack of no values and a memo that has nothing.
 fn run_on(
     items: &[u8],
+    rows: &[u8],
     table: &mut [u32],
     used: usize,
     stack: &mut [u32],
     memo: &mut [u64],
 ) -> Answer
-    requires { ⌜ Sound (now table) used × (length (now stack) ≡ 64) × Recalls (now memo) (now table) used ⌝ }
+    requires { ⌜ Sound (now table) used × (length (now stack) ≡ 64) × Recalls (now memo) (now table) used × (now rows ≡ nameTable) ⌝ }
     ensures { λ r. ⌜ Gave (runItems (sheetOf (now (items .entry))) (itemsFrom (sheetOf (now (items .entry))) headerSize) (begun (now (table .entry)) used)) r (now (table .exit)) ⌝ }
 {
     let mut count: usize = 0;
@@ -142,7 +145,7 @@ fn run_on(
     let mut at = HEADER;
     loop {
         let r = rush(items, Place(at), stack, count, table, used, memo);
-        match one_turn(items, r.at, stack, r.count, table, used, memo) {
+        match one_turn(items, rows, r.at, stack, r.count, table, used, memo) {
             Turn::More {
                 count: c,
                 used: u,
@@ -159,14 +162,15 @@ fn run_on(
     }
 }
 
-// The same over a stack and a memo of its own.
+// The same over the names, a stack and a memo of its own.
 fn run(items: &[u8], table: &mut [u32], used: usize) -> Answer
     requires { ⌜ Sound (now table) used ⌝ }
     ensures { λ r. ⌜ Gave (runItems (sheetOf (now (items .entry))) (itemsFrom (sheetOf (now (items .entry))) headerSize) (begun (now (table .entry)) used)) r (now (table .exit)) ⌝ }
 {
+    let rows = names::name_table();
     let mut values = [0u32; VALUES];
     let mut results = [0u64; SLOTS];
-    run_on(items, table, used, &mut values, &mut results)
+    run_on(items, &rows, table, used, &mut values, &mut results)
 }
 
 // For a host: the type of a whole sheet over a table of n entries.

@@ -26,7 +26,7 @@ use Rattle.ruled.proofs.Outcomes.{gave-from}
 use Rattle.ops_ty.proofs.Demand1.{unary-at-kept, binary-at-kept}
 use Rattle.call_ty.specs.Calls.{firstIn, secondIn, callOutcome}
 use Rattle.call_ty.proofs.Lists.{type-in}
-use Rattle.call_ty.specs.Codes.{Under}
+use Rattle.call_ty.specs.inner.Codes.{Under}
 use Rattle.call_ty.proofs.Demand1.{call-at-kept}
 use Rattle.step.specs.declared.Did.{Did}
 use Rattle.step.specs.Effect.{most, State, calling, takeEffect}

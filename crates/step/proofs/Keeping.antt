@@ -27,7 +27,7 @@ use Rattle.frame.specs.declared.Item.the-variants.{Push, Unary, Binary, Call, C
 use Rattle.ops_ty.proofs.Demand1.{unary-at-kept, binary-at-kept}
 use Rattle.call_ty.specs.Calls.{callOutcome}
 use Rattle.call_ty.proofs.Demand1.{call-at-kept}
-use Rattle.call_ty.specs.Codes.{Under}
+use Rattle.call_ty.specs.inner.Codes.{Under}
 use Rattle.step.specs.Effect.{most, State, height, operands, below, Effect, goes, silent, ends, stops, stop, pushed, onto, having, holding, pushEffect, unaryEffect, binaryEffect, calling, callEffect, templateEffect, takeEffect, effectOf, entryOf, bytesOf}
 use Rattle.step.specs.inner.Code.{Good}
 use Rattle.step.specs.Kept.{Grew, resultOf, Needed}

@@ -6,7 +6,7 @@ use native.Mathlib.Omega.{arith}
 use native.Mathlib.Numerals.{add-one}
 use lib.ListN.{length, getD, take, drop, set, length-drop}
 use lib.Seq.{take-suc-set, length-take-le, take-take, length-slice, ext-getD, getD-drop, getD-take}
-use Rattle.call_ty.specs.Codes.{Under}
+use Rattle.call_ty.specs.inner.Codes.{Under}
 
 -- a value written behind the first n is the next of them
 pub next-value : (vals : List ℕ) (n v : ℕ) → n < length vals → take (n + 1) (set vals n v) ≡ take n vals ++ (v ∷ [])

@@ -18,7 +18,8 @@ ghost use Rattle.table.specs.Table.{Sound};
 ghost use Rattle.table.specs.Denote.{typeAt};
 ghost use Rattle.table.specs.Placing.{Gave};
 ghost use Rattle.frame.specs.inner.Items.{sheetOf, LiesIn, NameIn};
-ghost use Rattle.call_ty.specs.Codes.{Under};
+ghost use Rattle.names.specs.inner.Table.{nameTable};
+ghost use Rattle.call_ty.specs.inner.Codes.{Under};
 ghost use Rattle.step.specs.Effect.{bytesOf, entryOf, pushEffect, calling, callEffect, templateEffect, takeEffect, effectOf};
 ghost use Rattle.step.specs.inner.Code.{stateOf, turnedAway, Arity, operatorOutcome, operatorEffect, Ready, Pushes, Settles, Does};
 
@@ -123,8 +124,9 @@ fn operator(
     settle(stack, base, r)
 }
 
-// A call on the last k values, with its template list.
+// A call on the last k values, with its template list; the table of names is lent as rows.
 fn call_on(
+    rows: &[u8],
     name: &[u8],
     tplt: &[u32],
     k: usize,
@@ -134,16 +136,17 @@ fn call_on(
     table: &mut [u32],
     used: usize,
 ) -> Did
-    requires { ⌜ Ready count (now stack) used (now table) × Under used (now tplt) × (k ≤ count) ⌝ }
+    requires { ⌜ Ready count (now stack) used (now table) × Under used (now tplt) × (k ≤ count) × (now rows ≡ nameTable) ⌝ }
     ensures { λ r. ⌜ Does (calling (at .0) (stateOf count (now (stack .entry)) used (now (table .entry))) (now (name .entry)) (map (typeAt (now (table .entry))) (now (tplt .entry))) k) r (now (stack .exit)) (now (table .exit)) ⌝ }
 {
     let base = count - k;
-    let r = call_ty::call_at(table, used, at, name, tplt, &stack[base..count]);
+    let r = call_ty::call_at(table, used, at, rows, name, tplt, &stack[base..count]);
     settle(stack, base, r)
 }
 
 fn call(
     items: &[u8],
+    rows: &[u8],
     name: Part,
     k: u8,
     at: Place,
@@ -152,7 +155,7 @@ fn call(
     table: &mut [u32],
     used: usize,
 ) -> Did
-    requires { ⌜ Ready count (now stack) used (now table) × LiesIn (length (now items)) name ⌝ }
+    requires { ⌜ Ready count (now stack) used (now table) × LiesIn (length (now items)) name × (now rows ≡ nameTable) ⌝ }
     ensures { λ r. ⌜ Does (callEffect (at .0) (stateOf count (now (stack .entry)) used (now (table .entry))) (bytesOf (sheetOf (now (items .entry))) name) k) r (now (stack .exit)) (now (table .exit)) ⌝ }
 {
     let k = wide(k);
@@ -161,11 +164,12 @@ fn call(
     }
     let bytes = frame::name_in(items, name);
     let list: [u32; 0] = [];
-    call_on(bytes, &list, k, at, stack, count, table, used)
+    call_on(rows, bytes, &list, k, at, stack, count, table, used)
 }
 
 fn call_template(
     items: &[u8],
+    rows: &[u8],
     name: Part,
     t: TypeNo,
     k: u8,
@@ -175,7 +179,7 @@ fn call_template(
     table: &mut [u32],
     used: usize,
 ) -> Did
-    requires { ⌜ Ready count (now stack) used (now table) × LiesIn (length (now items)) name ⌝ }
+    requires { ⌜ Ready count (now stack) used (now table) × LiesIn (length (now items)) name × (now rows ≡ nameTable) ⌝ }
     ensures { λ r. ⌜ Does (templateEffect (at .0) (stateOf count (now (stack .entry)) used (now (table .entry))) (bytesOf (sheetOf (now (items .entry))) name) (t .0) k) r (now (stack .exit)) (now (table .exit)) ⌝ }
 {
     let template = t.0;
@@ -189,7 +193,7 @@ fn call_template(
     let bytes = frame::name_in(items, name);
     let first = template as u32;
     let list = [first];
-    call_on(bytes, &list, wanted, at, stack, count, table, used)
+    call_on(rows, bytes, &list, wanted, at, stack, count, table, used)
 }
 
 // The type of an entry, entered where it is absent, as one value more.
@@ -230,6 +234,7 @@ fn entry(kind: u8, p: u32, q: u8, elem: u8) -> Entry
 // What stands at a place of the sheet, on the stack of `count` values and the table.
 pub fn step(
     items: &[u8],
+    rows: &[u8],
     item: Item,
     at: Place,
     stack: &mut [u32],
@@ -237,19 +242,30 @@ pub fn step(
     table: &mut [u32],
     used: usize,
 ) -> Did
-    requires { ⌜ Ready count (now stack) used (now table) × NameIn (length (now items)) item ⌝ }
+    requires { ⌜ Ready count (now stack) used (now table) × NameIn (length (now items)) item × (now rows ≡ nameTable) ⌝ }
     ensures { λ r. ⌜ Does (effectOf (at .0) (stateOf count (now (stack .entry)) used (now (table .entry))) (sheetOf (now (items .entry))) item) r (now (stack .exit)) (now (table .exit)) ⌝ }
 {
     match item {
         Item::Push(t) => push(t, at, stack, count, table, used),
         Item::Unary(op) => operator(op, UNARY, at, stack, count, table, used),
         Item::Binary(op) => operator(op, BINARY, at, stack, count, table, used),
-        Item::Call { count: k, name } => call(items, name, k, at, stack, count, table, used),
+        Item::Call { count: k, name } => call(items, rows, name, k, at, stack, count, table, used),
         Item::CallTemplate {
             template,
             count: k,
             name,
-        } => call_template(items, name, template, k, at, stack, count, table, used),
+        } => call_template(
+            items,
+            rows,
+            name,
+            template,
+            k,
+            at,
+            stack,
+            count,
+            table,
+            used,
+        ),
         Item::Take { kind, p, q, elem } => {
             take_in(entry(kind, p, q, elem), at, stack, count, table, used)
         }

@@ -12,8 +12,8 @@ use Rattle.overload.specs.Overload.{Judged}
 use Rattle.overload.specs.Overload.Judged.{gives, noneFits, nonePreferred}
 use Rattle.overload.specs.Rows.{Ruling, judgeBy}
 use Rattle.overload.specs.Rows.Ruling.{byRow}
-use Rattle.names.specs.Names.{Known, ruleOf}
-use Rattle.names.specs.Names.Known.{known, unknown}
+use Rattle.names.specs.Names.{Named, ruleOf}
+use Rattle.names.specs.Names.Named.{rule, unknown}
 use Rattle.table.specs.Table.{soundb}
 use Rattle.table.specs.Denote.{typeAt}
 use Rattle.table.specs.Enter.{free}
@@ -68,12 +68,12 @@ module _ (place : ℕ) (w : List ℕ) (n : ℕ) where
   given-at (judgment j) = judged-at j
   given-at nothing = tt
 
-  rule-at : (k : Known) (ts us : List Ty) → At place n (byRule place w n k ts us .answer)
+  rule-at : (k : Named) (ts us : List Ty) → At place n (byRule place w n k ts us .answer)
   unfolding byRule
   rule-at unknown ts us = (refl, refl)
-  rule-at (known rule) ts us =
-      at-by (templateRight rule ts) _ _
-      (at-by (eqb (length us) (operandsOf rule)) _ _ (at-by (anyReference us) _ _ (refl, refl) (given-at (givenBy rule ts us))) (refl, refl))
+  rule-at (rule r) ts us =
+      at-by (templateRight r ts) _ _
+      (at-by (eqb (length us) (operandsOf r)) _ _ (at-by (anyReference us) _ _ (refl, refl) (given-at (givenBy r ts us))) (refl, refl))
       (refl, refl)
 
   pub call-at : (name : List ℕ) (ts us : List Ty) → At place n (callOutcome place w n name ts us .answer)

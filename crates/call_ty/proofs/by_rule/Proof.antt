@@ -4,10 +4,10 @@ use native.Mathlib.Omega.{arith}
 use lib.ListN.{length-map}
 use borrow.Author.Tests.{not-true, not-false}
 use borrow.Author.Needs.{needs}
+use Rattle.names.specs.inner.Table.{numbered}
 use Rattle.table.specs.Denote.{typeAt}
 use Rattle.ruled.proofs.Outcomes.{gave-as, gave-refused}
-use Rattle.call_ty.proofs.Ways.{by-template, by-count, by-reference, by-call, rule-row}
-use Rattle.call_ty.proofs.Counts.{at-most}
+use Rattle.call_ty.proofs.Ways.{by-template, by-count, by-reference, by-call, rule-row, at-most}
 use Rattle.call_ty.proofs.Lists.{types, types-formed, codes-front}
 use Rattle.call_ty.proofs.by_rule.Statement.{statement}
 use Rattle.call_ty.proofs.by_rule.Tie as tie
@@ -24,7 +24,7 @@ same-length c = search needs
 returns : tie.Need-returns
 returns c = let a = c .before .before .before .before .before .before .before .args in
     let w = a .words .now in
-    gave-as (by-template (a .place .0) w (a .n) (a .rule) (types w (a .tplt .now)) (types w (a .args .now)) (sym (c .before .before .template-right .ensures) ∙ not-true _ (c .before .if1 .taken))) (gave-refused _ _ w (a .n) (c .refused .ensures))
+    gave-as (by-template (a .place .0) w (a .n) (numbered (a .rule)) (types w (a .tplt .now)) (types w (a .args .now)) (sym (c .before .before .template-right .ensures) ∙ not-true _ (c .before .if1 .taken))) (gave-refused _ _ w (a .n) (c .refused .ensures))
 
 operands-of-requires : tie.Need-operands-of-requires
 operands-of-requires c κs = search needs
@@ -39,7 +39,7 @@ returns-2 : tie.Need-returns-2
 returns-2 c = let a = c .before .before .before .before .before .before .before .before .before .args in
     let w = a .words .now in
     gave-as
-    (by-count (a .place .0) w (a .n) (a .rule) (types w (a .tplt .now)) (types w (a .args .now)) (sym (c .before .before .before .before .template-right .ensures) ∙ not-false _ (c .before .before .before .if1 .left))
+    (by-count (a .place .0) w (a .n) (numbered (a .rule)) (types w (a .tplt .now)) (types w (a .args .now)) (sym (c .before .before .before .before .template-right .ensures) ∙ not-false _ (c .before .before .before .if1 .left))
     (λ e. c .before .if2 .taken (sym (length-map (a .args .now) (typeAt w)) ∙ e ∙ sym (c .before .before .operands-of .ensures))))
     (gave-refused _ _ w (a .n) (c .refused2 .ensures))
 
@@ -50,7 +50,7 @@ load-requires : tie.Need-load-requires
 load-requires c κs = let s = c .before .before .before .before .before .before .before .before .before .before in
     let k = c .before .before .if2 .left in
     let q = c .before .before .before .operands-of .ensures in
-    let m = at-most (s .args .rule) (omega arith) in
+    let m = at-most (s .args .rule) in
     (s .pre .0, s .pre .2, omega arith)
 
 refused-requires-3 : tie.Need-refused-requires-3
@@ -63,7 +63,7 @@ returns-3 : tie.Need-returns-3
 returns-3 c = let a = c .before .before .before .before .before .before .before .before .before .before .before .before .before .before .args in
     let w = a .words .now in
     gave-as
-    (by-reference (a .place .0) w (a .n) (a .rule) (types w (a .tplt .now)) (types w (a .args .now)) (sym (c .before .before .before .before .before .before .before .before .before .template-right .ensures) ∙ not-false _ (c .before .before .before .before .before .before .before .before .if1 .left))
+    (by-reference (a .place .0) w (a .n) (numbered (a .rule)) (types w (a .tplt .now)) (types w (a .args .now)) (sym (c .before .before .before .before .before .before .before .before .before .template-right .ensures) ∙ not-false _ (c .before .before .before .before .before .before .before .before .if1 .left))
     (length-map (a .args .now) (typeAt w) ∙ c .before .before .before .before .before .before .if2 .left ∙ c .before .before .before .before .before .before .before .operands-of .ensures) (not-false _ (sym (c .before .before .before .load .ensures .reply) ∙ not-true _ (c .before .if3 .taken))))
     (gave-refused _ _ w (a .n) (c .refused3 .ensures))
 
@@ -80,7 +80,7 @@ part-judge-codes-end : tie.Need-part-judge-codes-end
 part-judge-codes-end c = let s = c .before .before .before .before .before .before .before .before .before .before .before .before .before .before .before .before .before in
     let k = c .before .before .before .before .before .before .before .before .before .if2 .left in
     let q = c .before .before .before .before .before .before .before .before .before .before .operands-of .ensures in
-    let m = at-most (s .args .rule) (omega arith) in
+    let m = at-most (s .args .rule) in
     omega arith
 
 judge-codes-requires : tie.Need-judge-codes-requires
@@ -97,7 +97,7 @@ returns-4 c = let s = c .before .before .before .before .before .before .before 
     gave-as
     (rule-row (a .place .0) w (a .n) (s .pre .0) (a .rule) (a .tplt .now) (a .args .now) (c .before .before .before .before .before .before .before .if4 .taken) (types w (a .args .now)) (types-formed w (a .n) (s .pre .0) (a .args .now) (s .pre .2)) _ (c .before .before .before .before .before .wide .ensures) _
     (codes-front w (a .args .now) _ (c .before .before .before .before .before .before .before .before .before .before .load .ensures .numbers r))
-    ∙ by-call (a .place .0) w (a .n) (a .rule) (types w (a .tplt .now)) (types w (a .args .now)) (sym (c .before .before .before .before .before .before .before .before .before .before .before .before .before .before .before .before .template-right .ensures) ∙ not-false _ (c .before .before .before .before .before .before .before .before .before .before .before .before .before .before .before .if1 .left))
+    ∙ by-call (a .place .0) w (a .n) (numbered (a .rule)) (types w (a .tplt .now)) (types w (a .args .now)) (sym (c .before .before .before .before .before .before .before .before .before .before .before .before .before .before .before .before .template-right .ensures) ∙ not-false _ (c .before .before .before .before .before .before .before .before .before .before .before .before .before .before .before .if1 .left))
     (length-map (a .args .now) (typeAt w) ∙ c .before .before .before .before .before .before .before .before .before .before .before .before .before .if2 .left ∙ c .before .before .before .before .before .before .before .before .before .before .before .before .before .before .operands-of .ensures) (not-true _ (sym (c .before .before .before .before .before .before .before .before .before .before .load .ensures .reply) ∙ r)))
     (c .before .before .judge-codes .ensures)
 
@@ -113,7 +113,7 @@ returns-5 c = let s = c .before .before .before .before .before .before .before 
     let a = s .args in
     let w = a .words .now in
     gave-as
-    (by-call (a .place .0) w (a .n) (a .rule) (types w (a .tplt .now)) (types w (a .args .now)) (sym (c .before .before .before .before .before .before .before .before .before .before .before .template-right .ensures) ∙ not-false _ (c .before .before .before .before .before .before .before .before .before .before .if1 .left))
+    (by-call (a .place .0) w (a .n) (numbered (a .rule)) (types w (a .tplt .now)) (types w (a .args .now)) (sym (c .before .before .before .before .before .before .before .before .before .before .before .template-right .ensures) ∙ not-false _ (c .before .before .before .before .before .before .before .before .before .before .if1 .left))
     (length-map (a .args .now) (typeAt w) ∙ c .before .before .before .before .before .before .before .before .if2 .left ∙ c .before .before .before .before .before .before .before .before .before .operands-of .ensures) (not-true _ (sym (c .before .before .before .before .before .load .ensures .reply) ∙ not-false _ (c .before .before .before .if3 .left))))
     (c .crate-rule .ensures)
 

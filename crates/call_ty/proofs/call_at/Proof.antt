@@ -1,7 +1,8 @@
 -- `call_ty::call_at` meets its contract: the name's rule, or none. Assumes nothing.
 use mathlib.Core.Path.{sym, _∙_, ap}
 use borrow.Author.Needs.{needs}
-use Rattle.names.specs.Names.{Known, said}
+use Rattle.names.specs.Names.{Named}
+use Rattle.names.proofs.Rules.{said-rule, said-unknown}
 use Rattle.ruled.proofs.Outcomes.{gave-as, gave-refused}
 use Rattle.call_ty.specs.Calls.{byRule}
 use Rattle.call_ty.proofs.Ways.{by-unknown}
@@ -28,20 +29,18 @@ same-length : tie.Need-same-length
 same-length c = search needs
 
 returns : tie.Need-returns
-unfolding said
-returns c = let a = c .before .before .before .before .before .before .before .before .before .before .before .before .args in
+returns c = let a = c .before .before .before .before .before .before .before .before .before .before .before .before .before .args in
     let w = a .words .now in
     gave-as
-    (ap (λ (k : Known). byRule (a .place .0) w (a .n) k (types w (a .tplt .now)) (types w (a .args .now))) (ap said (sym (c .before .before .before .before .before .rule .given .1)) ∙ c .before .before .before .before .before .before .before .rule-of .ensures))
+    (ap (λ (k : Named). byRule (a .place .0) w (a .n) k (types w (a .tplt .now)) (types w (a .args .now))) (sym (said-rule (a .name .now) _ (sym (c .before .before .before .before .before .before .before .rule-of .ensures) ∙ c .before .before .before .before .before .rule .given .1))))
     (c .before .before .by-rule .ensures)
 
 returns-2 : tie.Need-returns-2
-unfolding said
-returns-2 c = let a = c .before .before .before .before .before .before .before .before .args in
+returns-2 c = let a = c .before .before .before .before .before .before .before .before .before .args in
     let w = a .words .now in
     gave-as
     (by-unknown (a .place .0) w (a .n) (types w (a .tplt .now)) (types w (a .args .now))
-    ∙ ap (λ (k : Known). byRule (a .place .0) w (a .n) k (types w (a .tplt .now)) (types w (a .args .now))) (ap said (sym (c .before .enum-told .given .1)) ∙ c .before .before .before .rule-of .ensures))
+    ∙ ap (λ (k : Named). byRule (a .place .0) w (a .n) k (types w (a .tplt .now)) (types w (a .args .now))) (sym (said-unknown (a .name .now) (sym (c .before .before .before .rule-of .ensures) ∙ c .before .enum-told .given .1))))
     (gave-refused _ _ w (a .n) (c .refused .ensures))
 
 pub call-at-spec : {M : Type 1} → statement M

@@ -1,6 +1,6 @@
 -- `call_ty::crate_rule` meets its contract: each crate rule is a law of Ways. Assumes nothing.
 use Prim.Native.Nat.{ℕ}
-use mathlib.Core.Path.{_∙_, ap}
+use mathlib.Core.Path.{sym, _∙_, ap}
 use native.Mathlib.Omega.{arith}
 use borrow.Author.Needs.{needs}
 use Rattle.answer.specs.Answer.{accept}
@@ -8,7 +8,7 @@ use Rattle.table.specs.Denote.{typeAt}
 use Rattle.ruled.specs.Call.{judgedOutcome}
 use Rattle.ruled.proofs.Outcomes.{gave-as}
 use Rattle.call_ty.specs.Calls.{judgeLdexp}
-use Rattle.call_ty.proofs.Ways.{gave-accepted, gave-none, template-some, rule-bitcast, rule-length, rule-ldexp, rule-barrier, ldexp-two}
+use Rattle.call_ty.proofs.Ways.{gave-accepted, gave-none, template-some, rule-bitcast, rule-length, rule-ldexp, rule-barrier, count-ldexp}
 use Rattle.call_ty.proofs.crate_rule.Statement.{statement}
 use Rattle.call_ty.proofs.crate_rule.Tie as tie
 
@@ -26,7 +26,7 @@ returns c = let s = c .before .before .before .before .before .before .before in
     let a = s .args in
     gave-as
     (ap (λ (k : ℕ). record { answer = accept k (a .n); words = a .words .now }) (c .before .word .ensures)
-    ∙ rule-bitcast (a .place .0) (a .words .now) (a .n) (s .pre .0) (a .rule) (a .tplt .now) (a .args .now) (s .pre .3) (c .before .before .before .if1 .taken) (s .pre .1) (template-some (a .words .now) (a .rule) (a .tplt .now) (c .before .before .before .if1 .taken) (s .pre .4)))
+    ∙ rule-bitcast (a .place .0) (a .words .now) (a .n) (s .pre .0) (a .rule) (a .tplt .now) (a .args .now) (c .before .before .before .if1 .taken) (s .pre .1) (template-some (a .words .now) (a .rule) (a .tplt .now) (c .before .before .before .if1 .taken) (s .pre .4)))
     (gave-accepted _ (a .words .now) (a .n) (c .accepted .ensures))
 
 accepted-requires-2 : tie.Need-accepted-requires-2
@@ -36,24 +36,24 @@ returns-2 : tie.Need-returns-2
 returns-2 c = let s = c .before .before .before .before .before .before in
     let a = s .args in
     gave-as
-    (rule-length (a .place .0) (a .words .now) (a .n) (s .pre .0) (a .rule) (a .tplt .now) (a .args .now) (s .pre .3) (c .before .before .if1 .left) (c .before .if2 .taken))
+    (rule-length (a .place .0) (a .words .now) (a .n) (s .pre .0) (a .rule) (a .tplt .now) (a .args .now) (c .before .if2 .taken))
     (gave-accepted _ (a .words .now) (a .n) (c .accepted2 .ensures))
 
 shared-slice-read-word-2 : tie.Need-shared-slice-read-word-2
-shared-slice-read-word-2 c = let s = c .before .before .before .before .before .before .before in let k = s .pre .5 ∙ ldexp-two (s .args .rule) (c .before .if3 .taken) in omega arith
+shared-slice-read-word-2 c = let s = c .before .before .before .before .before .before .before in let k = s .pre .5 ∙ sym (count-ldexp (s .args .rule) (c .before .if3 .taken)) in omega arith
 
 word-requires-2 : tie.Need-word-requires-2
 word-requires-2 c κs = search needs
 
 shared-slice-read-word-3 : tie.Need-shared-slice-read-word-3
-shared-slice-read-word-3 c = let s = c .before .before .before .before .before .before .before .before .before in let k = s .pre .5 ∙ ldexp-two (s .args .rule) (c .before .before .before .if3 .taken) in omega arith
+shared-slice-read-word-3 c = let s = c .before .before .before .before .before .before .before .before .before in let k = s .pre .5 ∙ sym (count-ldexp (s .args .rule) (c .before .before .before .if3 .taken)) in omega arith
 
 word-requires-3 : tie.Need-word-requires-3
 word-requires-3 c κs = search needs
 
 ldexp-at-requires : tie.Need-ldexp-at-requires
 ldexp-at-requires c κs = let s = c .before .before .before .before .before .before .before .before .before .before in
-    let k = s .pre .5 ∙ ldexp-two (s .args .rule) (c .before .before .before .before .if3 .taken) in
+    let k = s .pre .5 ∙ sym (count-ldexp (s .args .rule) (c .before .before .before .before .if3 .taken)) in
     let d = c .before .before .word2 .ensures in
     let e = c .word3 .ensures in
     let l = s .pre .2 0 (omega arith) in
@@ -67,7 +67,7 @@ returns-3 c = let s = c .before .before .before .before .before .before .before 
     let e = c .before .word3 .ensures in
     gave-as
     ((λ i. judgedOutcome (a .place .0) (a .words .now) (a .n) (judgeLdexp (typeAt (a .words .now) (d i)) (typeAt (a .words .now) (e i))))
-    ∙ rule-ldexp (a .place .0) (a .words .now) (a .n) (s .pre .0) (a .rule) (a .tplt .now) (a .args .now) (s .pre .3) (c .before .before .before .before .before .before .before .if1 .left) (c .before .before .before .before .before .before .if2 .left) (c .before .before .before .before .before .if3 .taken) (s .pre .5 ∙ ldexp-two (a .rule) (c .before .before .before .before .before .if3 .taken)))
+    ∙ rule-ldexp (a .place .0) (a .words .now) (a .n) (s .pre .0) (a .rule) (a .tplt .now) (a .args .now) (c .before .before .before .before .before .if3 .taken) (s .pre .5 ∙ sym (count-ldexp (a .rule) (c .before .before .before .before .before .if3 .taken))))
     (c .ldexp-at .ensures)
 
 no-value-requires : tie.Need-no-value-requires

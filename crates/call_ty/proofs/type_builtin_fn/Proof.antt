@@ -52,20 +52,27 @@ returns-3 c = let a = c .before .before .before .before .before .before .before 
     (single-operand (a .words .now) (a .n) (a .name .now) (a .tplt .now) (a .args .now) (sym (c .before .before .before .before .before .before .sound .ensures) ∙ not-false _ (c .before .before .before .before .before .if1 .left)) (sym (c .before .before .before .before .all-under .ensures) ∙ not-false _ (c .before .before .before .if2 .left)) (sym (c .before .before .all-under2 .ensures) ∙ not-true _ (c .before .if3 .taken)))
     (gave-refused _ _ (a .words .now) (a .n) (c .refused3 .ensures))
 
+name-table-requires : tie.Need-name-table-requires
+name-table-requires c κs = search needs
+
+slice-aggregate-call-at : tie.Need-slice-aggregate-call-at
+slice-aggregate-call-at c = search needs
+
 call-at-requires : tie.Need-call-at-requires
-call-at-requires c κs = let a = c .before .before .before .before .before .before .before .before .before .before .before .before .args in (
-  sound-of (a .words .now) (a .n) (sym (c .before .before .before .before .before .before .sound .ensures) ∙ not-false _ (c .before .before .before .before .before .if1 .left)),
-  all-under (a .n) (a .tplt .now) (sym (c .before .before .before .before .all-under .ensures) ∙ not-false _ (c .before .before .before .if2 .left)),
-  all-under (a .n) (a .args .now) (sym (c .before .before .all-under2 .ensures) ∙ not-false _ (c .before .if3 .left)),
+call-at-requires c κs = let a = c .before .before .before .before .before .before .before .before .before .before .before .before .before .before .args in (
+  sound-of (a .words .now) (a .n) (sym (c .before .before .before .before .before .before .before .before .sound .ensures) ∙ not-false _ (c .before .before .before .before .before .before .before .if1 .left)),
+  all-under (a .n) (a .tplt .now) (sym (c .before .before .before .before .before .before .all-under .ensures) ∙ not-false _ (c .before .before .before .before .before .if2 .left)),
+  all-under (a .n) (a .args .now) (sym (c .before .before .before .before .all-under2 .ensures) ∙ not-false _ (c .before .before .before .if3 .left)),
+  c .before .before .name-table .ensures,
 )
 
 same-length-4 : tie.Need-same-length-4
 same-length-4 c = search needs
 
 returns-4 : tie.Need-returns-4
-returns-4 c = let a = c .before .before .before .before .before .before .before .before .before .before .before .before .before .before .before .args in
+returns-4 c = let a = c .before .before .before .before .before .before .before .before .before .before .before .before .before .before .before .before .before .args in
     gave-as
-    (single-call (a .words .now) (a .n) (a .name .now) (a .tplt .now) (a .args .now) (sym (c .before .before .before .before .before .before .before .before .before .sound .ensures) ∙ not-false _ (c .before .before .before .before .before .before .before .before .if1 .left)) (sym (c .before .before .before .before .before .before .before .all-under .ensures) ∙ not-false _ (c .before .before .before .before .before .before .if2 .left)) (sym (c .before .before .before .before .before .all-under2 .ensures) ∙ not-false _ (c .before .before .before .before .if3 .left)))
+    (single-call (a .words .now) (a .n) (a .name .now) (a .tplt .now) (a .args .now) (sym (c .before .before .before .before .before .before .before .before .before .before .before .sound .ensures) ∙ not-false _ (c .before .before .before .before .before .before .before .before .before .before .if1 .left)) (sym (c .before .before .before .before .before .before .before .before .before .all-under .ensures) ∙ not-false _ (c .before .before .before .before .before .before .before .before .if2 .left)) (sym (c .before .before .before .before .before .before .before .all-under2 .ensures) ∙ not-false _ (c .before .before .before .before .before .before .if3 .left)))
     (c .before .before .call-at .ensures)
 
 pub type-builtin-fn-spec : {M : Type 1} → statement M
@@ -84,6 +91,8 @@ type-builtin-fn-spec =
     refused-requires-3
     same-length-3
     returns-3
+    name-table-requires
+    slice-aggregate-call-at
     call-at-requires
     same-length-4
     returns-4)

@@ -1,7 +1,8 @@
 -- `memo::asked_call` meets its contract: the rule of the name, on as many operands as the call has. Assumes nothing.
 use Prim.Native.Nat.{ℕ, _+_}
 use Rattle.memo.proofs.Asking.{neither, call-asked}
-use Rattle.names.specs.Names.{said, ruleOf}
+use Rattle.names.specs.Names.{ruleOf}
+use Rattle.names.proofs.Rules.{said-rule}
 use borrow.Author.Tests.{ltb-false}
 use mathlib.Core.Path.{refl, sym, _∙_, ap}
 use mathlib.Core.Logic.{inl}
@@ -42,11 +43,10 @@ enum-told : tie.Need-enum-told
 enum-told c = search needs
 
 returns-3 : tie.Need-returns-3
-unfolding said
-returns-3 c = let a = c .before .before .before .before .before .before .before .before .before .before .before .args in
+returns-3 c = let a = c .before .before .before .before .before .before .before .before .before .before .before .before .args in
     let n = neither _ _ (c .before .before .before .before .before .before .before .before .before .if1 .left) in
     let g = c .before .before .before .before .before .rule .given in
-    let e = ap ruleOf (sym (name-bytes (a .items .now) (a .name) (c .before .before .before .before .before .before .before .before .before .before .before .pre .0) (c .before .before .before .before .before .before .before .before .name-in .ensures .bytes))) ∙ sym (c .before .before .before .before .before .before .before .rule-of .ensures) ∙ ap said (g .1) in
+    let e = ap ruleOf (sym (name-bytes (a .items .now) (a .name) (c .before .before .before .before .before .before .before .before .before .before .before .before .pre .0 .0) (c .before .before .before .before .before .before .before .before .name-in .ensures .bytes))) ∙ said-rule _ _ (sym (c .before .before .before .before .before .before .before .rule-of .ensures) ∙ g .1) in
     call-asked (sheetOf (a .items .now)) (a .name) (a .k) (g .0 .0) (c .before .word64 .result) (c .wide .result) (ltb-false _ _ (n .0)) (ltb-false _ _ (n .1)) (c .before .before .before .if2 .left) e (c .before .word64 .ensures ∙ ap (λ (x : ℕ). 24 + x) (c .before .before .wide32 .ensures)) (c .wide .ensures)
 
 returns-4 : tie.Need-returns-4

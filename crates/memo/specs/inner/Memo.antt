@@ -10,9 +10,8 @@ use Rattle.conv.specs.Types.{Ty}
 use Rattle.table.specs.Denote.{typeAt}
 use Rattle.table.specs.Placing.{Outcome, entering}
 use Rattle.ops_ty.specs.Ops.{unaryOps, binaryOps, unaryOutcome, binaryOutcome}
-use Rattle.names.specs.Names.Known.{known}
-use Rattle.call_ty.specs.Calls.{firstIn, secondIn, byRule}
-use Rattle.call_ty.specs.Codes.{Under}
+use Rattle.call_ty.specs.Calls.{firstIn, secondIn}
+use Rattle.call_ty.specs.inner.Codes.{byNumber, Under}
 use Rattle.step.specs.declared.Did.{Did}
 use Rattle.step.specs.declared.Did.the-variants as did
 
@@ -23,7 +22,7 @@ slots = 256
 abbrev pub nothing : ℕ
 nothing = 256
 
--- what is asked: a binary operator, a unary one, or a builtin by its rule
+-- what is asked: a binary operator, a unary one, or a builtin by the number of its rule
 pub data Question : Type 0 where
   binary : ℕ → Question
   unary : ℕ → Question
@@ -33,19 +32,19 @@ pub data Question : Type 0 where
 abbrev pub codeOf : Question → ℕ
 codeOf (binary op) = op + 1
 codeOf (unary op) = op + 19
-codeOf (builtin rule) = rule + 24
+codeOf (builtin number) = number + 24
 
 -- it is one that the memo may have, on k operands
 abbrev pub On : Question → ℕ → Type 0
 On (binary op) k = (op < binaryOps) × (k ≡ 2)
 On (unary op) k = (op < unaryOps) × (k ≡ 1)
-On (builtin rule) k = (rule < 128) × (1 ≤ k) × (k ≤ 3)
+On (builtin number) k = (number < 128) × (1 ≤ k) × (k ≤ 3)
 
 -- what typing gives, on operands of these types
 abbrev pub typed : ℕ → List ℕ → ℕ → Question → List Ty → Outcome
 typed place w n (binary op) us = binaryOutcome place w n op (firstIn us) (secondIn us)
 typed place w n (unary op) us = unaryOutcome place w n op (firstIn us)
-typed place w n (builtin rule) us = byRule place w n (known rule) [] us
+typed place w n (builtin number) us = byNumber place w n number [] us
 
 -- on operands of these types it gives the type R, whatever the table and the place
 abbrev pub Gives : Question → List Ty → Ty → Type 0

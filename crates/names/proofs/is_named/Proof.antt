@@ -1,59 +1,87 @@
--- `names::is_named` meets its contract: by the lengths, then by the eights as far as the name goes. Assumes nothing.
-use mathlib.Core.Path.{_≡_, refl, sym, _∙_, ap}
-use mathlib.Core.Bool.{Bool, true, false}
-use mathlib.Core.List.{List}
-use Prim.Native.Nat.{ℕ}
-use borrow.Author.Needs.{needs}
-use borrow.Author.Tests.{not-true, not-false}
+-- `names::is_named` meets its contract. The loop's invariant: the letters passed are the same. Assumes nothing.
+use Prim.Native.Nat.{ℕ, _≤_, _<_, _-_}
+use mathlib.Core.Path.{_≡_, sym, _∙_}
 use native.Mathlib.Omega.{arith}
-use lib.ListN.{length}
-use Rattle.names.specs.Names.{nameAt, sameBytes}
-use Rattle.names.specs.Search.{Has, HasEight}
-use Rattle.names.proofs.Bytes.{differ}
-use Rattle.names.proofs.Table.{Eight, first, second, third, has, lacks, agree}
+use lib.ListN.{getD}
+use borrow.Author.Count.{below-more}
+use borrow.Author.Needs.{needs}
+use Rattle.names.specs.Names.{nameAt}
+use Rattle.names.specs.inner.Table.{nameWidth, blank}
+use Rattle.names.proofs.Lines.{rows-length, letter-at}
+use Rattle.names.proofs.Found.{few, row-named, row-other}
 use Rattle.names.proofs.is_named.Statement.{statement}
 use Rattle.names.proofs.is_named.Tie as tie
 
-returns : tie.Need-returns
-returns c = sym (differ _ _ (λ e. c .if1 .taken (c .before .before .before .pre .1 .size ∙ ap length e)))
+abbrev Inv-loop : tie.InvT-loop
+Inv-loop rows row name from i₀ i = (i ≤ nameWidth) × ((k : ℕ) → k < i → getD (nameAt row) k blank ≡ getD name k blank)
 
-has-eight-requires : tie.Need-has-eight-requires
-has-eight-requires c κs = search needs
+abbrev μ-loop : tie.MeasureT-loop
+μ-loop rows row name from i₀ i = nameWidth - i
 
-returns-2 : tie.Need-returns-2
-returns-2 c = sym (lacks _ _ _ _ _ (first _ _ (c .before .before .before .before .before .pre .1)) (not-true _ (c .if2 .taken)) (c .before .has-eight .ensures))
+mul-from : tie.Need-mul-from Inv-loop μ-loop
+mul-from c = let p = c .before .before .pre .1 in let f = few in record { fits = omega arith }
 
-returns-3 : tie.Need-returns-3
-returns-3 c =
-    let p = c .before .before .before .before .before .before .pre in
-    let s = c .if3 .taken in
-    sym (agree _ _ _ (p .0) (p .1) (sym (p .1 .size) ∙ c .before .before .before .if1 .left) (has _ _ _ _ (not-false _ (c .before .if2 .left)) (c .before .before .has-eight .ensures)) (λ h. absurd (omega arith)) (λ h. absurd (omega arith)))
+loop-holds : tie.Need-loop-holds Inv-loop μ-loop
+loop-holds c = (search needs, λ k h. absurd (omega arith))
 
-has-eight-requires-2 : tie.Need-has-eight-requires-2
-has-eight-requires-2 c κs = search needs
+add-if1 : tie.Need-add-if1 Inv-loop μ-loop
+add-if1 c = let p = c .before .before .before .before .pre in let r = p .1 in let k = p .2 in let f = few in record { fits = omega arith }
 
-returns-4 : tie.Need-returns-4
-returns-4 c = sym (lacks _ _ _ _ _ (second _ _ (c .before .before .before .before .before .before .before .before .pre .1)) (not-true _ (c .if4 .taken)) (c .before .has-eight2 .ensures))
+shared-slice-read-if1 : tie.Need-shared-slice-read-if1 Inv-loop μ-loop
+shared-slice-read-if1 c =
+    let s = c .before .before .before .before .before in
+    let p = s .pre .1 in
+    let k = s .pre .2 in
+    let e = rows-length (s .args .rows .now) (s .pre .0) in
+    omega arith
 
-returns-5 : tie.Need-returns-5
-returns-5 c =
-    let p = c .before .before .before .before .before .before .before .before .before .pre in
-    let s = c .if5 .taken in
-    sym (agree _ _ _ (p .0) (p .1) (sym (p .1 .size) ∙ c .before .before .before .before .before .before .if1 .left) (has _ _ _ _ (not-false _ (c .before .before .before .before .if2 .left)) (c .before .before .before .before .before .has-eight .ensures)) (λ h. has _ _ _ _ (not-false _ (c .before .if4 .left)) (c .before .before .has-eight2 .ensures)) (λ h. absurd (omega arith)))
+letter-requires : tie.Need-letter-requires Inv-loop μ-loop
+letter-requires c κs = search needs
 
-has-eight-requires-3 : tie.Need-has-eight-requires-3
-has-eight-requires-3 c κs = search needs
+returns : tie.Need-returns Inv-loop μ-loop
+returns c =
+    let s = c .before .before .before .before .before .before .before in
+    let a = s .args in
+    let i = c .before .before .before .before .loop .i in
+    let l : i < nameWidth = let h = c .before .before .before .loop-test .taken in let k = s .pre .2 in omega arith in
+    sym (row-other (a .row) (a .name .now) i (λ e. c .if1 .taken (letter-at (a .rows .now) (s .pre .0) (a .row) (s .pre .1) i l ∙ e ∙ sym (c .before .letter .ensures))))
 
--- what the last eight says is the answer
-last : (k : ℕ) (b : Bool) (eight from : ℕ) (s : List ℕ) → Eight k eight from → HasEight eight from s b → (Has eight from s → sameBytes (nameAt k) s ≡ true) → b ≡ sameBytes (nameAt k) s
-last k true eight from s w h f = sym (f (has true eight from s refl h))
-last k false eight from s w h f = sym (lacks k false eight from s w refl h)
+add-i : tie.Need-add-i Inv-loop μ-loop
+add-i c = search needs
 
-returns-6 : tie.Need-returns-6
-returns-6 c =
-    let p = c .before .before .before .before .before .before .before .before .before .before .pre in
-    last _ _ _ _ _ (third _ _ (p .1)) (c .has-eight3 .ensures)
-    (λ h. agree _ _ _ (p .0) (p .1) (sym (p .1 .size) ∙ c .before .before .before .before .before .before .before .if1 .left) (has _ _ _ _ (not-false _ (c .before .before .before .before .before .if2 .left)) (c .before .before .before .before .before .before .has-eight .ensures)) (λ l. has _ _ _ _ (not-false _ (c .before .before .if4 .left)) (c .before .before .before .has-eight2 .ensures)) (λ l. h))
+loop-less : tie.Need-loop-less Inv-loop μ-loop
+loop-less c = let k = c .before .before .before .before .before .before .before .pre .2 in search needs
+
+loop-again : tie.Need-loop-again Inv-loop μ-loop
+loop-again c =
+    let s = c .before .before .before .before .before .before .before in
+    let a = s .args in
+    let i = c .before .before .before .before .loop .i in
+    let l : i < nameWidth = let h = c .before .before .before .loop-test .taken in let k = s .pre .2 in omega arith in (
+      search needs,
+      below-more (λ (k : ℕ). getD (nameAt (a .row)) k blank ≡ getD (a .name .now) k blank) i (c .before .before .before .before .loop .inv .1)
+          (sym (letter-at (a .rows .now) (s .pre .0) (a .row) (s .pre .1) i l) ∙ c .if1 .left ∙ c .before .letter .ensures),
+    )
+
+returns-2 : tie.Need-returns-2 Inv-loop μ-loop
+returns-2 c =
+    let s = c .before .before .before .before in
+    let a = s .args in
+    sym (row-named (a .row) (s .pre .1) (a .name .now) (s .pre .2) (s .pre .3) (λ k l. c .before .loop .inv .1 k (omega arith)))
 
 pub is-named-spec : {M : Type 1} → statement M
-is-named-spec = tie.close (tie.spec returns has-eight-requires returns-2 returns-3 has-eight-requires-2 returns-4 returns-5 has-eight-requires-3 returns-6)
+is-named-spec =
+    tie.close
+    (tie.spec
+    Inv-loop
+    μ-loop
+    mul-from
+    loop-holds
+    add-if1
+    shared-slice-read-if1
+    letter-requires
+    returns
+    add-i
+    loop-less
+    loop-again
+    returns-2)

@@ -1,25 +1,20 @@
 -- `names::letter` meets its contract. Assumes nothing.
+use mathlib.Core.Path.{sym}
 use borrow.Author.Needs.{needs}
-use mathlib.Core.Path.{refl}
-use Rattle.names.specs.Search.{letterOf}
+use lib.ListN.{List·getD-eq-default}
+use Rattle.names.specs.inner.Table.{blank}
+use Rattle.names.proofs.Lines.{getD-in}
 use Rattle.names.proofs.letter.Statement.{statement}
 use Rattle.names.proofs.letter.Tie as tie
 
-mul-result : tie.Need-mul-result
-mul-result c = search needs
-
-sub-result : tie.Need-sub-result
-sub-result c = search needs
-
-shr-result : tie.Need-shr-result
-shr-result c = search needs
-
-cast-result : tie.Need-cast-result
-cast-result c = search needs
+shared-slice-read-result : tie.Need-shared-slice-read-result
+shared-slice-read-result c = search needs
 
 returns : tie.Need-returns
-unfolding letterOf
-returns c = refl
+returns c = getD-in (c .before .before .args .name .now) (c .before .before .args .i) 0 blank (c .before .if1 .taken)
+
+returns-2 : tie.Need-returns-2
+returns-2 c = sym (List·getD-eq-default (c .before .args .name .now) blank (c .if1 .left))
 
 pub letter-spec : {M : Type 1} → statement M
-letter-spec = tie.close (tie.spec mul-result sub-result shr-result cast-result returns)
+letter-spec = tie.close (tie.spec shared-slice-read-result returns returns-2)

@@ -1,46 +1,56 @@
--- `names::rule_of` meets its contract: a name that stands at a row has the rule of that row, and the only row where it can stand is that of its slot.
--- Assumes nothing.
-use mathlib.Core.Path.{sym, _∙_, ap}
+-- `names::rule_of` meets its contract: a name that stands at a row has the rule of that row, and a name that stands at none has no rule. Assumes nothing.
+use Prim.Native.Nat.{_<_, _≤_}
+use mathlib.Core.Path.{sym, _∙_, ap, subst}
+use native.Mathlib.Omega.{arith}
 use borrow.Author.Needs.{needs}
-use Rattle.names.specs.Names.{ruleOf, said}
-use Rattle.names.specs.Names.Known.{known}
-use Rattle.names.specs.Search.{rowOfSlot}
-use Rattle.names.proofs.Bytes.{same-bytes}
-use Rattle.names.proofs.Rows.{found}
-use Rattle.names.proofs.Slots.{too-long, no-row, other-name}
+use Rattle.names.specs.Names.{count}
+use Rattle.names.specs.inner.Table.{replied}
+use Rattle.names.specs.declared.RuleNo.the-variants.{Is}
+use Rattle.names.proofs.Lines.{rows-count, number-at}
+use Rattle.names.proofs.Found.{found, missing, too-long, with-blank}
 use Rattle.names.proofs.rule_of.Statement.{statement}
 use Rattle.names.proofs.rule_of.Tie as tie
 
 returns : tie.Need-returns
-unfolding said
-returns c = sym (too-long _ (c .if1 .taken))
+unfolding replied
+returns c = sym (ap replied (too-long _ (c .if1 .taken)))
 
-slot-of-requires : tie.Need-slot-of-requires
-slot-of-requires c κs = search needs
-
-row-of-slot-requires : tie.Need-row-of-slot-requires
-row-of-slot-requires c κs = search needs
+has-blank-requires : tie.Need-has-blank-requires
+has-blank-requires c κs = search needs
 
 returns-2 : tie.Need-returns-2
-unfolding said
-returns-2 c = sym (no-row _ _ (c .before .row-of-slot .ensures ∙ ap rowOfSlot (c .before .before .slot-of .ensures)) (c .if2 .taken))
+unfolding replied
+returns-2 c = sym (ap replied (with-blank _ (sym (c .before .has-blank .ensures) ∙ c .if2 .taken)))
 
-row-at-requires : tie.Need-row-at-requires
-row-at-requires c κs = c .if2 .left
+row-of-requires : tie.Need-row-of-requires
+row-of-requires c κs =
+    let s = c .before .before .before .before .before in
+    (s .pre, c .before .before .if1 .left, sym (c .before .has-blank .ensures) ∙ c .if2 .left, rows-count _ (s .pre))
 
-is-named-requires : tie.Need-is-named-requires
-is-named-requires c κs = (c .before .if2 .left, c .row-at .ensures)
+mul-t8 : tie.Need-mul-t8
+mul-t8 c = search needs
+
+add-t9 : tie.Need-add-t9
+add-t9 c = search needs
+
+shared-slice-read-t11 : tie.Need-shared-slice-read-t11
+shared-slice-read-t11 c = search needs
 
 returns-3 : tie.Need-returns-3
-unfolding said
+unfolding replied
 returns-3 c =
-    let e = same-bytes _ _ (sym (c .before .is-named .ensures) ∙ c .if3 .taken) in
-    ap known (c .before .before .row-at .ensures .rule) ∙ sym (found _ (c .before .before .before .if2 .left)) ∙ ap ruleOf e
+    let s = c .before .before .before .before .before .before .before .before in
+    let row = c .before .before .row-of .result in
+    let l : row < count = let e = rows-count (s .args .rows .now) (s .pre) in let h = c .before .if3 .taken in omega arith in
+    ap Is (number-at (s .args .rows .now) (s .pre) row l) ∙ sym (ap replied (found (s .args .name .now) row l (c .before .before .row-of .ensures .there l)))
 
 returns-4 : tie.Need-returns-4
-unfolding said
+unfolding replied
 returns-4 c =
-    sym (other-name _ _ (c .before .before .before .before .row-of-slot .ensures ∙ ap rowOfSlot (c .before .before .before .before .before .slot-of .ensures)) (sym (c .before .is-named .ensures) ∙ c .if3 .left))
+    let s = c .before .before .before .before .before .before .before in
+    let row = c .before .row-of .result in
+    let l : count ≤ row = let e = rows-count (s .args .rows .now) (s .pre) in let h = c .if3 .left in omega arith in
+    sym (ap replied (missing (s .args .name .now) (c .before .row-of .ensures .nowhere l)))
 
 pub rule-of-spec : {M : Type 1} → statement M
-rule-of-spec = tie.close (tie.spec returns slot-of-requires row-of-slot-requires returns-2 row-at-requires is-named-requires returns-3 returns-4)
+rule-of-spec = tie.close (tie.spec returns has-blank-requires returns-2 row-of-requires mul-t8 add-t9 shared-slice-read-t11 returns-3 returns-4)

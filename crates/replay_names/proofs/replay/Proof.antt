@@ -6,10 +6,13 @@ use Rattle.replay_names.proofs.replay.Statement.{statement}
 use Rattle.replay_names.proofs.replay.Tie as tie
 
 abbrev Inv-loop : tie.InvT-loop
-Inv-loop s tally₀ at₀ tally at = Unit {0}
+Inv-loop s rows tally₀ at₀ tally at = Unit {0}
 
 abbrev μ-loop : tie.MeasureT-loop
-μ-loop s tally₀ at₀ tally at = length s - at
+μ-loop s rows tally₀ at₀ tally at = length s - at
+
+name-table-requires : tie.Need-name-table-requires Inv-loop μ-loop
+name-table-requires c κs = search needs
 
 loop-holds : tie.Need-loop-holds Inv-loop μ-loop
 loop-holds c = search needs
@@ -26,8 +29,11 @@ part-line-start c = search needs
 part-line-end : tie.Need-part-line-end Inv-loop μ-loop
 part-line-end c = search needs
 
+slice-aggregate-judged : tie.Need-slice-aggregate-judged Inv-loop μ-loop
+slice-aggregate-judged c = search needs
+
 judged-requires : tie.Need-judged-requires Inv-loop μ-loop
-judged-requires c κs = search needs
+judged-requires c κs = c .before .before .before .before .before .name-table .ensures
 
 enum-told : tie.Need-enum-told Inv-loop μ-loop
 enum-told c = search needs
@@ -56,11 +62,13 @@ replay-spec =
     (tie.spec
     Inv-loop
     μ-loop
+    name-table-requires
     loop-holds
     line-end-requires
     sub-line
     part-line-start
     part-line-end
+    slice-aggregate-judged
     judged-requires
     enum-told
     write-group-requires

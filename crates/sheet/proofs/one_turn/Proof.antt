@@ -11,7 +11,7 @@ item-in-requires : tie.Need-item-in-requires
 item-in-requires c κs = search needs
 
 noted-step-requires : tie.Need-noted-step-requires
-noted-step-requires c κs = let a = c .before .before .before .before .before .before .before .before .args in (c .before .before .before .before .before .before .before .before .pre .0, rw (c .before .before .before .item-in .ensures) (name-in (a .items .now) (a .at .0)), c .before .before .before .before .before .before .before .before .pre .1)
+noted-step-requires c κs = let a = c .before .before .before .before .before .before .before .before .before .args in (c .before .before .before .before .before .before .before .before .before .pre .0, rw (c .before .before .before .item-in .ensures) (name-in (a .items .now) (a .at .0)), c .before .before .before .before .before .before .before .before .before .pre .1, c .before .before .before .before .before .before .before .before .before .pre .2)
 
 add-turn-by : tie.Need-add-turn-by
 add-turn-by c = search needs
@@ -29,7 +29,7 @@ same-length-3 : tie.Need-same-length-3
 same-length-3 c = search needs
 
 returns : tie.Need-returns
-returns c = let a = c .before .before .before .before .before .before .before .before .before .before .before .before .before .before .before .before .before .args in
+returns c = let a = c .before .before .before .before .before .before .before .before .before .before .before .before .before .before .before .before .before .before .args in
     let d = c .before .before .before .before .before .before .before .before .noted-step in
     let x = c .before .before .before .before .before .before .before .before .before .before .before .before .item-in in
     let s = sheetOf (a .items .now) in

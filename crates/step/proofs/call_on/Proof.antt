@@ -21,12 +21,12 @@ part-call-at-end : tie.Need-part-call-at-end
 part-call-at-end c = search needs
 
 call-at-requires : tie.Need-call-at-requires
-call-at-requires c κs = let a = c .before .before .before .before .before .before .before .args in
-    (c .before .before .before .before .before .before .before .pre .0 .good .sound, c .before .before .before .before .before .before .before .pre .1, args-under (a .at) (a .count) (a .stack .now) (a .used) (a .table .now) (c .before .before .before .before .before .before .before .pre .0) (a .k) (c .before .before .before .before .before .before .before .pre .2))
+call-at-requires c κs = let a = c .before .before .before .before .before .before .before .before .args in
+    (c .before .before .before .before .before .before .before .before .pre .0 .good .sound, c .before .before .before .before .before .before .before .before .pre .1, args-under (a .at) (a .count) (a .stack .now) (a .used) (a .table .now) (c .before .before .before .before .before .before .before .before .pre .0) (a .k) (c .before .before .before .before .before .before .before .before .pre .2), c .before .before .before .before .before .before .before .before .pre .3)
 
 settle-requires : tie.Need-settle-requires
-settle-requires c κs = let a = c .before .before .before .before .before .before .before .before .before .before .before .args in
-    (c .before .before .before .before .before .before .before .before .before .before .before .pre .0 .size, omega (arith, c .before .before .before .before .before .before .before .before .before .before .before .pre .0 .fits), call-pushes (a .at) (a .count) (a .stack .now) (a .used) (a .table .now) (c .before .before .before .before .before .before .before .before .before .before .before .pre .0) (a .k) (c .before .before .before .before .before .before .before .before .before .before .before .pre .2) (a .name .now) (a .tplt .now) (c .before .before .before .before .before .before .before .before .before .before .before .pre .1) (c .before .before .before .call-at .ensures))
+settle-requires c κs = let a = c .before .before .before .before .before .before .before .before .before .before .before .before .args in
+    (c .before .before .before .before .before .before .before .before .before .before .before .before .pre .0 .size, omega (arith, c .before .before .before .before .before .before .before .before .before .before .before .before .pre .0 .fits), call-pushes (a .at) (a .count) (a .stack .now) (a .used) (a .table .now) (c .before .before .before .before .before .before .before .before .before .before .before .before .pre .0) (a .k) (c .before .before .before .before .before .before .before .before .before .before .before .before .pre .2) (a .name .now) (a .tplt .now) (c .before .before .before .before .before .before .before .before .before .before .before .before .pre .1) (c .before .before .before .call-at .ensures))
 
 same-length : tie.Need-same-length
 same-length c = search needs
@@ -35,8 +35,8 @@ same-length-2 : tie.Need-same-length-2
 same-length-2 c = search needs
 
 returns : tie.Need-returns
-returns c = let a = c .before .before .before .before .before .before .before .before .before .before .before .before .before .before .args in
-    call-does (a .at) (a .count) (a .stack .now) (a .used) (a .table .now) (c .before .before .before .before .before .before .before .before .before .before .before .before .before .before .pre .0) (a .k) (c .before .before .before .before .before .before .before .before .before .before .before .before .before .before .pre .2) (a .name .now) (a .tplt .now) (c .before .before .before .before .before .before .before .before .before .before .before .before .before .before .pre .1) (c .before .before .before .before .before .before .call-at .ensures) (c .before .before .settle .ensures)
+returns c = let a = c .before .before .before .before .before .before .before .before .before .before .before .before .before .before .before .args in
+    call-does (a .at) (a .count) (a .stack .now) (a .used) (a .table .now) (c .before .before .before .before .before .before .before .before .before .before .before .before .before .before .before .pre .0) (a .k) (c .before .before .before .before .before .before .before .before .before .before .before .before .before .before .before .pre .2) (a .name .now) (a .tplt .now) (c .before .before .before .before .before .before .before .before .before .before .before .before .before .before .before .pre .1) (c .before .before .before .before .before .before .call-at .ensures) (c .before .before .settle .ensures)
 
 pub call-on-spec : {M : Type 1} → statement M
 call-on-spec =

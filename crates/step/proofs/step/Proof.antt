@@ -30,13 +30,13 @@ enum-known-item-4 : tie.Need-enum-known-item-4
 enum-known-item-4 c = search needs
 
 call-requires : tie.Need-call-requires
-call-requires c κs = (c .before .before .before .before .before .before .before .before .pre .0, rw (c .before .before .before .item4 .given .1) at (c .before .before .before .before .before .before .before .before .pre .1))
+call-requires c κs = (c .before .before .before .before .before .before .before .before .before .pre .0, rw (c .before .before .before .item4 .given .1) at (c .before .before .before .before .before .before .before .before .before .pre .1), c .before .before .before .before .before .before .before .before .before .pre .2)
 
 enum-known-item-5 : tie.Need-enum-known-item-5
 enum-known-item-5 c = search needs
 
 call-template-requires : tie.Need-call-template-requires
-call-template-requires c κs = (c .before .before .before .before .before .before .before .before .pre .0, rw (c .before .before .before .item5 .given .1) at (c .before .before .before .before .before .before .before .before .pre .1))
+call-template-requires c κs = (c .before .before .before .before .before .before .before .before .before .pre .0, rw (c .before .before .before .item5 .given .1) at (c .before .before .before .before .before .before .before .before .before .pre .1), c .before .before .before .before .before .before .before .before .before .pre .2)
 
 enum-known-item-6 : tie.Need-enum-known-item-6
 enum-known-item-6 c = search needs
@@ -118,11 +118,11 @@ returns-6 c = rw (c .before .before .before .before .before .before .before .bef
 
 returns-7 : tie.Need-returns-7
 unfolding effectOf effectBy Counted
-returns-7 c = rw (c .enum-told .given .1) (record { effect = refl; counted = c .before .before .before .before .before .pre .0 .fits })
+returns-7 c = rw (c .enum-told .given .1) (record { effect = refl; counted = c .before .before .before .before .before .before .pre .0 .fits })
 
 returns-8 : tie.Need-returns-8
 unfolding effectOf
-returns-8 c = let a = c .before .before .before .before .before .before .args in rw (c .before .enum-told2 .given .1) (refusing (a .at) (a .count) (a .stack .now) (a .used) (a .table .now) Framing (c .stopped .ensures) refl)
+returns-8 c = let a = c .before .before .before .before .before .before .before .args in rw (c .before .enum-told2 .given .1) (refusing (a .at) (a .count) (a .stack .now) (a .used) (a .table .now) Framing (c .stopped .ensures) refl)
 
 pub step-spec : {M : Type 1} → statement M
 step-spec =

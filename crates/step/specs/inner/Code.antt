@@ -14,7 +14,7 @@ use Rattle.answer.specs.declared.Answer.the-variants.{Value, NoValue, Refused}
 use Rattle.table.specs.Placing.{Outcome}
 use Rattle.ops_ty.specs.Ops.{unaryOutcome, binaryOutcome}
 use Rattle.call_ty.specs.Calls.{firstIn, secondIn}
-use Rattle.call_ty.specs.Codes.{Under}
+use Rattle.call_ty.specs.inner.Codes.{Under}
 use Rattle.step.specs.declared.Did.{Did}
 use Rattle.step.specs.declared.Did.the-variants as did
 use Rattle.step.specs.Effect.{most, State, Effect, goes, silent, ends, stops, onto, unaryEffect, binaryEffect}

@@ -9,7 +9,14 @@ use lib.ListN.{length, getD, take}
 use Rattle.conv.specs.Types.{Ty, abstractInt, i32, isFloat, isAbstract}
 use Rattle.overload.specs.inner.Code.{codeOf}
 use Rattle.ruled.specs.Call.{anyReference}
-use Rattle.call_ty.specs.Calls.{isNumeric}
+use Rattle.names.specs.Names.Named.{rule}
+use Rattle.names.specs.inner.Table.{numbered}
+use Rattle.table.specs.Placing.{Outcome}
+use Rattle.call_ty.specs.Calls.{isNumeric, byRule}
+
+-- a call by the number of its rule
+abbrev pub byNumber : ℕ → List ℕ → ℕ → ℕ → List Ty → List Ty → Outcome
+byNumber place w n k ts us = byRule place w n (rule (numbered k)) ts us
 
 -- every number of the list is below n
 abbrev pub Under : ℕ → List ℕ → Type 0

@@ -1,0 +1,133 @@
+-- The rules that names have: each is the rule of its number, and a row among them is known by its own. Computed of every name. Assumes nothing.
+use Prim.Native.Nat.{ℕ, _<_, _≤_}
+use native.Mathlib.Omega.{arith}
+use mathlib.Core.Path.{_≡_, refl, sym, _∙_, ap, subst}
+use mathlib.Core.Bool.{Bool, true, false, cond}
+use mathlib.Core.List.{List, [], _∷_, map}
+use lib.Dec.{eqb, ltb}
+use lib.ListN.{length, List·getD-eq-default}
+use borrow.Author.Tests.{lt-ltb, le-ltb, eq-eqb, ne-eqb, ltb-true, ltb-false}
+use Rattle.overload.specs.Rows.{Row, rows, noRow, rowAt, Ruling, Known}
+use Rattle.overload.specs.Rows.Ruling.{byRow, address, indirection}
+use Rattle.overload.proofs.Rulings.{row-known}
+use Rattle.names.specs.Names.{Rule, Name, names, sameBytes, Named, ruleIn, ruleOf}
+use Rattle.names.specs.Names.Rule.{ruling, bitcast, arrayLength, ldexp, barrier}
+use Rattle.names.specs.Names.Named.{rule, unknown}
+use Rattle.names.specs.inner.Table.{rulingNumber, ruleNumber, numbered, replied}
+use Rattle.names.specs.declared.RuleNo.the-variants.{Is, Unknown}
+
+-- what changes no rule of a list changes none that a name has there
+abbrev Fixes : (Rule → Rule) → List Name → Type 0
+Fixes f rs = map (λ (r : Name). f (r .rule)) rs ≡ map (λ (r : Name). r .rule) rs
+
+fixed : (f : Rule → Rule) (rs : List Name) → Fixes f rs → (s : List ℕ) (R : Rule) → ruleIn rs s ≡ rule R → f R ≡ R
+unfolding ruleIn
+fixed f [] h s R e = absurd (let z : _≡_ {A = ℕ} 0 1 = cc in omega arith)
+fixed f (r ∷ rs) h s R e = go (sameBytes (r .text) s) e (fixed f rs (cc) s R)
+  where
+    head : f (r .rule) ≡ r .rule
+    head = cc
+
+    go : (b : Bool) → cond b (rule (r .rule)) (ruleIn rs s) ≡ rule R → (ruleIn rs s ≡ rule R → f R ≡ R) → f R ≡ R
+    go true q later = let p : r .rule ≡ R = cc in rw p at head
+    go false q later = later q
+
+-- a rule that a name has is the one of its number
+pub rule-numbered : (s : List ℕ) (R : Rule) → ruleOf s ≡ rule R → numbered (ruleNumber R) ≡ R
+unfolding names rulingNumber ruleNumber numbered rows rowAt
+rule-numbered s R e = fixed (λ (R : Rule). numbered (ruleNumber R)) names refl s R e
+
+-- WHAT A REPLY SAYS of a name
+
+impossible : {P : Type 0} → _≡_ {A = ℕ} 0 1 → P
+impossible z = absurd (omega arith)
+
+module _ (s : List ℕ) where
+  pub said-rule : (k : ℕ) → replied (ruleOf s) ≡ Is k → ruleOf s ≡ rule (numbered k)
+  unfolding replied
+  said-rule k e = go (ruleOf s) refl e
+    where
+      go : (a : Named) → ruleOf s ≡ a → replied a ≡ Is k → ruleOf s ≡ rule (numbered k)
+      go (rule R) p q = let i : ruleNumber R ≡ k = cc in p ∙ ap rule (sym (rule-numbered s R p) ∙ ap numbered i)
+      go unknown p q = impossible (cc)
+
+  pub said-unknown : replied (ruleOf s) ≡ Unknown → ruleOf s ≡ unknown
+  unfolding replied
+  said-unknown e = go (ruleOf s) refl e
+    where
+      go : (a : Named) → ruleOf s ≡ a → replied a ≡ Unknown → ruleOf s ≡ unknown
+      go (rule R) p q = impossible (cc)
+      go unknown p q = p
+
+-- a number by the tests that lead to its rule
+
+module _ (k : ℕ) where
+  pub numbered-row : k < 100 → numbered k ≡ ruling (byRow (rowAt k))
+  unfolding numbered
+  numbered-row h = rw (lt-ltb k 100 h)
+
+  pub numbered-bitcast : k ≡ 100 → numbered k ≡ bitcast
+  unfolding numbered
+  numbered-bitcast h = rw (le-ltb k 100 (omega arith), eq-eqb k 100 h)
+
+  pub numbered-length : k ≡ 101 → numbered k ≡ arrayLength
+  unfolding numbered
+  numbered-length h = rw (le-ltb k 100 (omega arith), ne-eqb k 100 (λ e. omega arith), eq-eqb k 101 h)
+
+  pub numbered-ldexp : k ≡ 102 → numbered k ≡ ldexp
+  unfolding numbered
+  numbered-ldexp h = rw (le-ltb k 100 (omega arith), ne-eqb k 100 (λ e. omega arith), ne-eqb k 101 (λ e. omega arith), eq-eqb k 102 h)
+
+  pub numbered-barrier : 103 ≤ k → numbered k ≡ barrier
+  unfolding numbered
+  numbered-barrier h =
+      rw (le-ltb k 100 (omega arith), ne-eqb k 100 (λ e. omega arith), ne-eqb k 101 (λ e. omega arith), ne-eqb k 102 (λ e. omega arith))
+
+-- and a ruling among them is known
+
+again : Rule → Rule
+again (ruling (byRow r)) = ruling (byRow (rowAt (r .number)))
+again (ruling address) = ruling address
+again (ruling indirection) = ruling indirection
+again bitcast = bitcast
+again arrayLength = arrayLength
+again ldexp = ldexp
+again barrier = barrier
+
+name-again : (s : List ℕ) (R : Rule) → ruleOf s ≡ rule R → again R ≡ R
+unfolding names again rows rowAt
+name-again s R e = fixed again names refl s R e
+
+pub ruling-known : (s : List ℕ) (r : Ruling) → ruleOf s ≡ rule (ruling r) → Known r
+unfolding again Known
+ruling-known s (byRow r) e = let p : ruling (byRow (rowAt (r .number))) ≡ ruling (byRow r) = name-again s (ruling (byRow r)) e in cc
+ruling-known s address e = tt
+ruling-known s indirection e = tt
+
+-- so is a ruling that a number has
+
+none : (k : ℕ) → length rows ≤ k → rowAt k ≡ noRow
+unfolding rowAt
+none k h = List·getD-eq-default rows noRow h
+
+no-row : Known (byRow noRow)
+unfolding Known rows rowAt
+no-row = refl
+
+row-number : (k : ℕ) → Known (byRow (rowAt k))
+row-number k = go (ltb k (length rows)) refl
+  where
+    go : (b : Bool) → ltb k (length rows) ≡ b → Known (byRow (rowAt k))
+    go true e = row-known k (ltb-true k (length rows) e)
+    go false e = subst (λ (r : Row). Known (byRow r)) (sym (none k (ltb-false k (length rows) e))) no-row
+
+pub number-known : (k : ℕ) (r : Ruling) → numbered k ≡ ruling r → Known r
+unfolding numbered
+number-known k r e = go (ltb k 100) (eqb k 100) (eqb k 101) (eqb k 102) e
+  where
+    go : (a b c d : Bool) → cond a (ruling (byRow (rowAt k))) (cond b bitcast (cond c arrayLength (cond d ldexp barrier))) ≡ ruling r → Known r
+    go true b c d q = let p : byRow (rowAt k) ≡ r = cc in subst Known p (row-number k)
+    go false true c d q = impossible (cc)
+    go false false true d q = impossible (cc)
+    go false false false true q = impossible (cc)
+    go false false false false q = impossible (cc)

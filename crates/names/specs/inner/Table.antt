@@ -1,0 +1,77 @@
+-- What the code's constant holds: a line for each name. The promise of a call is read without it. Assumes nothing.
+use Prim.Native.Nat.{ℕ, zero, suc, _≤_, _<_}
+use mathlib.Core.Path.{_≡_}
+use mathlib.Core.Bool.{Bool, false, _||_, cond}
+use mathlib.Core.List.{List, [], _∷_, _++_}
+use lib.Dec.{eqb, ltb}
+use Rattle.overload.specs.Rows.{Ruling, rowAt}
+use Rattle.overload.specs.Rows.Ruling.{byRow, address, indirection}
+use Rattle.names.specs.Names.{Rule, Name, names, count, nameAt, Named}
+use Rattle.names.specs.Names.Rule.{ruling, bitcast, arrayLength, ldexp, barrier}
+use Rattle.names.specs.Names.Named.{rule, unknown}
+use Rattle.names.specs.declared.RuleNo.{RuleNo}
+use Rattle.names.specs.declared.RuleNo.the-variants.{Is, Unknown}
+
+-- THE NUMBER OF A RULE, a byte, which a name put in later does not move: of a row its own, below 100; no name has the rulings of unary `&` and `*`
+
+unfoldable pub rulingNumber : Ruling → ℕ
+rulingNumber (byRow r) = r .number
+rulingNumber address = 255
+rulingNumber indirection = 255
+
+unfoldable pub ruleNumber : Rule → ℕ
+ruleNumber (ruling r) = rulingNumber r
+ruleNumber bitcast = 100
+ruleNumber arrayLength = 101
+ruleNumber ldexp = 102
+ruleNumber barrier = 103
+
+-- and the rule of a number
+unfoldable pub numbered : ℕ → Rule
+numbered k =
+    cond (ltb k 100) (ruling (byRow (rowAt k)))
+    (cond (eqb k 100) bitcast
+    (cond (eqb k 101) arrayLength
+    (cond (eqb k 102) ldexp barrier)))
+
+-- a reply: the number of the rule that a name has
+unfoldable pub replied : Named → RuleNo
+replied (rule r) = Is (ruleNumber r)
+replied unknown = Unknown
+
+-- A LINE: 32 letters, the name filled up with blanks; then the number of its rule
+
+abbrev pub nameWidth : ℕ
+nameWidth = 32
+
+abbrev pub lineWidth : ℕ
+lineWidth = 33
+
+abbrev pub blank : ℕ
+blank = 32
+
+unfoldable pub filled : ℕ → List ℕ → List ℕ
+filled zero s = []
+filled (suc k) [] = blank ∷ filled k []
+filled (suc k) (c ∷ cs) = c ∷ filled k cs
+
+unfoldable pub line : Name → List ℕ
+line r = filled nameWidth (r .text) ++ (ruleNumber (r .rule) ∷ [])
+
+unfoldable pub linesOf : List Name → List ℕ
+linesOf [] = []
+linesOf (r ∷ rs) = line r ++ linesOf rs
+
+-- THE TABLE, as it is lent
+unfoldable pub nameTable : List ℕ
+nameTable = linesOf names
+
+-- a name with a blank in it is none of them
+unfoldable pub hasBlank : List ℕ → Bool
+hasBlank [] = false
+hasBlank (c ∷ cs) = eqb c blank || hasBlank cs
+
+-- where a name stands: at the row that has it, or past the last where none has
+pub record StandsAt (s : List ℕ) (r : ℕ) : Type 0 where
+  pub there : r < count → nameAt r ≡ s
+  pub nowhere : count ≤ r → (k : ℕ) → k < count → nameAt k ≡ s → ⊥
