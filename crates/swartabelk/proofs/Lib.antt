@@ -4,3 +4,4 @@ pub mod Fitting
 pub mod Sheets
 pub mod Short
 pub mod OneReply
+pub mod Sixteen
