@@ -3,3 +3,4 @@ pub mod Ways
 pub mod Demand1
 pub mod Demand3
 pub mod OneReply
+pub mod Sixteen
