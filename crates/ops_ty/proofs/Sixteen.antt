@@ -8,10 +8,11 @@ use Rattle.conv.specs.Rank as ranks
 use Rattle.answer.specs.Answer.{accept, refuse}
 use Rattle.answer.specs.declared.Reason.the-variants.{NoOverload}
 use Rattle.table.specs.Tools.{allBelow}
-use Rattle.table.specs.Table.{chainBy, chain, entryOk, findIn, soundb}
+use Rattle.table.specs.Table.{rowOk, chainBy, chain, baseOf, madeOk, entryOk, findIn, soundb}
+use Rattle.table.specs.Denote as denote
 use Rattle.table.specs.Denote.{typeAt}
 use Rattle.table.specs.Enter.{free}
-use Rattle.table.specs.Placing.{placed, entering}
+use Rattle.table.specs.Placing.{standsIn, over, placed, entering}
 use Rattle.overload.specs.Overload.{or, fits, noMore, less, sameTys, allYield, isPreferred, anyFits, chosen, judge}
 use Rattle.overload.specs.Rows.{formAt, componentAt, wrapped, overSecond, atSizes, overSet, ofFamilies, judgeBy}
 use Rattle.ruled.specs.Call.{anyReference, judgedOutcome, takesReference, ruledOutcome}
@@ -56,7 +57,7 @@ pub record Ten : Type 0 where
   pub bitOr : Gives 13 1 4 4
 
 pub ten : Ten
-unfolding both or rankOf shapeOf componentOf tagOf firstOf secondOf elementOf sameTy conversionRank ranks.made allBelow chainBy chain entryOk findIn soundb typeAt free placed entering fits noMore less sameTys allYield isPreferred anyFits chosen judge formAt componentAt wrapped overSecond atSizes overSet ofFamilies judgeBy anyReference judgedOutcome takesReference ruledOutcome binaryRow binaryOutcome typeBinaryOp
+unfolding both or rankOf shapeOf componentOf tagOf firstOf secondOf elementOf sameTy conversionRank ranks.made allBelow rowOk chainBy chain baseOf madeOk entryOk findIn soundb denote.made denote.kindOf denote.pOf denote.qOf typeAt free standsIn over placed entering fits noMore less sameTys allYield isPreferred anyFits chosen judge formAt componentAt wrapped overSecond atSizes overSet ofFamilies judgeBy anyReference judgedOutcome takesReference ruledOutcome binaryRow binaryOutcome typeBinaryOp
 ten =
     record {
       sum = refl;
