@@ -7,11 +7,11 @@ use table::Reason;
 use table::TypeNo;
 ghost use mathlib.Core.Path.{_≡_};
 ghost use Prim.Native.Nat.{_<_};
-ghost use Rattle.overload.specs.Rows.{judgeAddress, judgeIndirection};
 ghost use Rattle.table.specs.Table.{Sound};
 ghost use Rattle.table.specs.Denote.{typeAt};
 ghost use Rattle.table.specs.Placing.{Gave};
 ghost use Rattle.ruled.specs.Call.{judgedOutcome};
+ghost use Rattle.ops_ty.specs.inner.Turn.{Turns, judgeFrom};
 ghost use Rattle.ops_ty.specs.Ops.{binaryRow, unaryOutcome, binaryOutcome, typeUnaryOp, typeBinaryOp};
 
 // Unary operators: `!` `-` `~` are rows 0 to 2 of the overloads, then `&` and `*`.
@@ -39,13 +39,13 @@ fn binary_row(op: usize) -> usize
     row_byte(op) as usize
 }
 
-// `op_ref`: from a reference, not in space handle, the pointer.
-fn type_ref(words: &mut [u32], n: usize, place: Place, a: usize) -> Answer
-    requires { ⌜ Sound (now words) n × (a < n) ⌝ }
-    ensures { λ r. ⌜ Gave (judgedOutcome (place .0) (now (words .entry)) n (judgeAddress (typeAt (now (words .entry)) a))) r (now (words .exit)) ⌝ }
+// `op_ref` and `op_deref`: from a type of the one kind that of the other. No reference in space handle has a pointer; no pointer is in that space.
+fn type_turned(words: &mut [u32], n: usize, place: Place, a: usize, from: u32, to: u32) -> Answer
+    requires { ⌜ Sound (now words) n × (a < n) × Turns from to ⌝ }
+    ensures { λ r. ⌜ Gave (judgedOutcome (place .0) (now (words .entry)) n (judgeFrom from (typeAt (now (words .entry)) a))) r (now (words .exit)) ⌝ }
 {
     let e = table::entry_at(words, a);
-    if e.kind != table::KIND_REF {
+    if e.kind != from {
         return table::refused(Reason::NoOverload, place, n);
     }
     if e.p == table::SPACE_HANDLE {
@@ -55,29 +55,7 @@ fn type_ref(words: &mut [u32], n: usize, place: Place, a: usize) -> Answer
         words,
         n,
         Entry {
-            kind: table::KIND_PTR,
-            p: e.p,
-            q: e.q,
-            elem: e.elem,
-        },
-    );
-    entering::answer_of(place, n, r)
-}
-
-// `op_deref`: from a pointer the reference.
-fn type_deref(words: &mut [u32], n: usize, place: Place, a: usize) -> Answer
-    requires { ⌜ Sound (now words) n × (a < n) ⌝ }
-    ensures { λ r. ⌜ Gave (judgedOutcome (place .0) (now (words .entry)) n (judgeIndirection (typeAt (now (words .entry)) a))) r (now (words .exit)) ⌝ }
-{
-    let e = table::entry_at(words, a);
-    if e.kind != table::KIND_PTR {
-        return table::refused(Reason::NoOverload, place, n);
-    }
-    let r = entering::enter(
-        words,
-        n,
-        Entry {
-            kind: table::KIND_REF,
+            kind: to,
             p: e.p,
             q: e.q,
             elem: e.elem,
@@ -96,14 +74,14 @@ pub fn unary_at(words: &mut [u32], n: usize, place: Place, op: usize, a: TypeNo)
         return table::refused(Reason::Unknown, place, n);
     }
     if op == ADDRESS_OF {
-        return type_ref(words, n, place, t);
+        return type_turned(words, n, place, t, table::KIND_REF, table::KIND_PTR);
     }
     let x = ruled::code_at(words, n, t);
     if x == REFERENCE {
         return table::refused(Reason::Reference, place, n);
     }
     if op == INDIRECTION {
-        return type_deref(words, n, place, t);
+        return type_turned(words, n, place, t, table::KIND_PTR, table::KIND_REF);
     }
     let codes = [x];
     ruled::judge_codes(words, n, place, op, &codes)

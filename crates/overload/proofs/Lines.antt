@@ -5,13 +5,13 @@ use native.Mathlib.Nat.{not-suc-le-zero}
 use mathlib.Core.Path.{_≡_, refl, sym, _∙_, ap, subst}
 use mathlib.Core.Bool.{Bool}
 use mathlib.Core.List.{List, []}
-use lib.Dec.{T, eqb, ltb, eqb→eq, lt→ltb}
+use lib.Dec.{T, eqb, ltb, eqb→eq, ltb→lt, lt→ltb}
 use lib.ListN.{length, getD, List·getD-eq-default}
-use Rattle.conv.specs.Rank.{pick}
-use Rattle.conv.proofs.Finite.{implies, modus, same, same-eq, all, below, below₂}
+use Rattle.conv.specs.Rank.{both}
+use Rattle.conv.proofs.Finite.{both-left, both-right, implies, modus, same, same-eq, all, below, below₂}
 use Rattle.overload.specs.Rows.{Size, Family, Row, rows, rowAt, noRow, operandCount}
 use Rattle.overload.specs.inner.Code as code
-use Rattle.overload.specs.inner.Code.{noFamily, familyOf, families, startOf, placeOf, stopOf, encode, askedOf, entry, has, member, sets, setOf, sizeLists, sizesOf, memSize, sizeOfNo, slotT, RowLine, Word, Starts, Sizes, Scalars, Reached}
+use Rattle.overload.specs.inner.Code.{noFamily, familyOf, families, startOf, placeOf, stopOf, encode, askedOf, entry, bit, has, member, sets, setOf, sizeLists, sizesOf, memSize, sizeOfNo, slotT, RowLine, Word, Starts, Sizes, Scalars, Reached}
 use Rattle.overload.proofs.Listing.{row-family}
 
 -- a line whose entries pass the test has them
@@ -65,23 +65,27 @@ starts-line k {w} t e =
       start = λ i h a. eqb→eq _ _ (modus _ _ (below 7 (λ i. implies (ltb (askedOf i k) 13) (eqb (entry 8 w i) (7 * askedOf i k))) t i h) (lt→ltb (askedOf i k) 13 a));
     })
 
-sizes-of : (zs : List Size) {w k : ℕ} → T (all 41 (λ n. same (has w n) (memSize (sizeOfNo n) zs))) → sizesOf k ≡ zs → Sizes k w
+sizes-of : (zs : List Size) {w k : ℕ} → T (all 41 (λ n. same (bit w n) (memSize (sizeOfNo n) zs))) → sizesOf k ≡ zs → Sizes k w
 sizes-of zs {w} t e =
-    record { within = λ n h. same-eq _ _ (below 41 (λ n. same (has w n) (memSize (sizeOfNo n) zs)) t n h) ∙ ap (memSize (sizeOfNo n)) (sym e) }
+    record { within = λ n h. same-eq _ _ (below 41 (λ n. same (bit w n) (memSize (sizeOfNo n) zs)) t n h) ∙ ap (memSize (sizeOfNo n)) (sym e) }
 
-pub sizes-line : (k : ℕ) {w l : ℕ} → T (all 41 (λ n. same (has w n) (memSize (sizeOfNo n) (sizesOf k)))) → l ≡ k → Sizes l w
+pub sizes-line : (k : ℕ) {w l : ℕ} → T (all 41 (λ n. same (bit w n) (memSize (sizeOfNo n) (sizesOf k)))) → l ≡ k → Sizes l w
 sizes-line k t e = sizes-of (sizesOf k) t (ap sizesOf e)
 
-pub no-sizes-line : {w l : ℕ} → T (all 41 (λ n. same (has w n) (memSize (sizeOfNo n) []))) → length sizeLists ≤ l → Sizes l w
+pub no-sizes-line : {w l : ℕ} → T (all 41 (λ n. same (bit w n) (memSize (sizeOfNo n) []))) → length sizeLists ≤ l → Sizes l w
 no-sizes-line t h = sizes-of [] t (List·getD-eq-default sizeLists [] h)
 
-set-of : (us : List ℕ) {w k : ℕ} → T (all 7 (λ s. same (has w s) (member s us))) → setOf k ≡ us → Scalars k w
-set-of us {w} t e = record { within = λ s h. same-eq _ _ (below 7 (λ s. same (has w s) (member s us)) t s h) ∙ ap (member s) (sym e) }
+set-of : (us : List ℕ) {w k : ℕ} → T (both (ltb w 128) (all 7 (λ s. same (has w s) (member s us)))) → setOf k ≡ us → Scalars k w
+set-of us {w} t e =
+    record {
+      small = ltb→lt w 128 (both-left _ _ t);
+      within = λ s h. same-eq _ _ (below 7 (λ s. same (has w s) (member s us)) (both-right (ltb w 128) _ t) s h) ∙ ap (member s) (sym e);
+    }
 
-pub set-line : (k : ℕ) {w l : ℕ} → T (all 7 (λ s. same (has w s) (member s (setOf k)))) → l ≡ k → Scalars l w
+pub set-line : (k : ℕ) {w l : ℕ} → T (both (ltb w 128) (all 7 (λ s. same (has w s) (member s (setOf k))))) → l ≡ k → Scalars l w
 set-line k t e = set-of (setOf k) t (ap setOf e)
 
-pub no-set-line : {w l : ℕ} → T (all 7 (λ s. same (has w s) (member s []))) → length sets ≤ l → Scalars l w
+pub no-set-line : {w l : ℕ} → T (both (ltb w 128) (all 7 (λ s. same (has w s) (member s [])))) → length sets ≤ l → Scalars l w
 no-set-line t h = set-of [] t (List·getD-eq-default sets [] h)
 
 pub reached-line : (k : ℕ) {w of : ℕ} → T (all 7 (λ s. all 7 (λ t. same (has (entry 8 w s) t) (slotT k s t)))) → of ≡ k → Reached of w

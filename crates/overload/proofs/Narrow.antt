@@ -22,7 +22,7 @@ use Rattle.overload.proofs.Preference.{Sized, fine}
 use Rattle.overload.proofs.Families.{Good, good, Fair, every, mem-size}
 use Rattle.overload.proofs.Fitting.{fine-at}
 use Rattle.overload.proofs.Sets.{has-and, has-none, has-all}
-use Rattle.overload.proofs.Slots.{form-back, form-below, component-back, component-below, form-digit, component-digit, slot-no, slot-sets, allows-all, allows-none}
+use Rattle.overload.proofs.Slots.{form-back, form-below, component-back, component-below, form-digit, component-digit, slot-no, slot-sets, slot-T-is, slot-I-any, allows-all, allows-none}
 
 -- do the operands from k on fit the parameters from k on?
 abbrev pub restAt : ℕ → ℕ → ℕ → ℕ → List ℕ → ℕ → Bool
@@ -44,28 +44,34 @@ pub record Narrowed (f n : ℕ) (xs : List ℕ) (j m v k : ℕ) : Type 0 where
   pub join : j < 8
   pub rest : (t i : ℕ) → t < 7 → i < 7 → both (allows j t) (both (has m t) (both (has v i) (restAt f n t i xs k))) ≡ fitsAt (familyOf f) n t i xs
 
+pub narrowed-as : {f n : ℕ} {xs : List ℕ} {j j′ m m′ v v′ k : ℕ} → j ≡ j′ → m ≡ m′ → v ≡ v′ → Narrowed f n xs j′ m′ v′ k → Narrowed f n xs j m v k
+narrowed-as {f} {n} {xs} {j} {j′} {m} {m′} {v} {v′} {k} a b c g =
+    subst (λ (x : ℕ). Narrowed f n xs x m v k) (sym a) (subst (λ (x : ℕ). Narrowed f n xs j′ x v k) (sym b) (subst (λ (x : ℕ). Narrowed f n xs j′ m′ x k) (sym c) g))
+
 every-shape : (z : Size) (ps : List Pattern) → T (every (λ p. ltb (shapeNo (formAt (p .form) z)) 13) ps) → (k : ℕ) → k < length ps → shapeNo (formAt (getD ps k N .form) z) < 13
 unfolding every
 every-shape z [] h k l = absurd (omega arith)
 every-shape z (p ∷ ps) h zero l = ltb→lt _ 13 (both-left _ _ h)
 every-shape z (p ∷ ps) h (suc k) l = every-shape z ps (both-right (ltb (shapeNo (formAt (p .form) z)) 13) _ h) k (le-of-suc-le-suc l)
 
--- the algebra of one step
-step : (e a m v s i r : Bool) → both (both a (or (not e) s)) (both (both m (or e s)) (both (both v i) r)) ≡ both a (both m (both v (both (both s i) r)))
-unfolding both or
-step e false m v s i r = refl
-step true true false v true i r = refl
-step true true false v false i r = refl
-step true true true false true i r = refl
-step true true true false false i r = refl
-step true true true true true i r = refl
-step true true true true false i r = refl
-step false true false v true i r = refl
-step false true false v false i r = refl
-step false true true false true i r = refl
-step false true true false false i r = refl
-step false true true true true i r = refl
-step false true true true false i r = refl
+-- the algebra of one step: at T, and at another component
+step-T : (a m v s i r : Bool) → i ≡ true → both (both a s) (both m (both v r)) ≡ both a (both m (both v (both (both s i) r)))
+unfolding both
+step-T false m v s i r e = refl
+step-T true m v true true r e = refl
+step-T true true true false i r e = refl
+step-T true true false false i r e = refl
+step-T true false v false i r e = refl
+step-T true m v true false r e = absurd (subst T (sym e) tt)
+
+step-other : (a m v s i r : Bool) → both a (both (both m s) (both (both v i) r)) ≡ both a (both m (both v (both (both s i) r)))
+unfolding both
+step-other false m v s i r = refl
+step-other true false v s i r = refl
+step-other true true false true i r = refl
+step-other true true false false i r = refl
+step-other true true true true i r = refl
+step-other true true true false i r = refl
 
 lost : (a m v r : Bool) → both a (both m (both v (both false r))) ≡ false
 unfolding both
@@ -162,34 +168,38 @@ module _ (f n : ℕ) (xs : List ℕ) (hn : n < 41) (mn : T (memSize (sizeOfNo n)
         ∙ lost (allows j t) (has m t) (has v i) (restAt f n t i xs (k + 1))
         ∙ sym (rw (has-none t ht))
 
-    module _ (h : getD xs k 0 / 7 ≡ askedOf (digitOf f (2 * k + 1)) n) (r a b : ℕ)
-        (er : (t : ℕ) → t < 7 → allows r t ≡ both (allows j t) (or (not (eqb (digitOf f (2 * k + 2)) 7)) (slotT (digitOf f (2 * k + 2)) (getD xs k 0 % 7) t)))
-        (ea : (t : ℕ) → t < 7 → has a t ≡ or (eqb (digitOf f (2 * k + 2)) 7) (slotT (digitOf f (2 * k + 2)) (getD xs k 0 % 7) t))
-        (eb : (i : ℕ) → i < 7 → has b i ≡ slotI (digitOf f (2 * k + 2)) (getD xs k 0 % 7) i) where
-      narrow : (t i : ℕ) → t < 7 → i < 7 → both (allows r t) (both (has (bitAnd m a) t) (both (has (bitAnd v b) i) (restAt f n t i xs (k + 1)))) ≡ fitsAt (familyOf f) n t i xs
-      narrow t i ht hi =
-          (λ l. both (er t ht l) (both ((has-and m a t ∙ ap (both (has m t)) (ea t ht)) l) (both ((has-and v b i ∙ ap (both (has v i)) (eb i hi)) l) (restAt f n t i xs (k + 1)))))
-          ∙ step (eqb (digitOf f (2 * k + 2)) 7) (allows j t) (has m t) (has v i) (slotT (digitOf f (2 * k + 2)) (getD xs k 0 % 7) t) (slotI (digitOf f (2 * k + 2)) (getD xs k 0 % 7) i) (restAt f n t i xs (k + 1))
-          ∙ ap (λ (c : Bool). both (allows j t) (both (has m t) (both (has v i) c))) (sym (same k hk hx t i ht hi h))
-          ∙ g .rest t i ht hi
+    module _ (h : getD xs k 0 / 7 ≡ askedOf (digitOf f (2 * k + 1)) n) where
+      -- at T
+      module _ (e : digitOf f (2 * k + 2) ≡ 9) (r : ℕ) (er : (t : ℕ) → t < 7 → allows r t ≡ both (allows j t) (reaches (getD xs k 0 % 7) t)) where
+        narrow-T : (t i : ℕ) → t < 7 → i < 7 → both (allows r t) (both (has m t) (both (has v i) (restAt f n t i xs (k + 1)))) ≡ fitsAt (familyOf f) n t i xs
+        narrow-T t i ht hi =
+            ap (λ (c : Bool). both c (both (has m t) (both (has v i) (restAt f n t i xs (k + 1))))) (er t ht ∙ ap (both (allows j t)) (sym (slot-T-is (digitOf f (2 * k + 2)) (getD xs k 0 % 7) t e)))
+            ∙ step-T (allows j t) (has m t) (has v i) (slotT (digitOf f (2 * k + 2)) (getD xs k 0 % 7) t) (slotI (digitOf f (2 * k + 2)) (getD xs k 0 % 7) i) (restAt f n t i xs (k + 1)) (slot-I-any (digitOf f (2 * k + 2)) (getD xs k 0 % 7) i (λ q. omega arith))
+            ∙ ap (λ (c : Bool). both (allows j t) (both (has m t) (both (has v i) c))) (sym (same k hk hx t i ht hi h))
+            ∙ g .rest t i ht hi
 
-      pub next : r < 8 → Narrowed f n xs r (bitAnd m a) (bitAnd v b) (k + 1)
-      next hr = record { within = omega arith; join = hr; rest = narrow }
+        pub next-T : r < 8 → Narrowed f n xs r m v (k + 1)
+        next-T hr = record { within = omega arith; join = hr; rest = narrow-T }
 
-    -- where nothing joins nothing fits
-    module _ (h : getD xs k 0 / 7 ≡ askedOf (digitOf f (2 * k + 1)) n) (r : ℕ)
-        (er : (t : ℕ) → t < 7 → allows r t ≡ both (allows j t) (or (not (eqb (digitOf f (2 * k + 2)) 7)) (slotT (digitOf f (2 * k + 2)) (getD xs k 0 % 7) t))) where
-      pub no-join : r ≡ 255 → (t i : ℕ) → t < 7 → i < 7 → fitsAt (familyOf f) n t i xs ≡ both (has 0 t) (has 0 i)
-      unfolding both
-      no-join e t i ht hi =
-          sym (g .rest t i ht hi)
-          ∙ ap (λ (c : Bool). both (allows j t) (both (has m t) (both (has v i) c))) (same k hk hx t i ht hi h)
-          ∙ nothing (eqb (digitOf f (2 * k + 2)) 7) (allows j t) (has m t) (has v i) (slotT (digitOf f (2 * k + 2)) (getD xs k 0 % 7) t) (slotI (digitOf f (2 * k + 2)) (getD xs k 0 % 7) i) (restAt f n t i xs (k + 1))
-          (sym (er t ht) ∙ ap (λ (q : ℕ). allows q t) e ∙ allows-none t)
-          ∙ sym (rw (has-none t ht))
-        where
-          nothing : (e a m v s i r : Bool) → both a (or (not e) s) ≡ false → both a (both m (both v (both (both s i) r))) ≡ false
-          nothing e a m v s i r q = sym (step e a m v s i r) ∙ ap (λ (c : Bool). both c (both (both m (or e s)) (both (both v i) r))) q
+        -- where nothing joins nothing fits
+        pub no-join : r ≡ 255 → (t i : ℕ) → t < 7 → i < 7 → fitsAt (familyOf f) n t i xs ≡ both (has 0 t) (has 0 i)
+        unfolding both
+        no-join q t i ht hi =
+            sym (narrow-T t i ht hi)
+            ∙ ap (λ (c : Bool). both c (both (has m t) (both (has v i) (restAt f n t i xs (k + 1))))) (ap (λ (l : ℕ). allows l t) q ∙ allows-none t)
+            ∙ sym (rw (has-none t ht))
+
+      -- at another component
+      module _ (a b : ℕ) (ea : (t : ℕ) → t < 7 → has a t ≡ slotT (digitOf f (2 * k + 2)) (getD xs k 0 % 7) t) (eb : (i : ℕ) → i < 7 → has b i ≡ slotI (digitOf f (2 * k + 2)) (getD xs k 0 % 7) i) where
+        narrow-other : (t i : ℕ) → t < 7 → i < 7 → both (allows j t) (both (has (bitAnd m a) t) (both (has (bitAnd v b) i) (restAt f n t i xs (k + 1)))) ≡ fitsAt (familyOf f) n t i xs
+        narrow-other t i ht hi =
+            (λ l. both (allows j t) (both ((has-and m a t ∙ ap (both (has m t)) (ea t ht)) l) (both ((has-and v b i ∙ ap (both (has v i)) (eb i hi)) l) (restAt f n t i xs (k + 1)))))
+            ∙ step-other (allows j t) (has m t) (has v i) (slotT (digitOf f (2 * k + 2)) (getD xs k 0 % 7) t) (slotI (digitOf f (2 * k + 2)) (getD xs k 0 % 7) i) (restAt f n t i xs (k + 1))
+            ∙ ap (λ (c : Bool). both (allows j t) (both (has m t) (both (has v i) c))) (sym (same k hk hx t i ht hi h))
+            ∙ g .rest t i ht hi
+
+        pub next-other : Narrowed f n xs j (bitAnd m a) (bitAnd v b) (k + 1)
+        next-other = record { within = omega arith; join = g .join; rest = narrow-other }
 
   module _ (j m v k : ℕ) (g : Narrowed f n xs j m v k) (hk : length xs ≤ k) (a : ℕ) (ea : (t : ℕ) → t < 7 → has a t ≡ allows j t) where
     pub finish : (t i : ℕ) → t < 7 → i < 7 → fitsAt (familyOf f) n t i xs ≡ both (has (bitAnd m a) t) (has v i)

@@ -139,19 +139,19 @@ size-mem z (y ∷ ys) h m =
 
 -- THE RESULT
 
-component-of : (c : Component) (t i : ℕ) → T (plainC c) → componentAt c t i ≡ pick (eqb (componentNo c) 7) t (componentNo c)
+component-of : (c : Component) (t i : ℕ) → T (plainC c) → componentAt c t i ≡ pick (eqb (componentNo c) 9) t (componentNo c)
 unfolding componentAt componentNo
 component-of ofT t i h = refl
 component-of ofI t i h = absurd h
 component-of expT t i h = absurd h
-component-of (just s) t i h = let l = ltb→lt s 7 h in rw (ne-eqb s 7 (λ e. omega arith))
+component-of (just s) t i h = let l = ltb→lt s 7 h in rw (ne-eqb s 9 (λ e. omega arith))
 
-component-few : (c : Component) → T (plainC c) → componentNo c < 8
+component-few : (c : Component) → T (plainC c) → componentNo c ≢ 9 → componentNo c < 7
 unfolding componentNo
-component-few ofT h = omega arith
-component-few ofI h = absurd h
-component-few expT h = absurd h
-component-few (just s) h = let l = ltb→lt s 7 h in omega arith
+component-few ofT h n = absurd (n refl)
+component-few ofI h n = absurd h
+component-few expT h n = absurd h
+component-few (just s) h n = ltb→lt s 7 h
 
 module _ (f n : ℕ) (hn : n < 41) (mn : T (memSize (sizeOfNo n) (familyOf f .sizes))) where
   fair : Fair (familyOf f) (sizeOfNo n)
@@ -175,8 +175,8 @@ module _ (f n : ℕ) (hn : n < 41) (mn : T (memSize (sizeOfNo n) (familyOf f .si
   unfolding askedOf
   result-shape = subst (λ (q : Form). shapeNo (formAt q (sizeOfNo n)) < 13) (sym form-is) (fair .result)
 
-  pub result-component : digitOf f 10 < 8
-  result-component = rw of-digit (component-few (familyOf f .result .of) (good f .result))
+  pub result-component : digitOf f 10 ≢ 9 → digitOf f 10 < 7
+  result-component h = rw of-digit (component-few (familyOf f .result .of) (good f .result) (λ e. h (of-digit ∙ e)))
 
   shape-is : shapeOfNo (askedOf (digitOf f 9) n) ≡ formAt (familyOf f .result .form) (sizeOfNo n)
   shape-is =
@@ -186,13 +186,13 @@ module _ (f n : ℕ) (hn : n < 41) (mn : T (memSize (sizeOfNo n) (familyOf f .si
       ∙ ap (λ (q : Form). formAt q (sizeOfNo n)) form-is
 
   -- a number of that shape is the type by the pattern
-  pub result-is : (t i s : ℕ) → s < 7 → s ≡ pick (eqb (digitOf f 10) 7) t (digitOf f 10) → operand (7 * askedOf (digitOf f 9) n + s) ≡ patternTy (sizeOfNo n) t i (familyOf f .result)
+  pub result-is : (t i s : ℕ) → s < 7 → s ≡ pick (eqb (digitOf f 10) 9) t (digitOf f 10) → operand (7 * askedOf (digitOf f 9) n + s) ≡ patternTy (sizeOfNo n) t i (familyOf f .result)
   result-is t i s hs e =
       let k = askedOf (digitOf f 9) n in
       let q : (7 * k + s) / 7 ≡ k = omega arith in
       let r : (7 * k + s) % 7 ≡ s = omega arith in
       (λ j. made (shapeOfNo (q j)) (r j))
-      ∙ (λ j. made (shape-is j) ((e ∙ ap (λ (c : ℕ). pick (eqb c 7) t c) of-digit ∙ sym (component-of (familyOf f .result .of) t i (good f .result))) j))
+      ∙ (λ j. made (shape-is j) ((e ∙ ap (λ (c : ℕ). pick (eqb c 9) t c) of-digit ∙ sym (component-of (familyOf f .result .of) t i (good f .result))) j))
 
 pub wrap-digit : (f : ℕ) → digitOf f 11 ≡ wrapNo (familyOf f .wrap)
 unfolding encode

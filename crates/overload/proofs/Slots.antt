@@ -46,7 +46,7 @@ form-below turned = omega arith
 
 just-back : (s : ℕ) → s < 7 → componentOfNo s ≡ just s
 unfolding componentOfNo
-just-back s l = rw (ne-eqb s 7 (λ e. omega arith), ne-eqb s 8 (λ e. omega arith), ne-eqb s 9 (λ e. omega arith))
+just-back s l = rw (ne-eqb s 9 (λ e. omega arith), ne-eqb s 7 (λ e. omega arith), ne-eqb s 8 (λ e. omega arith))
 
 pub component-back : (set : List ℕ) (c : Component) → T (fine set c) → componentOfNo (componentNo c) ≡ c
 unfolding componentOfNo componentNo
@@ -135,9 +135,9 @@ isI-no k ofI = 1
 isI-no k expT = 0
 isI-no k (just s) = 0
 
-of-no : (of : ℕ) → of ≢ 8 → componentOfNo of ≡ ofI → ⊥
+of-no : (of : ℕ) → of ≢ 7 → componentOfNo of ≡ ofI → ⊥
 unfolding componentOfNo isI-no
-of-no of h e = go (eqb of 7) (eqb of 9) (sym (rw (ne-eqb of 8 h)) ∙ e)
+of-no of h e = go (eqb of 9) (eqb of 8) (sym (rw (ne-eqb of 7 h)) ∙ e)
   where
     go : (a b : Bool) → cond a ofT (cond b expT (just of)) ≡ ofI → ⊥
     go true b q = let z = ap (isI-no 0) q in omega arith
@@ -146,11 +146,11 @@ of-no of h e = go (eqb of 7) (eqb of 9) (sym (rw (ne-eqb of 8 h)) ∙ e)
 
 pub slot-sets : (of s t i : ℕ) → reaches s (componentAt (componentOfNo of) t i) ≡ both (slotT of s t) (slotI of s i)
 unfolding both or componentOfNo componentAt
-slot-sets of s t i = go (eqb of 8) refl
+slot-sets of s t i = go (eqb of 7) refl
   where
-    go : (b : Bool) → eqb of 8 ≡ b → reaches s (componentAt (componentOfNo of) t i) ≡ both (or b (reaches s (componentAt (componentOfNo of) t 0))) (or (not b) (reaches s i))
-    go true e = ap (λ (c : Component). reaches s (componentAt c t i)) (ap componentOfNo (eqb-true of 8 e))
-    go false e = ap (reaches s) (alone (componentOfNo of) s t i (of-no of (eqb-false of 8 e))) ∙ both-yes _
+    go : (b : Bool) → eqb of 7 ≡ b → reaches s (componentAt (componentOfNo of) t i) ≡ both (or b (reaches s (componentAt (componentOfNo of) t 0))) (or (not b) (reaches s i))
+    go true e = ap (λ (c : Component). reaches s (componentAt c t i)) (ap componentOfNo (eqb-true of 7 e))
+    go false e = ap (reaches s) (alone (componentOfNo of) s t i (of-no of (eqb-false of 7 e))) ∙ both-yes _
 
 -- JOINS
 
@@ -174,14 +174,6 @@ module _ (base j s t : ℕ) (hb : base < 22) (wb : base / 7 * 7 ≡ base) (hj : 
       join (base + j) (base + s) (omega arith) (omega arith) (omega arith) t ht
       ∙ ap₂ both (plain-accepts (base + j) j t (omega arith) (omega arith)) (plain-accepts (base + s) s t (omega arith) (omega arith))
 
-or-yes : (b : Bool) → or (not false) b ≡ true
-unfolding or
-or-yes b = refl
-
-or-no : (b : Bool) → or (not true) b ≡ b
-unfolding or
-or-no b = refl
-
 both-first : (b : Bool) → both true b ≡ b
 unfolding both
 both-first b = refl
@@ -204,26 +196,21 @@ unfolding both
 none-accepts t = refl
 
 -- at a parameter of T
-pub slot-T-is : (of s t : ℕ) → of ≡ 7 → slotT of s t ≡ reaches s t
+pub slot-T-is : (of s t : ℕ) → of ≡ 9 → slotT of s t ≡ reaches s t
 unfolding or componentOfNo componentAt
 slot-T-is of s t e = ap (λ (k : ℕ). slotT k s t) e
 
-module _ (of j s t : ℕ) where
-  pub join-other : of ≢ 7 → allows j t ≡ both (allows j t) (or (not (eqb of 7)) (slotT of s t))
-  join-other h = both-yes (allows j t) ∙ ap (both (allows j t)) (sym yes)
-    where
-      yes : or (not (eqb of 7)) (slotT of s t) ≡ true
-      yes = ap (λ (b : Bool). or (not b) (slotT of s t)) (ne-eqb of 7 h) ∙ or-yes (slotT of s t)
+-- at a parameter that is not of I
+pub slot-I-any : (of s i : ℕ) → of ≢ 7 → slotI of s i ≡ true
+unfolding or
+slot-I-any of s i h = rw (ne-eqb of 7 h)
 
-  at-T : of ≡ 7 → or (not (eqb of 7)) (slotT of s t) ≡ reaches s t
-  at-T e = ap (λ (b : Bool). or (not b) (slotT of s t)) (eq-eqb of 7 e) ∙ or-no (slotT of s t) ∙ slot-T-is of s t e
+module _ (j s t : ℕ) where
+  pub join-to : (r : ℕ) → r ≢ 7 → reaches r t ≡ both (reaches j t) (reaches s t) → j ≢ 7 → allows r t ≡ both (allows j t) (reaches s t)
+  join-to r n q m = allows-scalar r t n ∙ q ∙ ap (λ (b : Bool). both b (reaches s t)) (sym (allows-scalar j t m))
 
-  pub join-T : of ≡ 7 → (r : ℕ) → r ≢ 7 → reaches r t ≡ both (reaches j t) (reaches s t) → j ≢ 7 → allows r t ≡ both (allows j t) (or (not (eqb of 7)) (slotT of s t))
-  join-T e r n q m = allows-scalar r t n ∙ q ∙ ap₂ both (sym (allows-scalar j t m)) (sym (at-T e))
-
-  pub join-first : of ≡ 7 → j ≡ 7 → s < 7 → allows s t ≡ both (allows j t) (or (not (eqb of 7)) (slotT of s t))
-  join-first e q l =
-      allows-scalar s t (λ k. omega arith) ∙ sym (both-first (reaches s t)) ∙ ap₂ both (sym (ap (λ (k : ℕ). allows k t) q ∙ allows-all t)) (sym (at-T e))
+  pub join-first : j ≡ 7 → s < 7 → allows s t ≡ both (allows j t) (reaches s t)
+  join-first q l = allows-scalar s t (λ k. omega arith) ∙ sym (both-first (reaches s t)) ∙ ap (λ (b : Bool). both b (reaches s t)) (sym (ap (λ (k : ℕ). allows k t) q ∙ allows-all t))
 
 -- THE SHAPE OF AN OPERAND: its scalar where it has the shape b, or none for one of another shape a
 module _ (a b s r : ℕ) (e : r ≡ pick (eqb a b) s none) where

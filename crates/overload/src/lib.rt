@@ -4,6 +4,7 @@
 mod tables;
 
 use conv::NONE;
+use conv::PLAINS;
 use conv::SCALARS;
 ghost use mathlib.Core.Path.{_≡_};
 ghost use mathlib.Core.Bool.{not};
@@ -27,10 +28,10 @@ const RESULT: usize = 9;
 const WRAP: usize = 11;
 
 const PIVOT: usize = 12;
-// The component of a pattern that stands for T, and that for the second choice.
-const OF_T: u8 = 7;
+// The component of a pattern that stands for the second choice, and that for T, which is the last.
+const OF_I: u8 = 7;
 
-const OF_I: u8 = 8;
+const OF_T: u8 = 9;
 // Nothing is joined yet.
 const NO_JOIN: u8 = 7;
 // How many shapes there are.
@@ -44,7 +45,10 @@ const NO_PLACE: u64 = 15;
 const FORMS: u64 = 0o2222222221110;
 
 // By what is joined so far: the set of T to which it converts. Two hexadecimal digits each.
-const ALLOWED: u64 = 0x7f_40_20_10_08_64_7e_01;
+const ALLOWED: u64 = 0x7f_40_20_08_04_70_7e_01;
+
+// The scalars in the order of preference. An octal digit each, from the right.
+const PREFERENCE: u64 = 0o6524310;
 
 // The type of a result: that of an operand's number, or the result type of frexp or of modf over it.
 pub enum Out {
@@ -110,10 +114,10 @@ fn size_at(pivot: u8, k: u8, a: u8, b: u8) -> u8
     requires { ⌜ (a < 13) × (b < 13) × (k < 16) ⌝ }
     ensures { λ r. ⌜ (r ≡ sizeAt pivot k a b) × (r < 41) ⌝ }
 {
-    if pivot == 0 {
-        return a;
-    }
-    if pivot == 1 {
+    if pivot < 2 {
+        if pivot == 0 {
+            return a;
+        }
         return b;
     }
     if pivot == 2 {
@@ -122,12 +126,12 @@ fn size_at(pivot: u8, k: u8, a: u8, b: u8) -> u8
     k
 }
 
-// The number that joins are made at: the width's scalar bool where the size is plain, else 0.
-fn base_of(n: u8) -> u8
+// The number that joins are made at: bool of the operand's width where the operand is plain, else bool itself.
+fn base_of(x: u8) -> u8
     ensures { λ r. ⌜ (r < 22) × (r / 7 * 7 ≡ r) ⌝ }
 {
-    if n < 4 {
-        return 7 * n;
+    if x < PLAINS {
+        return x / SCALARS * SCALARS;
     }
     0
 }
@@ -144,12 +148,12 @@ fn component(form: u8, n: u8, starts: u64, x: u8) -> u8
     s
 }
 
-// The join of two scalars, by the common type at the size's width, or NONE.
-fn common(n: u8, j: u8, s: u8) -> u8
+// The join of two scalars, by the common type at the width of the operand x, or NONE.
+fn common(x: u8, j: u8, s: u8) -> u8
     requires { ⌜ (j < 7) × (s < 7) ⌝ }
     ensures { λ r. ⌜ ((r ≡ 255) ⊎ (r < 7)) × ((t : ℕ) → t < 7 → reaches r t ≡ both (reaches j t) (reaches s t)) ⌝ }
 {
-    let base = base_of(n);
+    let base = base_of(x);
     let r = conv::convert_ty(base + j, base + s);
     if r == NONE {
         return NONE;
@@ -157,32 +161,18 @@ fn common(n: u8, j: u8, s: u8) -> u8
     r - base
 }
 
-// What is joined so far, with the scalar s at a component: a scalar at T is joined by the table, where it is not the same; another leaves the join as it is.
-fn join_slot(of: u8, n: u8, j: u8, s: u8) -> u8
+// What is joined so far, with the scalar s of the operand x at T. Equal scalars need no table.
+fn join(x: u8, j: u8, s: u8) -> u8
     requires { ⌜ (j < 8) × (s < 7) ⌝ }
-    ensures { λ r. ⌜ ((r ≡ 255) ⊎ (r < 8)) × ((t : ℕ) → t < 7 → allows r t ≡ both (allows j t) (or (not (eqb of 7)) (slotT of s t))) ⌝ }
+    ensures { λ r. ⌜ ((r ≡ 255) ⊎ (r < 8)) × ((t : ℕ) → t < 7 → allows r t ≡ both (allows j t) (reaches s t)) ⌝ }
 {
-    if of != OF_T {
-        return j;
-    }
     if j == s {
         return j;
     }
     if j == NO_JOIN {
         return s;
     }
-    common(n, j, s)
-}
-
-// The set of T at which the scalar s fits a component other than T.
-fn set_slot(of: u8, s: u8) -> u64
-    requires { ⌜ (of < 10) × (s < 7) ⌝ }
-    ensures { λ r. ⌜ ((t : ℕ) → t < 7 → has r t ≡ or (eqb of 7) (slotT of s t)) ⌝ }
-{
-    if of == OF_T {
-        return ALL;
-    }
-    tables::reached(of, s)
+    common(x, j, s)
 }
 
 // The set of the second choice at which the scalar s fits a component.
@@ -193,7 +183,7 @@ fn second_slot(of: u8, s: u8) -> u64
     if of != OF_I {
         return ALL;
     }
-    tables::reached(OF_T, s)
+    allowed(s)
 }
 
 // The set of T to which what is joined converts.
@@ -214,17 +204,21 @@ fn fit(f: u64, w: u64, n: u8, starts: u64, xs: &[u8]) -> Choices
     let mut v = ALL;
     let mut i = 0;
     while i < xs.len() {
-        let s = component(tables::digit(f, w, 2 * i + PARAM), n, starts, xs[i]);
+        let x = xs[i];
+        let s = component(tables::digit(f, w, 2 * i + PARAM), n, starts, x);
         if s == NONE {
             return Choices(0, 0);
         }
         let of = tables::digit(f, w, 2 * i + PARAM + 1);
-        j = join_slot(of, n, j, s);
-        if j == NONE {
-            return Choices(0, 0);
+        if OF_T <= of {
+            j = join(x, j, s);
+            if j == NONE {
+                return Choices(0, 0);
+            }
+        } else {
+            m = m & tables::reached(of, s);
+            v = v & second_slot(of, s);
         }
-        m = m & set_slot(of, s);
-        v = v & second_slot(of, s);
         i += 1;
     }
     Choices(m & allowed(j), v)
@@ -232,30 +226,13 @@ fn fit(f: u64, w: u64, n: u8, starts: u64, xs: &[u8]) -> Choices
 
 // The first scalar of a set, in the order of preference, or NONE.
 fn first_of(w: u64) -> u8
+    requires { ⌜ w < 128 ⌝ }
     ensures { λ r. ⌜ r ≡ firstOf preference (has w) ⌝ }
 {
-    if w % 2 == 1 {
-        return 0;
+    if w == 0 {
+        return NONE;
     }
-    if w / 2 % 2 == 1 {
-        return 1;
-    }
-    if w / 8 % 2 == 1 {
-        return 3;
-    }
-    if w / 16 % 2 == 1 {
-        return 4;
-    }
-    if w / 4 % 2 == 1 {
-        return 2;
-    }
-    if w / 32 % 2 == 1 {
-        return 5;
-    }
-    if w / 64 % 2 == 1 {
-        return 6;
-    }
-    NONE
+    ((PREFERENCE >> (3 * u64::trailing_zeros(w))) % 8) as u8
 }
 
 // The number of a family's result at a size, a T and an I.

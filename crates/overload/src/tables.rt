@@ -116,130 +116,130 @@ pub fn family_word(f: u64) -> u64
 {
     match f {
         // negatingBool: (N) to N; T only bool; wides
-        0 => 0x0_0_5_0_0_70_70_70_70_70_1,
+        0 => 0x0_0_5_0_0_90_90_90_90_90_1,
         // negating: (N) to N; T signed; wides
-        1 => 0x0_1_5_0_0_70_70_70_70_70_1,
+        1 => 0x0_1_5_0_0_90_90_90_90_90_1,
         // complementing: (N) to N; T integer; wides
-        2 => 0x0_2_5_0_0_70_70_70_70_70_1,
+        2 => 0x0_2_5_0_0_90_90_90_90_90_1,
         // logical: (N, N) to N; T only bool; scalars
-        3 => 0x0_0_0_0_0_70_70_70_70_70_2,
+        3 => 0x0_0_0_0_0_90_90_90_90_90_2,
         // additive: (N, N) to N; T numeric; wides
-        4 => 0x0_3_5_0_0_70_70_70_70_70_2,
+        4 => 0x0_3_5_0_0_90_90_90_90_90_2,
         // additive: (N, E) to N; T numeric; vectors
-        5 => 0x0_3_4_0_0_70_70_70_71_70_2,
+        5 => 0x0_3_4_0_0_90_90_90_91_90_2,
         // additive: (E, N) to N; T numeric; vectors
-        6 => 0x0_3_4_1_0_70_70_70_70_71_2,
+        6 => 0x0_3_4_1_0_90_90_90_90_91_2,
         // additive: (N, N) to N; T float; matrices
-        7 => 0x0_4_6_0_0_70_70_70_70_70_2,
+        7 => 0x0_4_6_0_0_90_90_90_90_90_2,
         // multiplicative: (N, N) to N; T numeric; wides
-        8 => 0x0_3_5_0_0_70_70_70_70_70_2,
+        8 => 0x0_3_5_0_0_90_90_90_90_90_2,
         // multiplicative: (N, E) to N; T numeric; vectors
-        9 => 0x0_3_4_0_0_70_70_70_71_70_2,
+        9 => 0x0_3_4_0_0_90_90_90_91_90_2,
         // multiplicative: (E, N) to N; T numeric; vectors
-        10 => 0x0_3_4_1_0_70_70_70_70_71_2,
+        10 => 0x0_3_4_1_0_90_90_90_90_91_2,
         // multiplicative: (N, E) to N; T float; matrices
-        11 => 0x0_4_6_0_0_70_70_70_71_70_2,
+        11 => 0x0_4_6_0_0_90_90_90_91_90_2,
         // multiplicative: (E, N) to N; T float; matrices
-        12 => 0x0_4_6_1_0_70_70_70_70_71_2,
+        12 => 0x0_4_6_1_0_90_90_90_90_91_2,
         // multiplicative: (N, vecC) to vecR; T float; matrices
-        13 => 0x0_4_6_0_0_73_70_70_72_70_2,
+        13 => 0x0_4_6_0_0_93_90_90_92_90_2,
         // multiplicative: (vecR, N) to vecC; T float; matricesByRows
-        14 => 0x0_4_7_1_0_72_70_70_70_73_2,
+        14 => 0x0_4_7_1_0_92_90_90_90_93_2,
         // multiplicative: (matKxR, matCxK) to N; T float; products
-        15 => 0x0_4_9_2_0_70_70_70_75_74_2,
+        15 => 0x0_4_9_2_0_90_90_90_95_94_2,
         // dividing: (N, N) to N; T numeric; wides
-        16 => 0x0_3_5_0_0_70_70_70_70_70_2,
+        16 => 0x0_3_5_0_0_90_90_90_90_90_2,
         // dividing: (N, E) to N; T numeric; vectors
-        17 => 0x0_3_4_0_0_70_70_70_71_70_2,
+        17 => 0x0_3_4_0_0_90_90_90_91_90_2,
         // dividing: (E, N) to N; T numeric; vectors
-        18 => 0x0_3_4_1_0_70_70_70_70_71_2,
+        18 => 0x0_3_4_1_0_90_90_90_90_91_2,
         // equality: (N, N) to N of bool; T bool ∷ numeric; wides
-        19 => 0x0_5_5_0_0_00_70_70_70_70_2,
+        19 => 0x0_5_5_0_0_00_90_90_90_90_2,
         // ordering: (N, N) to N of bool; T numeric; wides
-        20 => 0x0_3_5_0_0_00_70_70_70_70_2,
+        20 => 0x0_3_5_0_0_00_90_90_90_90_2,
         // bitwise: (N, N) to N; T integer; wides
-        21 => 0x0_2_5_0_0_70_70_70_70_70_2,
+        21 => 0x0_2_5_0_0_90_90_90_90_90_2,
         // bitwise: (N, N) to N; T only bool; wides
-        22 => 0x0_0_5_0_0_70_70_70_70_70_2,
+        22 => 0x0_0_5_0_0_90_90_90_90_90_2,
         // exclusive: (N, N) to N; T integer; wides
-        23 => 0x0_2_5_0_0_70_70_70_70_70_2,
+        23 => 0x0_2_5_0_0_90_90_90_90_90_2,
         // shifting: (N, N of u32) to N; T integer; wides
-        24 => 0x0_2_5_0_0_70_70_70_40_70_2,
+        24 => 0x0_2_5_0_0_90_90_90_40_90_2,
         // oneFloat: (N) to N; T float; wides
-        25 => 0x0_4_5_0_0_70_70_70_70_70_1,
+        25 => 0x0_4_5_0_0_90_90_90_90_90_1,
         // twoFloats: (N, N) to N; T float; wides
-        26 => 0x0_4_5_0_0_70_70_70_70_70_2,
+        26 => 0x0_4_5_0_0_90_90_90_90_90_2,
         // threeFloats: (N, N, N) to N; T float; wides
-        27 => 0x0_4_5_0_0_70_70_70_70_70_3,
+        27 => 0x0_4_5_0_0_90_90_90_90_90_3,
         // mixing: (N, N, N) to N; T float; wides
-        28 => 0x0_4_5_0_0_70_70_70_70_70_3,
+        28 => 0x0_4_5_0_0_90_90_90_90_90_3,
         // mixing: (N, N, E) to N; T float; vectors
-        29 => 0x0_4_4_0_0_70_70_71_70_70_3,
+        29 => 0x0_4_4_0_0_90_90_91_90_90_3,
         // oneNumeric: (N) to N; T numeric; wides
-        30 => 0x0_3_5_0_0_70_70_70_70_70_1,
+        30 => 0x0_3_5_0_0_90_90_90_90_90_1,
         // twoNumerics: (N, N) to N; T numeric; wides
-        31 => 0x0_3_5_0_0_70_70_70_70_70_2,
+        31 => 0x0_3_5_0_0_90_90_90_90_90_2,
         // threeNumerics: (N, N, N) to N; T numeric; wides
-        32 => 0x0_3_5_0_0_70_70_70_70_70_3,
+        32 => 0x0_3_5_0_0_90_90_90_90_90_3,
         // oneBits: (N) to N; T bits; wides
-        33 => 0x0_6_5_0_0_70_70_70_70_70_1,
+        33 => 0x0_6_5_0_0_90_90_90_90_90_1,
         // extracting: (N, E of u32, E of u32) to N; T bits; wides
-        34 => 0x0_6_5_0_0_70_70_41_41_70_3,
+        34 => 0x0_6_5_0_0_90_90_41_41_90_3,
         // inserting: (N, N, E of u32, E of u32) to N; T bits; wides
-        35 => 0x0_6_5_0_0_70_41_41_70_70_4,
+        35 => 0x0_6_5_0_0_90_41_41_90_90_4,
         // measuring: (N) to E; T float; wides
-        36 => 0x0_4_5_0_0_71_70_70_70_70_1,
+        36 => 0x0_4_5_0_0_91_90_90_90_90_1,
         // distancing: (N, N) to E; T float; wides
-        37 => 0x0_4_5_0_0_71_70_70_70_70_2,
+        37 => 0x0_4_5_0_0_91_90_90_90_90_2,
         // dotting: (N, N) to E; T numeric; vectors
-        38 => 0x0_3_4_0_0_71_70_70_70_70_2,
+        38 => 0x0_3_4_0_0_91_90_90_90_90_2,
         // oneFloatVector: (N) to N; T float; vectors
-        39 => 0x0_4_4_0_0_70_70_70_70_70_1,
+        39 => 0x0_4_4_0_0_90_90_90_90_90_1,
         // twoFloatVectors: (N, N) to N; T float; vectors
-        40 => 0x0_4_4_0_0_70_70_70_70_70_2,
+        40 => 0x0_4_4_0_0_90_90_90_90_90_2,
         // threeFloatVectors: (N, N, N) to N; T float; vectors
-        41 => 0x0_4_4_0_0_70_70_70_70_70_3,
+        41 => 0x0_4_4_0_0_90_90_90_90_90_3,
         // refracting: (N, N, E) to N; T float; vectors
-        42 => 0x0_4_4_0_0_70_70_71_70_70_3,
+        42 => 0x0_4_4_0_0_90_90_91_90_90_3,
         // crossing: (N, N) to N; T float; width 3
-        43 => 0x0_4_2_0_0_70_70_70_70_70_2,
+        43 => 0x0_4_2_0_0_90_90_90_90_90_2,
         // squareMatrix: (N) to E; T float; squares
-        44 => 0x0_4_8_0_0_71_70_70_70_70_1,
+        44 => 0x0_4_8_0_0_91_90_90_90_90_1,
         // transposing: (N) to matRxC; T float; matrices
-        45 => 0x0_4_6_0_0_76_70_70_70_70_1,
+        45 => 0x0_4_6_0_0_96_90_90_90_90_1,
         // oneF32: (N) to N; T only f32; wides
-        46 => 0x0_7_5_0_0_70_70_70_70_70_1,
+        46 => 0x0_7_5_0_0_90_90_90_90_90_1,
         // frexpOf: (N) to inFrexp N; T float; wides
-        47 => 0x0_4_5_0_1_70_70_70_70_70_1,
+        47 => 0x0_4_5_0_1_90_90_90_90_90_1,
         // modfOf: (N) to inModf N; T float; wides
-        48 => 0x0_4_5_0_2_70_70_70_70_70_1,
+        48 => 0x0_4_5_0_2_90_90_90_90_90_1,
         // packing4F32: (N) to E of u32; T only f32; width 4
-        49 => 0x0_7_3_0_0_41_70_70_70_70_1,
+        49 => 0x0_7_3_0_0_41_90_90_90_90_1,
         // packing4I32: (N) to E of u32; T only i32; width 4
-        50 => 0x0_8_3_0_0_41_70_70_70_70_1,
+        50 => 0x0_8_3_0_0_41_90_90_90_90_1,
         // packing4U32: (N) to E of u32; T only u32; width 4
-        51 => 0x0_9_3_0_0_41_70_70_70_70_1,
+        51 => 0x0_9_3_0_0_41_90_90_90_90_1,
         // packing2F32: (N) to E of u32; T only f32; width 2
-        52 => 0x0_7_1_0_0_41_70_70_70_70_1,
+        52 => 0x0_7_1_0_0_41_90_90_90_90_1,
         // unpacking4F32: (E of u32) to N; T only f32; width 4
-        53 => 0x0_7_3_3_0_70_70_70_70_41_1,
+        53 => 0x0_7_3_3_0_90_90_90_90_41_1,
         // unpacking4I32: (E of u32) to N; T only i32; width 4
-        54 => 0x0_8_3_3_0_70_70_70_70_41_1,
+        54 => 0x0_8_3_3_0_90_90_90_90_41_1,
         // unpacking4U32: (E of u32) to N; T only u32; width 4
-        55 => 0x0_9_3_3_0_70_70_70_70_41_1,
+        55 => 0x0_9_3_3_0_90_90_90_90_41_1,
         // unpacking2F32: (E of u32) to N; T only f32; width 2
-        56 => 0x0_7_1_3_0_70_70_70_70_41_1,
+        56 => 0x0_7_1_3_0_90_90_90_90_41_1,
         // packedDotU32: (N, N) to E of u32; T only u32; scalars
-        57 => 0x0_9_0_0_0_41_70_70_70_70_2,
+        57 => 0x0_9_0_0_0_41_90_90_90_90_2,
         // packedDotI32: (N, N) to E of i32; T only u32; scalars
-        58 => 0x0_9_0_0_0_31_70_70_70_70_2,
+        58 => 0x0_9_0_0_0_31_90_90_90_90_2,
         // oneBool: (N) to E of bool; T only bool; wides
-        59 => 0x0_0_5_0_0_01_70_70_70_70_1,
+        59 => 0x0_0_5_0_0_01_90_90_90_90_1,
         // selecting: (N, N, E of bool) to N; T bool ∷ numeric; wides
-        60 => 0x0_5_5_0_0_70_70_01_70_70_3,
+        60 => 0x0_5_5_0_0_90_90_01_90_90_3,
         // selecting: (N, N, N of bool) to N; T bool ∷ numeric; vectors
-        61 => 0x0_5_4_0_0_70_70_00_70_70_3,
-        _ => 0xf_f_f_0_0_70_70_70_70_70_0,
+        61 => 0x0_5_4_0_0_90_90_00_90_90_3,
+        _ => 0xf_f_f_0_0_90_90_90_90_90_0,
     }
 }
 
@@ -319,11 +319,17 @@ pub fn sizes_line(k: u8) -> u64
         8 => 0x1110,
         // products
         9 => 0x1ffffffc000,
+        10 => 0,
+        11 => 0,
+        12 => 0,
+        13 => 0,
+        14 => 0,
+        15 => 0,
         _ => 0,
     }
 }
 
-// By set of scalars: a bit for each.
+// By set of scalars: a bit for each, in the order of preference (bool, AbstractInt, i32, u32, AbstractFloat, f32, f16).
 pub fn set_line(k: u8) -> u64
     ensures { λ r. ⌜ Scalars k r ⌝ }
 {
@@ -331,30 +337,36 @@ pub fn set_line(k: u8) -> u64
         // only bool
         0 => 0x1,
         // signed
-        1 => 0x6e,
+        1 => 0x76,
         // integer
-        2 => 0x1a,
+        2 => 0xe,
         // numeric
         3 => 0x7e,
         // float
-        4 => 0x64,
+        4 => 0x70,
         // bool ∷ numeric
         5 => 0x7f,
         // bits
-        6 => 0x18,
+        6 => 0xc,
         // only f32
         7 => 0x20,
         // only i32
-        8 => 0x8,
+        8 => 0x4,
         // only u32
-        9 => 0x10,
+        9 => 0x8,
+        10 => 0,
+        11 => 0,
+        12 => 0,
+        13 => 0,
+        14 => 0,
+        15 => 0,
         _ => 0,
     }
 }
 
 // By component, for each scalar: the set of T at which the scalar converts to it. Two hexadecimal digits each.
 fn reached_at(of: u8) -> u64
-    requires { ⌜ of < 10 ⌝ }
+    requires { ⌜ of < 9 ⌝ }
     ensures { λ r. ⌜ Reached of r ⌝ }
 {
     match of {
@@ -372,12 +384,10 @@ fn reached_at(of: u8) -> u64
         5 => 0x00_7f_00_00_7f_7f_00,
         // f16
         6 => 0x7f_00_00_00_7f_7f_00,
-        // T
-        7 => 0x40_20_10_08_64_7e_01,
         // I, at every T
-        8 => 0x7f_7f_7f_7f_7f_7f_7f,
+        7 => 0x7f_7f_7f_7f_7f_7f_7f,
         // AbstractInt at an abstract T, else i32
-        _ => 0x00_00_00_79_00_7f_00,
+        _ => 0x00_00_00_6d_00_7f_00,
     }
 }
 
@@ -405,9 +415,9 @@ pub fn start(form: u8, n: u8, starts: u64) -> u8
     ((starts >> (8 * form)) % 256) as u8
 }
 
-// The set of T at which a scalar converts to a component.
+// The set of T at which a scalar converts to a component other than T.
 pub fn reached(of: u8, s: u8) -> u64
-    requires { ⌜ (of < 10) × (s < 7) ⌝ }
+    requires { ⌜ (of < 9) × (s < 7) ⌝ }
     ensures { λ r. ⌜ ((t : ℕ) → t < 7 → has r t ≡ slotT of s t) ⌝ }
 {
     (reached_at(of) >> (8 * s)) % 256

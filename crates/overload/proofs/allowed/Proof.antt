@@ -4,7 +4,7 @@ use native.Mathlib.Omega.{arith}
 use Rattle.conv.specs.Rank.{both, rankOf}
 use Rattle.conv.proofs.Finite.{same, same-eq, below₂}
 use Rattle.overload.specs.Overload.{or}
-use Rattle.overload.specs.inner.Code.{entry, has, allows}
+use Rattle.overload.specs.inner.Code.{entry, bit, has, allows}
 use Rattle.overload.proofs.allowed.Statement.{statement}
 use Rattle.overload.proofs.allowed.Tie as tie
 
@@ -18,8 +18,8 @@ shr-result : tie.Need-shr-result
 shr-result c = search needs
 
 returns : tie.Need-returns
-unfolding both or same rankOf has
-returns c = λ t h. same-eq _ _ (below₂ 8 7 (λ j t. same (has (entry 8 9169364094558699009 j) t) (allows j t)) tt (c .args .j) t (c .pre) h)
+unfolding both or same rankOf has bit
+returns c = λ t h. same-eq _ _ (below₂ 8 7 (λ j t. same (has (entry 8 9169364060132638209 j) t) (allows j t)) tt (c .args .j) t (c .pre) h)
 
 pub allowed-spec : {M : Type 1} → statement M
 allowed-spec = tie.close (tie.spec mul-result cast-result shr-result returns)

@@ -1,17 +1,15 @@
 -- `overload::fit` meets its contract. The loop carries `Narrowed`: what is joined and left so far, with the operands that are left, fits as the whole does. Assumes nothing.
 use borrow.Author.Needs.{needs}
 use native.Mathlib.Omega.{arith}
-use Prim.Native.Nat.{ℕ, _+_, _-_, _*_, _/_, _%_, _<_}
+use Prim.Native.Nat.{ℕ, _+_, _-_, _*_, _/_, _%_, _<_, _≤_}
 use mathlib.Core.Path.{_≡_, _∙_, sym, ap, subst}
 use mathlib.Core.Logic.{⊎-elim}
 use lib.Dec.{eqb}
 use lib.ListN.{length, getD}
-use mathlib.Core.Bool.{not}
-use Rattle.conv.specs.Rank.{pick, both, none}
-use Rattle.overload.specs.Overload.{or}
-use Rattle.overload.specs.inner.Code.{askedOf, digitOf, allows, slotT}
+use Rattle.conv.specs.Rank.{pick, none}
+use Rattle.overload.specs.inner.Code.{askedOf, digitOf}
 use Rattle.overload.proofs.Slots.{other-shape, same-shape}
-use Rattle.overload.proofs.Narrow.{Narrowed, start, apart, next, no-join, finish, few, form-small, component-small, shape-small}
+use Rattle.overload.proofs.Narrow.{Narrowed, narrowed-as, start, apart, next-T, next-other, no-join, finish, few, form-small, component-small, shape-small}
 use Rattle.overload.proofs.fit.Statement.{statement}
 use Rattle.overload.proofs.fit.Tie as tie
 
@@ -24,21 +22,21 @@ abbrev μ-loop : tie.MeasureT-loop
 loop-holds : tie.Need-loop-holds Inv-loop μ-loop
 loop-holds c = let a = c .before .args in let p = c .before .pre in start (a .f) (a .n) (a .xs .now) (p .1) (p .2) (p .4)
 
+shared-slice-read-x : tie.Need-shared-slice-read-x Inv-loop μ-loop
+shared-slice-read-x c = c .before .loop-test .taken
+
 -- there are four parameters at most
 below : (c : tie.In-loop Inv-loop μ-loop) → c .before .loop .i < 4
 below c = let a = c .before .before .before .args in let p = c .before .before .before .pre in few (a .f) (a .n) (a .xs .now) (p .1) (p .2) (p .4) (c .before .loop .i) (c .loop-test .taken)
 
 mul-digit : tie.Need-mul-digit Inv-loop μ-loop
-mul-digit c = let l = below c in omega arith
+mul-digit c = let l = below (c .before) in omega arith
 
 add-digit : tie.Need-add-digit Inv-loop μ-loop
-add-digit c = let l = below c in omega arith
+add-digit c = let l = below (c .before) in omega arith
 
 digit-requires : tie.Need-digit-requires Inv-loop μ-loop
-digit-requires c κs = (c .before .before .before .pre .0, let l = below c in omega arith)
-
-shared-slice-read-component : tie.Need-shared-slice-read-component Inv-loop μ-loop
-shared-slice-read-component c = c .before .before .loop-test .taken
+digit-requires c κs = (c .before .before .before .before .pre .0, let l = below (c .before) in omega arith)
 
 component-requires : tie.Need-component-requires Inv-loop μ-loop
 component-requires c κs =
@@ -46,7 +44,7 @@ component-requires c κs =
     let p = c .before .before .before .before .before .pre in
     let i = c .before .before .before .loop .i in
     let h = c .before .before .loop-test .taken in
-    let e = sym (c .before .digit .ensures) in (
+    let e = sym (c .digit .ensures) in (
       subst (λ (k : ℕ). k < 7) e (form-small (a .f) (a .n) (a .xs .now) (p .1) (p .2) (p .4) i h),
       p .3,
       subst (λ (k : ℕ). askedOf k (a .n) < 13) e (shape-small (a .f) (a .n) (a .xs .now) (p .1) (p .2) (p .4) i h),
@@ -59,11 +57,11 @@ scalar c =
     let a = c .before .before .before .before .before .before .args in
     let i = c .before .before .before .before .loop .i in
     c .component .ensures
-    ∙ ap (λ (p : ℕ). pick (eqb (getD (a .xs .now) i 0 / 7) (askedOf p (a .n))) (getD (a .xs .now) i 0 % 7) none) (c .before .before .digit .ensures)
+    ∙ ap (λ (p : ℕ). pick (eqb (getD (a .xs .now) i 0 / 7) (askedOf p (a .n))) (getD (a .xs .now) i 0 % 7) none) (c .before .digit .ensures)
 
 -- an operand is a byte
 byte : (c : tie.After-component Inv-loop μ-loop) → getD (c .before .before .before .before .before .before .args .xs .now) (c .before .before .before .before .loop .i) 0 < 256
-byte c = let l = c .before .before .before .loop-test .taken in omega (arith, c .before .shared-slice-known2 .given (c .before .before .before .before .loop .i))
+byte c = let l = c .before .before .before .loop-test .taken in omega (arith, c .before .before .shared-slice-known2 .given (c .before .before .before .before .loop .i))
 
 returns : tie.Need-returns Inv-loop μ-loop
 returns c =
@@ -108,42 +106,49 @@ of-small c =
     let p = c .before .before .before .before .before .before .before .before .pre in
     subst (λ (k : ℕ). k < 10) (sym (of-is c)) (component-small (a .f) (a .n) (a .xs .now) (p .1) (p .2) (p .4) (c .before .before .before .before .before .before .loop .i) (c .before .before .before .before .before .loop-test .taken))
 
-join-slot-requires : tie.Need-join-slot-requires Inv-loop μ-loop
-join-slot-requires c κs = (c .before .before .before .before .before .before .loop .inv .join, seven (c .before))
+-- it is T's
+nine : (c : tie.After-digit2 Inv-loop μ-loop) → 9 ≤ c .digit2 .result → digitOf (c .before .before .before .before .before .before .before .before .args .f) (2 * c .before .before .before .before .before .before .loop .i + 2) ≡ 9
+nine c h = let l = of-small c in sym (of-is c) ∙ omega arith
 
--- what is joined now
-joined : (c : tie.After-join-slot Inv-loop μ-loop) → let a = c .before .before .before .before .before .before .before .before .before .args in let l = c .before .before .before .before .before .before .before .loop in (t : ℕ) → t < 7
-    → allows (c .join-slot .result) t ≡ both (allows (l .j) t) (or (not (eqb (digitOf (a .f) (2 * l .i + 2)) 7)) (slotT (digitOf (a .f) (2 * l .i + 2)) (getD (a .xs .now) (l .i) 0 % 7) t))
-joined c t h = rw (of-is (c .before), s-is (c .before .before)) at (c .join-slot .ensures .1 t h)
+join-requires : tie.Need-join-requires Inv-loop μ-loop
+join-requires c κs = (c .before .before .before .before .before .before .before .loop .inv .join, seven (c .before .before))
 
 returns-2 : tie.Need-returns-2 Inv-loop μ-loop
 returns-2 c =
-    let a = c .before .before .before .before .before .before .before .before .before .before .args in
-    let p = c .before .before .before .before .before .before .before .before .before .before .pre in
-    let l = c .before .before .before .before .before .before .before .before .loop in
-    no-join (a .f) (a .n) (a .xs .now) (p .1) (p .2) (p .4) (l .j) (l .m) (l .v) (l .i) (l .inv) (c .before .before .before .before .before .before .before .loop-test .taken) (byte (c .before .before .before .before)) (shape (c .before .before .before)) (c .before .join-slot .result) (joined (c .before)) (c .if2 .taken)
+    let a = c .before .before .before .before .before .before .before .before .before .before .before .args in
+    let p = c .before .before .before .before .before .before .before .before .before .before .before .pre in
+    let l = c .before .before .before .before .before .before .before .before .before .loop in
+    no-join (a .f) (a .n) (a .xs .now) (p .1) (p .2) (p .4) (l .j) (l .m) (l .v) (l .i) (l .inv) (c .before .before .before .before .before .before .before .before .loop-test .taken) (byte (c .before .before .before .before .before)) (shape (c .before .before .before .before)) (nine (c .before .before .before) (c .before .before .if2 .taken)) (c .before .join .result)
+    (λ t h. rw (s-is (c .before .before .before .before)) at (c .before .join .ensures .1 t h)) (c .if3 .taken)
 
-set-slot-requires : tie.Need-set-slot-requires Inv-loop μ-loop
-set-slot-requires c κs = (of-small (c .before .before), seven (c .before .before .before))
+reached-requires : tie.Need-reached-requires Inv-loop μ-loop
+reached-requires c κs = (c .if2 .left, seven (c .before .before))
 
 second-slot-requires : tie.Need-second-slot-requires Inv-loop μ-loop
-second-slot-requires c κs = seven (c .before .before .before .before)
+second-slot-requires c κs = seven (c .before .before .before)
 
 add-i : tie.Need-add-i Inv-loop μ-loop
-add-i c = let l = c .before .before .before .before .before .before .before .before .before .loop-test .taken in omega arith
+add-i c = let l = c .before .before .before .before .before .before .loop-test .taken in omega arith
 
 loop-less : tie.Need-loop-less Inv-loop μ-loop
-loop-less c = let l = c .before .before .before .before .before .before .before .before .before .loop-test .taken in omega arith
+loop-less c = let l = c .before .before .before .before .before .before .loop-test .taken in omega arith
 
 loop-again : tie.Need-loop-again Inv-loop μ-loop
 loop-again c =
-    let a = c .before .before .before .before .before .before .before .before .before .before .before .before .args in
-    let p = c .before .before .before .before .before .before .before .before .before .before .before .before .pre in
-    let l = c .before .before .before .before .before .before .before .before .before .before .loop in
-    next (a .f) (a .n) (a .xs .now) (p .1) (p .2) (p .4) (l .j) (l .m) (l .v) (l .i) (l .inv) (c .before .before .before .before .before .before .before .before .before .loop-test .taken) (byte (c .before .before .before .before .before .before)) (shape (c .before .before .before .before .before)) (c .before .before .before .join-slot .result) _ _ (joined (c .before .before .before))
-    (λ t h. rw (of-is (c .before .before .before .before), s-is (c .before .before .before .before .before)) at (c .before .set-slot .ensures t h))
-    (λ i h. rw (of-is (c .before .before .before .before), s-is (c .before .before .before .before .before)) at (c .second-slot .ensures i h))
-    (⊎-elim (λ e. absurd (c .before .before .if2 .left e)) (λ l. l) (c .before .before .before .join-slot .ensures .0))
+    let a = c .before .before .before .before .before .before .before .before .before .args in
+    let p = c .before .before .before .before .before .before .before .before .before .pre in
+    let l = c .before .before .before .before .before .before .before .loop in
+    ⊎-elim
+    (λ w.
+    narrowed-as (w .3) (w .4) (w .5)
+    (next-T (a .f) (a .n) (a .xs .now) (p .1) (p .2) (p .4) (l .j) (l .m) (l .v) (l .i) (l .inv) (c .before .before .before .before .before .before .loop-test .taken) (byte (c .before .before .before)) (shape (c .before .before)) (nine (c .before) (w .0 .taken)) (w .1 .result)
+    (λ t h. rw (s-is (c .before .before)) at (w .1 .ensures .1 t h)) (⊎-elim (λ e. absurd (w .2 .left e)) (λ l. l) (w .1 .ensures .0))))
+    (λ w.
+    narrowed-as (w .3) (w .4) (w .5)
+    (next-other (a .f) (a .n) (a .xs .now) (p .1) (p .2) (p .4) (l .j) (l .m) (l .v) (l .i) (l .inv) (c .before .before .before .before .before .before .loop-test .taken) (byte (c .before .before .before)) (shape (c .before .before)) (w .1 .result) (w .2 .result)
+    (λ t h. rw (of-is (c .before), s-is (c .before .before)) at (w .1 .ensures t h))
+    (λ i h. rw (of-is (c .before), s-is (c .before .before)) at (w .2 .ensures i h))))
+    (c .if2 .came)
 
 allowed-requires : tie.Need-allowed-requires Inv-loop μ-loop
 allowed-requires c κs = c .before .loop .inv .join
@@ -156,4 +161,4 @@ returns-3 c =
     finish (a .f) (a .n) (a .xs .now) (p .1) (p .2) (p .4) (l .j) (l .m) (l .v) (l .i) (l .inv) (c .before .loop-test .left) (c .allowed .result) (c .allowed .ensures)
 
 pub fit-spec : {M : Type 1} → statement M
-fit-spec = tie.close (tie.spec Inv-loop μ-loop loop-holds mul-digit add-digit digit-requires shared-slice-read-component component-requires returns mul-digit-2 add-digit-2 add-digit-3 digit-requires-2 join-slot-requires returns-2 set-slot-requires second-slot-requires add-i loop-less loop-again allowed-requires returns-3)
+fit-spec = tie.close (tie.spec Inv-loop μ-loop loop-holds shared-slice-read-x mul-digit add-digit digit-requires component-requires returns mul-digit-2 add-digit-2 add-digit-3 digit-requires-2 join-requires returns-2 reached-requires second-slot-requires add-i loop-less loop-again allowed-requires returns-3)

@@ -48,10 +48,10 @@ returns c =
     let a = c .before .before .before .before .args in
     let p = c .before .before .before .before .pre in
     let w = c .before .digit2 .ensures in
-    rw (start-is (c .before .before)) (result-is (a .f) (a .n) (p .1) (p .2) (a .t) (a .i) (a .t) (p .4) (sym (rw (eq-eqb (digitOf (a .f) 10) 7 (sym w ∙ c .if1 .taken)))))
+    rw (start-is (c .before .before)) (result-is (a .f) (a .n) (p .1) (p .2) (a .t) (a .i) (a .t) (p .4) (sym (rw (eq-eqb (digitOf (a .f) 10) 9 (sym w ∙ c .if1 .taken)))))
 
 add-result-2 : tie.Need-add-result-2
-add-result-2 c = let l = small (c .before .before) in let a = c .before .before .before .before .args in let p = c .before .before .before .before .pre in let w = c .before .digit2 .ensures in let h = result-component (a .f) (a .n) (p .1) (p .2) in omega arith
+add-result-2 c = let l = small (c .before .before) in let a = c .before .before .before .before .args in let p = c .before .before .before .before .pre in let w = c .before .digit2 .ensures in let n = c .if1 .left in let h = result-component (a .f) (a .n) (p .1) (p .2) (λ e. n (w ∙ e)) in omega arith
 
 returns-2 : tie.Need-returns-2
 returns-2 c =
@@ -59,8 +59,8 @@ returns-2 c =
     let p = c .before .before .before .before .pre in
     let w = c .before .digit2 .ensures in
     let h = c .if1 .left in
-    let l = result-component (a .f) (a .n) (p .1) (p .2) in
-    rw (start-is (c .before .before), w) (result-is (a .f) (a .n) (p .1) (p .2) (a .t) (a .i) (digitOf (a .f) 10) (omega arith) (sym (rw (ne-eqb (digitOf (a .f) 10) 7 (λ e. h (w ∙ e))))))
+    let l = result-component (a .f) (a .n) (p .1) (p .2) (λ e. h (w ∙ e)) in
+    rw (start-is (c .before .before), w) (result-is (a .f) (a .n) (p .1) (p .2) (a .t) (a .i) (digitOf (a .f) 10) (omega arith) (sym (rw (ne-eqb (digitOf (a .f) 10) 9 (λ e. h (w ∙ e))))))
 
 pub result-of-spec : {M : Type 1} → statement M
 result-of-spec = tie.close (tie.spec digit-requires start-requires add-digit digit-requires-2 add-result returns add-result-2 returns-2)

@@ -10,7 +10,8 @@ use lib.Dec.{T}
 use lib.ListN.{length}
 use borrow.Author.Tests.{eq-eqb, ne-eqb}
 use Rattle.overload.specs.Rows.{Size}
-use Rattle.overload.specs.inner.Code.{operand, sizeOfNo, memSize, sizesOf, familyOf, digitOf, sizeAt, has, member, setOf, entry, firstX, lastX}
+use Rattle.overload.specs.inner.Code.{operand, sizeOfNo, memSize, sizesOf, familyOf, digitOf, sizeAt, bit, has, member, setOf, entry, firstX, lastX}
+use Rattle.overload.proofs.Sets.{common-small}
 use Rattle.overload.proofs.Fitting.{sizeOfXs}
 use Rattle.overload.proofs.Resolving.{size-is, count-digit, not-so-many, not-that-size, not-at-T, not-at-I, T-small, I-small, it-fits}
 use Rattle.overload.proofs.try_family.Statement.{statement}
@@ -54,7 +55,7 @@ sizes-line-requires : tie.Need-sizes-line-requires
 sizes-line-requires c κs = search needs
 
 -- whether it is one of the family's
-listed : (c : tie.After-sizes-line) → has (c .sizes-line .result) (c .before .size-at .result) ≡ memSize (sizeOfNo (c .before .size-at .result)) (familyOf (c .before .before .before .before .before .before .before .before .args .f) .sizes)
+listed : (c : tie.After-sizes-line) → bit (c .sizes-line .result) (c .before .size-at .result) ≡ memSize (sizeOfNo (c .before .size-at .result)) (familyOf (c .before .before .before .before .before .before .before .before .args .f) .sizes)
 listed c =
     c .sizes-line .ensures .within (c .before .size-at .result) (c .before .size-at .ensures .1)
     ∙ ap (memSize (sizeOfNo (c .before .size-at .result))) (c .before .before .before .before .before .before .family-word .ensures .sizes)
@@ -66,13 +67,13 @@ shr-if2 : tie.Need-shr-if2
 shr-if2 c = let l = c .before .size-at .ensures .1 in omega arith
 
 returns-2 : tie.Need-returns-2
-unfolding has
+unfolding bit
 returns-2 c =
     let a = c .before .before .before .before .before .before .before .before .before .args in
     not-that-size (a .f) (a .xs .now) (c .before .before .size-at .result) (size (c .before .before)) (sym (listed (c .before)) ∙ ne-eqb _ 1 (c .if2 .taken))
 
 inside : (c : tie.Else2) → T (memSize (sizeOfNo (c .before .before .size-at .result)) (familyOf (c .before .before .before .before .before .before .before .before .before .args .f) .sizes))
-unfolding has
+unfolding bit
 inside c = subst T (listed (c .before)) (rw (eq-eqb _ 1 (c .if2 .left)) tt)
 
 starts-at-requires : tie.Need-starts-at-requires
@@ -91,7 +92,7 @@ set-is : (c : tie.After-set-line) → (t : ℕ) → t < 7 → has (c .set-line .
 set-is c t h = c .set-line .ensures .within t h ∙ ap (member t) (c .before .before .before .before .before .before .before .before .before .before .family-word .ensures .set)
 
 first-of-requires : tie.Need-first-of-requires
-first-of-requires c κs = search needs
+first-of-requires c κs = common-small _ _ (c .before .set-line .ensures .small)
 
 returns-3 : tie.Need-returns-3
 returns-3 c =
@@ -109,7 +110,7 @@ second-is : (c : tie.After-set-line2) → (i : ℕ) → i < 7 → has (c .set-li
 second-is c i h = c .set-line2 .ensures .within i h ∙ ap (member i) (c .before .before .before .before .before .before .before .before .before .before .before .before .before .before .family-word .ensures .second)
 
 first-of-requires-2 : tie.Need-first-of-requires-2
-first-of-requires-2 c κs = search needs
+first-of-requires-2 c κs = common-small _ _ (c .before .set-line2 .ensures .small)
 
 returns-4 : tie.Need-returns-4
 returns-4 c =

@@ -67,7 +67,7 @@ sizeLists =
 abbrev pub sizesOf : ℕ → List Size
 sizesOf k = getD sizeLists k []
 
--- PATTERNS: the number of the form, and that of the component, which is a scalar's, 7 for T, 8 for I, 9 for what follows T
+-- PATTERNS: the number of the form, and that of the component, which is a scalar's, 7 for I, 8 for what follows T, 9 for T
 
 unfoldable pub formNo : Form → ℕ
 formNo sized = 0
@@ -82,13 +82,13 @@ unfoldable pub formOfNo : ℕ → Form
 formOfNo k = getD (sized ∷ single ∷ vecC ∷ vecR ∷ left ∷ right ∷ turned ∷ []) k sized
 
 unfoldable pub componentNo : Component → ℕ
-componentNo ofT = 7
-componentNo ofI = 8
-componentNo expT = 9
+componentNo ofT = 9
+componentNo ofI = 7
+componentNo expT = 8
 componentNo (just s) = s
 
 unfoldable pub componentOfNo : ℕ → Component
-componentOfNo k = cond (eqb k 7) ofT (cond (eqb k 8) ofI (cond (eqb k 9) expT (just k)))
+componentOfNo k = cond (eqb k 9) ofT (cond (eqb k 7) ofI (cond (eqb k 8) expT (just k)))
 
 abbrev pub patternOf : ℕ → ℕ → Pattern
 patternOf form of = record { form = formOfNo form; of = componentOfNo of }
@@ -102,10 +102,21 @@ wrapNo inModf = 2
 unfoldable pub askedOf : ℕ → ℕ → ℕ
 askedOf form n = shapeNo (formAt (formOfNo form) (sizeOfNo n))
 
--- SETS OF SCALARS: the scalar s stands in the set w where bit s of w is set
+-- SETS as numbers, a bit for each member: of scalars, their places in the order of preference; of sizes, their numbers
+
+unfoldable pub bit : ℕ → ℕ → Bool
+bit w k = eqb (w / 2 ^ k % 2) 1
+
+-- bool, AbstractInt, i32, u32, AbstractFloat, f32, f16
+abbrev pub preference : List ℕ
+preference = 0 ∷ 1 ∷ 3 ∷ 4 ∷ 2 ∷ 5 ∷ 6 ∷ []
+
+-- the place of a scalar in it
+abbrev pub placeOfScalar : ℕ → ℕ
+placeOfScalar s = getD (0 ∷ 1 ∷ 4 ∷ 2 ∷ 3 ∷ 5 ∷ 6 ∷ []) s 7
 
 unfoldable pub has : ℕ → ℕ → Bool
-has w s = eqb (w / 2 ^ s % 2) 1
+has w s = bit w (placeOfScalar s)
 
 unfoldable pub member : ℕ → List ℕ → Bool
 member t [] = false
@@ -126,10 +137,6 @@ reaches s t = ltb (rankOf s t) none
 unfoldable pub firstOf : List ℕ → (ℕ → Bool) → ℕ
 firstOf [] g = none
 firstOf (t ∷ ts) g = pick (g t) t (firstOf ts g)
-
--- bool, AbstractInt, i32, u32, AbstractFloat, f32, f16
-abbrev pub preference : List ℕ
-preference = 0 ∷ 1 ∷ 3 ∷ 4 ∷ 2 ∷ 5 ∷ 6 ∷ []
 
 -- FAMILIES: those of all rows, one after the other
 
@@ -269,18 +276,19 @@ pub record Starts (n w : ℕ) : Type 0 where
 
 -- w is the line of a list of sizes: a bit for each size of it
 pub record Sizes (k w : ℕ) : Type 0 where
-  pub within : (n : ℕ) → n < 41 → has w n ≡ memSize (sizeOfNo n) (sizesOf k)
+  pub within : (n : ℕ) → n < 41 → bit w n ≡ memSize (sizeOfNo n) (sizesOf k)
 
 -- w is the line of a set: a bit for each scalar of it
 pub record Scalars (k w : ℕ) : Type 0 where
+  pub small : w < 128
   pub within : (s : ℕ) → s < 7 → has w s ≡ member s (setOf k)
 
 -- the sets of T and of I at which the scalar s converts to a component: where that is I every T will do, where it is another every I
 abbrev pub slotT : ℕ → ℕ → ℕ → Bool
-slotT of s t = or (eqb of 8) (reaches s (componentAt (componentOfNo of) t 0))
+slotT of s t = or (eqb of 7) (reaches s (componentAt (componentOfNo of) t 0))
 
 abbrev pub slotI : ℕ → ℕ → ℕ → Bool
-slotI of s i = or (not (eqb of 8)) (reaches s i)
+slotI of s i = or (not (eqb of 7)) (reaches s i)
 
 -- w is the line of a component: by scalar, the set of T
 pub record Reached (of w : ℕ) : Type 0 where

@@ -10,7 +10,7 @@ use Rattle.overload.proofs.tables.reached_at.Statement.{statement}
 use Rattle.overload.proofs.tables.reached_at.Tie as tie
 
 pub reached-at-spec : {M : Type 1} → statement M
-unfolding both or same rankOf componentAt code.has code.componentOfNo
+unfolding both or same rankOf componentAt code.bit code.has code.componentOfNo
 reached-at-spec =
     tie.close
     (tie.spec
@@ -22,5 +22,4 @@ reached-at-spec =
     (λ c. reached-line 5 tt (c .match .keys6))
     (λ c. reached-line 6 tt (c .match .keys7))
     (λ c. reached-line 7 tt (c .match .keys8))
-    (λ c. reached-line 8 tt (c .match .keys9))
-    (λ c. reached-line 9 tt (let l = above 9 _ (c .match .rest) in omega arith)))
+    (λ c. reached-line 8 tt (let l = above 8 _ (c .match .rest) in omega arith)))

@@ -1,16 +1,15 @@
 -- `overload::tables::set_line` meets its contract: a line for each set, whose bits antt computes. Assumes nothing.
-use lib.ListN.{length}
+use native.Mathlib.Omega.{arith}
 use Rattle.conv.specs.Rank.{both}
 use Rattle.conv.proofs.Finite.{same, above}
 use Rattle.overload.specs.Overload.{or}
 use Rattle.overload.specs.inner.Code as code
-use Rattle.overload.specs.inner.Code.{sets}
 use Rattle.overload.proofs.Lines.{set-line, no-set-line}
 use Rattle.overload.proofs.tables.set_line.Statement.{statement}
 use Rattle.overload.proofs.tables.set_line.Tie as tie
 
 pub set-line-spec : {M : Type 1} → statement M
-unfolding both or same code.has code.member
+unfolding both or same code.bit code.has code.member
 set-line-spec =
     tie.close
     (tie.spec
@@ -24,4 +23,10 @@ set-line-spec =
     (λ c. set-line 7 tt (c .match .keys8))
     (λ c. set-line 8 tt (c .match .keys9))
     (λ c. set-line 9 tt (c .match .keys10))
-    (λ c. no-set-line tt (above (length sets) _ (c .match .rest))))
+    (λ c. set-line 10 tt (c .match .keys11))
+    (λ c. set-line 11 tt (c .match .keys12))
+    (λ c. set-line 12 tt (c .match .keys13))
+    (λ c. set-line 13 tt (c .match .keys14))
+    (λ c. set-line 14 tt (c .match .keys15))
+    (λ c. set-line 15 tt (c .match .keys16))
+    (λ c. no-set-line tt (let l = above 16 _ (c .match .rest) in omega arith)))

@@ -1,16 +1,15 @@
 -- `overload::tables::sizes_line` meets its contract: a line for each list of sizes, whose bits antt computes. Assumes nothing.
-use lib.ListN.{length}
+use native.Mathlib.Omega.{arith}
 use Rattle.conv.specs.Rank.{both}
 use Rattle.conv.proofs.Finite.{same, above}
 use Rattle.overload.specs.Overload.{or}
 use Rattle.overload.specs.inner.Code as code
-use Rattle.overload.specs.inner.Code.{sizeLists}
 use Rattle.overload.proofs.Lines.{sizes-line, no-sizes-line}
 use Rattle.overload.proofs.tables.sizes_line.Statement.{statement}
 use Rattle.overload.proofs.tables.sizes_line.Tie as tie
 
 pub sizes-line-spec : {M : Type 1} → statement M
-unfolding both or same code.has code.shapeOfNo code.sizeOfNo code.sameSize code.memSize
+unfolding both or same code.bit code.has code.shapeOfNo code.sizeOfNo code.sameSize code.memSize
 sizes-line-spec =
     tie.close
     (tie.spec
@@ -24,4 +23,10 @@ sizes-line-spec =
     (λ c. sizes-line 7 tt (c .match .keys8))
     (λ c. sizes-line 8 tt (c .match .keys9))
     (λ c. sizes-line 9 tt (c .match .keys10))
-    (λ c. no-sizes-line tt (above (length sizeLists) _ (c .match .rest))))
+    (λ c. sizes-line 10 tt (c .match .keys11))
+    (λ c. sizes-line 11 tt (c .match .keys12))
+    (λ c. sizes-line 12 tt (c .match .keys13))
+    (λ c. sizes-line 13 tt (c .match .keys14))
+    (λ c. sizes-line 14 tt (c .match .keys15))
+    (λ c. sizes-line 15 tt (c .match .keys16))
+    (λ c. no-sizes-line tt (let l = above 16 _ (c .match .rest) in omega arith)))
