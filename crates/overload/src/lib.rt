@@ -3,6 +3,7 @@
 // Each operand gives the set of T at which it fits, a bit for each scalar; the first of their common T, in the order of preference, is the answer's.
 mod tables;
 
+use cast::wide;
 use conv::NONE;
 use conv::PLAINS;
 use conv::SCALARS;
@@ -289,12 +290,6 @@ fn try_family(f: u64, a: u8, b: u8, xs: &[u8]) -> Tried
         return Tried::Not;
     }
     Tried::Fits(out_of(f, w, n, starts, t, i))
-}
-
-fn wide(x: u8) -> usize
-    ensures { λ r. ⌜ r ≡ x ⌝ }
-{
-    x as usize
 }
 
 // How many operands the overloads of a row take.
