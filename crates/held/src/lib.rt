@@ -1,4 +1,4 @@
-// A value of the sheet's stack. This crate alone knows how a value holds the number of its type.
+// A value of the sheet's stack: made of a type's number, and read back.
 use answer::TypeNo;
 ghost use mathlib.Core.Path.{_≡_};
 ghost use Prim.Native.Nat.{_<_, _^_};
