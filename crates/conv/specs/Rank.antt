@@ -152,7 +152,7 @@ elementOf (modf t) = t
 abbrev pub headed : Ty → ℕ → ℕ → ℕ → Bool
 headed u tag a b = both (eqb (tagOf u) tag) (both (eqb (firstOf u) a) (eqb (secondOf u) b))
 
--- the two are one type
+-- the two are one type: true exactly where they are equal (`same-ty` and `self-ty` in `proofs/Made.antt`)
 unfoldable pub sameTy : Ty → Ty → Bool
 sameTy (scalar s) u = headed u 0 s 0
 sameTy (vec n s) u = both (headed u 1 n 0) (eqb (componentOf u) s)

@@ -22,7 +22,7 @@ use Rattle.overload.specs.Overload.Judged.{gives, noneFits, nonePreferre
 use Rattle.overload.specs.Rows.{Size, Component, Pattern, Family, Row, formAt, componentAt, patternTy, overload, ofFamily, rows, noRow, overloadsOf, ofRow, rowAt}
 use Rattle.overload.specs.Rows.Component.{ofT, ofI, expT, just}
 use Rattle.overload.specs.inner.Code as code
-use Rattle.overload.specs.inner.Code.{member, firstOf, preference, reaches, noFamily, formsAt, placeOf, stopOf, noPlace}
+use Rattle.overload.specs.inner.Code.{member, firstWith, preference, reaches, noFamily, formsAt, placeOf, stopOf, noPlace}
 use Rattle.overload.proofs.Preference.{Sized, Upto, Beats, beats-T, beats-I, fine, allFine, isI, some, isT, one-only, not-before, or-cases, or-left, or-right, form-small, from-small}
 use Rattle.overload.proofs.First.{none-passes, first-passes, first-upto}
 use Rattle.overload.proofs.Families.{Good, Fair, good-in, every, every-at, every-in}
@@ -80,16 +80,16 @@ module _ (f : Family) (g : Good f) (xs : List Ty) where
         }
 
     -- no T, or no I
-    pub no-T : firstOf preference (takes (f .set) P) ≡ none → Resolved (listed (ofFamily f)) xs noneFits
+    pub no-T : firstWith preference (takes (f .set) P) ≡ none → Resolved (listed (ofFamily f)) xs noneFits
     unfolding Resolved
     no-T n p m h = let q = here p m h in none-passes (takes (f .set) P) n (q .t) (q .ht) (q .inT)
 
-    pub no-I : firstOf preference (takes (f .second) Q) ≡ none → Resolved (listed (ofFamily f)) xs noneFits
+    pub no-I : firstWith preference (takes (f .second) Q) ≡ none → Resolved (listed (ofFamily f)) xs noneFits
     unfolding Resolved
     no-I n p m h = let q = here p m h in none-passes (takes (f .second) Q) n (q .i) (q .hi) (q .inI)
 
     -- the overload of the first T and the first I
-    module _ (t i : ℕ) (et : firstOf preference (takes (f .set) P) ≡ t) (ei : firstOf preference (takes (f .second) Q) ≡ i) (nt : t ≢ none) (ni : i ≢ none) where
+    module _ (t i : ℕ) (et : firstWith preference (takes (f .set) P) ≡ t) (ei : firstWith preference (takes (f .second) Q) ≡ i) (nt : t ≢ none) (ni : i ≢ none) where
       inT : T (takes (f .set) P t)
       inT = subst (λ (k : ℕ). T (takes (f .set) P k)) et (first-passes (takes (f .set) P) (λ q. nt (sym et ∙ q)))
 
@@ -215,10 +215,10 @@ family-preferred f g xs p m h = go (eqb t none) refl (eqb i none) refl
     law t i a b = parts z t i (f .params) xs
 
     t : ℕ
-    t = firstOf preference (takes (f .set) P)
+    t = firstWith preference (takes (f .set) P)
 
     i : ℕ
-    i = firstOf preference (takes (f .second) Q)
+    i = firstWith preference (takes (f .second) Q)
 
     go : (a : Bool) → eqb t none ≡ a → (b : Bool) → eqb i none ≡ b → (o : Overload) × Preferred (listed (ofFamily f)) xs o
     go true a b c = absurd (no-T f g xs z e (q .inSizes) P Q law (eqb-true t none a) p m h)

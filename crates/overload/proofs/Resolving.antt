@@ -24,7 +24,7 @@ use Rattle.overload.specs.Rows.Form.{sized, left}
 use Rattle.overload.specs.Rows.Component.{ofT, ofI, expT, just}
 use Rattle.overload.specs.Rows.Wrap.{bare, inFrexp, inModf}
 use Rattle.overload.specs.inner.Code as code
-use Rattle.overload.specs.inner.Code.{shapeOfNo, shapeNo, operand, sizeNo, sizeOfNo, sameSize, memSize, sizesOf, formNo, formOfNo, componentNo, wrapNo, askedOf, familyOf, firstParam, lastParam, pivotNo, sizeAt, encode, digitOf, has, member, setOf, firstOf, preference, fitsAt, firstX, lastX, formsOf, placeOf, stopOf, noPlace, outOf, triedOf, judgedOf}
+use Rattle.overload.specs.inner.Code.{shapeOfNo, shapeNo, operand, sizeNo, sizeOfNo, sameSize, memSize, sizesOf, formNo, formOfNo, componentNo, wrapNo, askedOf, familyOf, firstParam, lastParam, pivotNo, sizeAt, encode, digitOf, has, member, setOf, firstWith, preference, fitsAt, firstX, lastX, formsOf, placeOf, stopOf, noPlace, outOf, triedOf, judgedOf}
 use Rattle.overload.specs.declared.Out.{Out}
 use Rattle.overload.specs.declared.Tried.{Tried}
 use Rattle.overload.specs.declared.Tried.the-variants.{Fits, Not}
@@ -245,23 +245,23 @@ module _ (f : ℕ) (xs : List ℕ) where
       m = mem-size (sizeOfNo n) (familyOf f .sizes) mn
 
       -- the first of the common part of two sets
-      first-in : (set : List ℕ) (a s : ℕ) → ((t : ℕ) → t < 7 → has a t ≡ member t set) → firstOf preference (takes set (has s)) ≡ firstOf preference (has (bitAnd a s))
+      first-in : (set : List ℕ) (a s : ℕ) → ((t : ℕ) → t < 7 → has a t ≡ member t set) → firstWith preference (takes set (has s)) ≡ firstWith preference (has (bitAnd a s))
       first-in set a s e = same-first _ _ (λ t h. ap (λ (c : Bool). both c (has s t)) (sym (e t h)) ∙ sym (has-and a s t))
 
-      pub not-at-T : (a : ℕ) → ((t : ℕ) → t < 7 → has a t ≡ member t (familyOf f .set)) → firstOf preference (has (bitAnd a P)) ≡ none → Family-judged f xs Not
+      pub not-at-T : (a : ℕ) → ((t : ℕ) → t < 7 → has a t ≡ member t (familyOf f .set)) → firstWith preference (has (bitAnd a P)) ≡ none → Family-judged f xs Not
       unfolding triedOf
       not-at-T a ea q = no-T (familyOf f) (good f) (map operand xs) (sizeOfNo n) e m (has P) (has Q) law (first-in (familyOf f .set) a P ea ∙ q)
 
-      pub not-at-I : (b : ℕ) → ((i : ℕ) → i < 7 → has b i ≡ member i (familyOf f .second)) → firstOf preference (has (bitAnd b Q)) ≡ none → Family-judged f xs Not
+      pub not-at-I : (b : ℕ) → ((i : ℕ) → i < 7 → has b i ≡ member i (familyOf f .second)) → firstWith preference (has (bitAnd b Q)) ≡ none → Family-judged f xs Not
       unfolding triedOf
       not-at-I b eb q = no-I (familyOf f) (good f) (map operand xs) (sizeOfNo n) e m (has P) (has Q) law (first-in (familyOf f .second) b Q eb ∙ q)
 
       module _ (a b : ℕ) (ea : (t : ℕ) → t < 7 → has a t ≡ member t (familyOf f .set)) (eb : (i : ℕ) → i < 7 → has b i ≡ member i (familyOf f .second))
-          (t i : ℕ) (et : t ≡ firstOf preference (has (bitAnd a P))) (ei : i ≡ firstOf preference (has (bitAnd b Q))) (nt : t ≢ none) (ni : i ≢ none) where
-        first-T : firstOf preference (takes (familyOf f .set) (has P)) ≡ t
+          (t i : ℕ) (et : t ≡ firstWith preference (has (bitAnd a P))) (ei : i ≡ firstWith preference (has (bitAnd b Q))) (nt : t ≢ none) (ni : i ≢ none) where
+        first-T : firstWith preference (takes (familyOf f .set) (has P)) ≡ t
         first-T = first-in (familyOf f .set) a P ea ∙ sym et
 
-        first-I : firstOf preference (takes (familyOf f .second) (has Q)) ≡ i
+        first-I : firstWith preference (takes (familyOf f .second) (has Q)) ≡ i
         first-I = first-in (familyOf f .second) b Q eb ∙ sym ei
 
         pub T-small : t < 7

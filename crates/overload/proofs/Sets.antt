@@ -11,7 +11,7 @@ use Rattle.conv.specs.Rank.{both, none}
 use Rattle.overload.specs.Overload.{or}
 use Rattle.overload.proofs.Preference.{or-cases}
 use Rattle.conv.proofs.Finite.{same, same-eq, below, below₂}
-use Rattle.overload.specs.inner.Code.{bit, has, placeOfScalar, firstOf, preference}
+use Rattle.overload.specs.inner.Code.{bit, has, placeOfScalar, firstWith, preference}
 
 bitTest : ℕ → ℕ → Bool
 bitTest a b = same (eqb (bitAnd a b) 1) (both (eqb a 1) (eqb b 1))
@@ -49,19 +49,19 @@ has-all s h = same-eq (has 127 s) true (below 7 (λ s. same (has 127 s) true) tt
 
 -- THE FIRST of a set, in the order of preference: the lowest bit
 firstTest : ℕ → Bool
-firstTest w = or (eqb w 0) (eqb (1747144 / 2 ^ (3 * trailingZeros 64 w) % 8) (firstOf preference (has w)))
+firstTest w = or (eqb w 0) (eqb (1747144 / 2 ^ (3 * trailingZeros 64 w) % 8) (firstWith preference (has w)))
 
 first-tests : (w : ℕ) → w < 128 → T (firstTest w)
-unfolding firstTest or both has bit firstOf trailingZeros
+unfolding firstTest or both has bit firstWith trailingZeros
 first-tests w h = below 128 firstTest tt w h
 
-pub lowest-first : (w : ℕ) → w < 128 → w ≢ 0 → 1747144 / 2 ^ (3 * trailingZeros 64 w) % 8 ≡ firstOf preference (has w)
+pub lowest-first : (w : ℕ) → w < 128 → w ≢ 0 → 1747144 / 2 ^ (3 * trailingZeros 64 w) % 8 ≡ firstWith preference (has w)
 unfolding firstTest
 lowest-first w h n = ⊎-elim (λ e. absurd (n (eqb→eq w 0 e))) (λ e. eqb→eq _ _ e) (or-cases (eqb w 0) _ (first-tests w h))
 
-pub none-first : (w : ℕ) → w ≡ 0 → none ≡ firstOf preference (has w)
-unfolding firstOf has bit
-none-first w e = sym (ap (λ (k : ℕ). firstOf preference (has k)) e)
+pub none-first : (w : ℕ) → w ≡ 0 → none ≡ firstWith preference (has w)
+unfolding firstWith has bit
+none-first w e = sym (ap (λ (k : ℕ). firstWith preference (has k)) e)
 
 -- a number of 64 bits has at most 64 zeros below its lowest bit; a set of scalars that is not empty at most 6
 pub lowest-small : (w : ℕ) → trailingZeros 64 w ≤ 64

@@ -22,8 +22,8 @@ pub record Size : Type 0 where
 abbrev pub size : Shape → Size
 size s = record { shape = s; inner = 0 }
 
-abbrev pub over : (ℕ → List Size) → List Size
-over f = f 2 ++ (f 3 ++ f 4)
+abbrev pub atWidths : (ℕ → List Size) → List Size
+atWidths f = f 2 ++ (f 3 ++ f 4)
 
 abbrev pub scalars : List Size
 scalars = size one ∷ []
@@ -32,25 +32,25 @@ abbrev pub width : ℕ → List Size
 width n = size (vector n) ∷ []
 
 abbrev pub vectors : List Size
-vectors = over width
+vectors = atWidths width
 
 -- "wide" means scalar or vector
 abbrev pub wides : List Size
 wides = scalars ++ vectors
 
 abbrev pub matrices : List Size
-matrices = over (λ c. over (λ r. size (matrix c r) ∷ []))
+matrices = atWidths (λ c. atWidths (λ r. size (matrix c r) ∷ []))
 
 -- the same, by rows first
 abbrev pub matricesByRows : List Size
-matricesByRows = over (λ r. over (λ c. size (matrix c r) ∷ []))
+matricesByRows = atWidths (λ r. atWidths (λ c. size (matrix c r) ∷ []))
 
 abbrev pub squares : List Size
-squares = over (λ n. size (matrix n n) ∷ [])
+squares = atWidths (λ n. size (matrix n n) ∷ [])
 
 -- matKxR by matCxK, in the order of K, R, C
 abbrev pub products : List Size
-products = over (λ k. over (λ r. over (λ c. record { shape = matrix c r; inner = k } ∷ [])))
+products = atWidths (λ k. atWidths (λ r. atWidths (λ c. record { shape = matrix c r; inner = k } ∷ [])))
 
 -- A PATTERN: a shape at the size, and its component
 

@@ -17,7 +17,7 @@ ghost use lib.Dec.{T, eqb};
 ghost use Rattle.conv.specs.Rank.{pick, both, none, formOf};
 ghost use Rattle.overload.specs.Overload.{Resolved, listed, or};
 ghost use Rattle.overload.specs.Rows.{ofFamily, patternTy, wrapped, judgeRow, rowAt, operandCount};
-ghost use Rattle.overload.specs.inner.Code.{shapeOfNo, operand, sizeOfNo, memSize, askedOf, familyOf, digitOf, sizeAt, sizesOf, has, firstOf, preference, reaches, allows, slotT, slotI, fitsAt, firstX, lastX, Word, Starts, outOf, triedOf, judgedOf};
+ghost use Rattle.overload.specs.inner.Code.{shapeOfNo, operand, sizeOfNo, memSize, askedOf, familyOf, digitOf, sizeAt, sizesOf, has, firstWith, preference, reaches, allows, slotT, slotI, fitsAt, firstX, lastX, Word, Starts, outOf, triedOf, judgedOf};
 
 // The digits of a family: the count of its parameters, its first parameter, its result, its wrapping, by which operands its size is found.
 const COUNT: usize = 0;
@@ -228,7 +228,7 @@ fn fit(f: u64, w: u64, n: u8, starts: u64, xs: &[u8]) -> Choices
 // The first scalar of a set, in the order of preference, or NONE.
 fn first_of(w: u64) -> u8
     requires { ⌜ w < 128 ⌝ }
-    ensures { λ r. ⌜ r ≡ firstOf preference (has w) ⌝ }
+    ensures { λ r. ⌜ r ≡ firstWith preference (has w) ⌝ }
 {
     if w == 0 {
         return NONE;

@@ -27,7 +27,7 @@ use Rattle.table.proofs.EnterLaws.{allow, allow-vec, allow-mat, ty-made}
 use Rattle.table.proofs.EnterTwoLaws.{holder}
 use Rattle.table.proofs.PlacingLaws.{enter-outcome, enter-two-outcome, standing-outcome}
 use Rattle.table.proofs.Giving.{gave}
-use Rattle.ruled.specs.Result.{vecEntry, matEntry, resultEntry, ResultDone, PlainDone}
+use Rattle.ruled.specs.inner.Result.{vecEntry, matEntry, resultEntry, ResultDone, PlainDone}
 use Rattle.ruled.proofs.Codes.{operand-scalar, operand-vec, operand-mat, operand-other}
 
 split : {P : Type 0} (b : Bool) → (b ≡ true → P) → (b ≡ false → P) → P

@@ -1,3 +1,3 @@
 pub mod Call
 pub mod Demand3
-pub mod Result
+pub mod inner

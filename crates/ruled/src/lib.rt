@@ -22,7 +22,7 @@ ghost use Rattle.table.specs.Denote.{typeAt};
 ghost use Rattle.table.specs.Placing.{Gave, entering};
 ghost use Rattle.table.specs.declared.Entry.{Entry};
 ghost use Rattle.ruled.specs.Call.{judgedOutcome};
-ghost use Rattle.ruled.specs.Result.{ResultDone, PlainDone};
+ghost use Rattle.ruled.specs.inner.Result.{ResultDone, PlainDone};
 
 // The number of a reference, and of any other type that is neither scalar nor vector nor matrix.
 pub const REFERENCE: u8 = 98;

@@ -134,9 +134,9 @@ abbrev pub reaches : ℕ → ℕ → Bool
 reaches s t = ltb (rankOf s t) none
 
 -- the first of a list that passes a test, or 255
-unfoldable pub firstOf : List ℕ → (ℕ → Bool) → ℕ
-firstOf [] g = none
-firstOf (t ∷ ts) g = pick (g t) t (firstOf ts g)
+unfoldable pub firstWith : List ℕ → (ℕ → Bool) → ℕ
+firstWith [] g = none
+firstWith (t ∷ ts) g = pick (g t) t (firstWith ts g)
 
 -- FAMILIES: those of all rows, one after the other
 

@@ -1,6 +1,6 @@
 -- `ruled::enter_result` meets its contract: over a scalar one entry, over a vector the vector and its container. Assumes nothing.
 use borrow.Author.Needs.{needs}
-use Rattle.ruled.specs.Result.{vecEntry}
+use Rattle.ruled.specs.inner.Result.{vecEntry}
 use Rattle.ruled.proofs.Outcomes.{result-scalar, result-vec}
 use Rattle.ruled.proofs.enter_result.Statement.{statement}
 use Rattle.ruled.proofs.enter_result.Tie as tie
