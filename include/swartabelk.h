@@ -5,7 +5,7 @@
  * count afterwards, and the next call is given that. No entry that was there moves or changes. A refused call changes no word; a refused sheet keeps what
  * its accepted items entered.
  *
- * Each function answers for any numbers and any bytes: what is wrong is refused. It allocates nothing, keeps nothing and calls nothing but memset.
+ * Each function answers for any numbers and any bytes: what is wrong is refused. It allocates nothing, keeps nothing and calls nothing but memset and memcpy.
  *
  * What the host owes: each pointer with its length names memory that may be read, and written where the pointer is not to const. Memory that is written
  * lies apart from all other memory that is lent to the same call. A pointer is not NULL, even where its length is 0: any other pointer will do then.
