@@ -53,7 +53,7 @@ unfolding allFormed formed
 first-formed [] f = refl
 first-formed (t ∷ ts) f = and-left (formed t) _ f
 
-module _ (profile place : ℕ) (w : List ℕ) (n : ℕ) (ts us : List Ty) (ft : allFormed ts ≡ true) (fu : allFormed us ≡ true) where
+module _ (place : ℕ) (w : List ℕ) (n : ℕ) (ts us : List Ty) (ft : allFormed ts ≡ true) (fu : allFormed us ≡ true) where
   -- a rule that gives a judgment
   judged : (r : Rule) → (j : Judged) → ((R : Ty) → j ≡ gives R → formed R ≡ true) → (j ≡ nonePreferred → ⊥) → givenBy r ts us ≡ judgment j
       → Ends place w n (rule r) ts us (judgedOutcome place w n j)
@@ -105,8 +105,10 @@ module _ (profile place : ℕ) (w : List ℕ) (n : ℕ) (ts us : List Ty) (ft : 
   rule-call-ends (rule r) k = named-ends r k
   rule-call-ends unknown k = refused Unknown refl (sym (by-unknown place w n ts us))
 
-  pub name-call-ends : (name : List ℕ) → Ends place w n (ruleOf profile name) ts us (byRule place w n (ruleOf profile name) ts us)
-  name-call-ends name = rule-call-ends (ruleOf profile name) (ruling-known profile name)
+-- by a name of a profile
+pub name-call-ends : (profile place : ℕ) (w : List ℕ) (n : ℕ) (ts us : List Ty) → allFormed ts ≡ true → allFormed us ≡ true → (name : List ℕ)
+    → Ends place w n (ruleOf profile name) ts us (byRule place w n (ruleOf profile name) ts us)
+name-call-ends profile place w n ts us ft fu name = rule-call-ends place w n ts us ft fu (ruleOf profile name) (ruling-known profile name)
 
 -- A SINGLE CALL: of a table that is not sound, or of a number not below n, nothing is said but the refusal
 module _ (profile : ℕ) (w : List ℕ) (n : ℕ) (name tplt args : List ℕ) where
