@@ -105,6 +105,7 @@ static void unknown_profile(uint32_t unknown) {
     HOLDS(is(call("storageBarrier", 0, no_types, 0, no_types), 4, NONE, 0, 8));
     HOLDS(is(call1("nosuch", F32), 4, NONE, 0, 8));
     HOLDS(is(call("bitcast", 0, no_types, 1, (uint32_t[]){F32}), 4, NONE, 0, 8));
+    HOLDS(is(call("sqrt", 1, (uint32_t[]){F32}, 1, (uint32_t[]){F32}), 4, NONE, 0, 8));
     HOLDS(is(call("sqrt", 0, no_types, 2, (uint32_t[]){F32, F32}), 4, NONE, 0, 8));
     HOLDS(is(call1("sqrt", r), 4, NONE, 0, 8));
     HOLDS(is(call1("sqrt", BOOL), 4, NONE, 0, 8));
@@ -181,6 +182,7 @@ static void subgroup_sheets(void) {
 void profiles(void) {
     subgroups();
     unknown_profile(2);
+    unknown_profile(256);
     unknown_profile(0xFFFFFFFFu);
     subgroup_sheets();
 }
