@@ -174,8 +174,8 @@ pub fn answer(case: &Case) -> Result<Answer, String> {
     read(&before, &mut table, reply)
 }
 
-/// Holds what profile 1 replied and left to profile 0, which does the same for the names that it has and refuses all others, and to an unknown profile, which
-/// refuses all.
+/// Holds what profile 1 replied and left to profile 0, which does the same for the names that it has and refuses all others, and, where there is one operand or
+/// none, to an unknown profile, which refuses all.
 fn other_profiles(
     before: &Table,
     after: &Table,
@@ -184,14 +184,16 @@ fn other_profiles(
     types: &[u32],
     operands: &[u32],
 ) -> Result<(), String> {
-    const UNKNOWN: u32 = 2;
+    /// Profile 0 and an unknown one.
+    const OTHERS: [u32; 2] = [profile::BASE, 2];
+    let asked = if operands.len() < 2 { 2 } else { 1 };
     let unknown_name = Reply {
         refusal: refusal::UNKNOWN,
         ty: NO_VALUE,
         place: 0,
         used: before.used,
     };
-    for profile in [profile::BASE, UNKNOWN] {
+    for profile in OTHERS.into_iter().take(asked) {
         let mut table = before.clone();
         let other = call(&mut table, profile, name, types, operands);
         let (wanted, left) = if profile == profile::BASE && in_base(name) {
