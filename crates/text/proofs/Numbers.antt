@@ -1,5 +1,5 @@
 -- A text's number, read digit by digit: what is read so far, and what is left. Assumes nothing.
-use Prim.Native.Nat.{ℕ, suc, _+_, _-_, _*_, _≤_, _<_, _^_}
+use Prim.Native.Nat.{ℕ, _+_, _-_, _*_, _≤_, _<_, _^_}
 use mathlib.Core.Path.{_≡_, refl, sym, _∙_, ap}
 use mathlib.Core.Bool.{Bool, true, false, _&&_, cond}
 use mathlib.Core.List.{List, [], _∷_}
@@ -9,7 +9,7 @@ use lib.Dec.{ltb, leb}
 use lib.ListN.{length, getD, drop, drop-of-length-le}
 use lib.Seq.{drop-cons}
 use borrow.Author.Tests.{lt-ltb, le-ltb, le-leb, lt-leb}
-use Rattle.text.specs.Text.{isDigit, allDigits, valueAfter, valueOf, noNumber, numberIn}
+use Rattle.text.specs.Text.{allDigits, valueAfter, valueOf, noNumber, numberIn}
 
 -- the digits before place i make n, which is small enough so far; the rest decides
 pub record Read (s : List ℕ) (i n : ℕ) : Type 0 where

@@ -1,7 +1,6 @@
 -- `text::number_in` meets its contract. The loop's invariant: the digits before `i` are read and make `n`, which has 32 bits. Where a byte is no digit, or
 -- the digits make more, the text is no number whatever follows. Assumes nothing.
 use Prim.Native.Nat.{_-_}
-use native.Mathlib.Omega.{arith}
 use lib.ListN.{length}
 use borrow.Author.Needs.{needs}
 use Rattle.text.proofs.Numbers.{Read, nothing, none-read, all-read, below-zero, above-nine, too-large, digit-read}
