@@ -21,16 +21,16 @@ ends-kept place w n s named ts us o (silent e) = kept-as w n e (kept-none w n)
 ends-kept place w n s named ts us o (valued R r f q g e) = kept-as w n e (kept-entering w n s place R f)
 
 -- on loaded operands, at any place
-pub call-at-kept : (place : ℕ) (w : List ℕ) (n : ℕ) → Sound w n → (name tplt args : List ℕ) → Under n tplt → Under n args
-    → Kept w n (callOutcome place w n name (types w tplt) (types w args))
-call-at-kept place w n s name tplt args ut ua =
-    ends-kept place w n s (ruleOf name) (types w tplt) (types w args) _
-    (name-call-ends place w n (types w tplt) (types w args) (types-formed w n s tplt ut) (types-formed w n s args ua) name)
+pub call-at-kept : (profile place : ℕ) (w : List ℕ) (n : ℕ) → Sound w n → (name tplt args : List ℕ) → Under n tplt → Under n args
+    → Kept w n (callOutcome profile place w n name (types w tplt) (types w args))
+call-at-kept profile place w n s name tplt args ut ua =
+    ends-kept place w n s (ruleOf profile name) (types w tplt) (types w args) _
+    (name-call-ends profile place w n (types w tplt) (types w args) (types-formed w n s tplt ut) (types-formed w n s args ua) name)
 
 -- of any table, name and numbers, at place 0
-pub call-kept : (w : List ℕ) (n : ℕ) (name tplt args : List ℕ) → Kept w n (typeBuiltinFn w n name tplt args)
-call-kept w n name tplt args = go (single-ends w n name tplt args)
+pub call-kept : (profile : ℕ) (w : List ℕ) (n : ℕ) (name tplt args : List ℕ) → Kept w n (typeBuiltinFn profile w n name tplt args)
+call-kept profile w n name tplt args = go (single-ends profile w n name tplt args)
   where
-    go : Single w n name tplt args (typeBuiltinFn w n name tplt args) → Kept w n (typeBuiltinFn w n name tplt args)
+    go : Single profile w n name tplt args (typeBuiltinFn profile w n name tplt args) → Kept w n (typeBuiltinFn profile w n name tplt args)
     go (early reason f e) = kept-as w n e (kept-refused w n reason 0)
-    go (late s x) = ends-kept 0 w n s (ruleOf name) (types w tplt) (types w args) _ x
+    go (late s x) = ends-kept 0 w n s (ruleOf profile name) (types w tplt) (types w args) _ x

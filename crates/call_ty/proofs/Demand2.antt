@@ -41,18 +41,18 @@ module _ (place : ℕ) (w : List ℕ) (n : ℕ) (s : Sound w n) (named : Named) 
   value-typed (valued R r f q g e) t m v h =
       record { by = r; has = q; typed = g ∙ ap (λ (x : Ty). judgment (gives x)) (sym (entering-stands place w n s R f t m v (sym e ∙ h) .stands)) }
 
-pub call-typed : (place : ℕ) (w : List ℕ) (n : ℕ) (s : Sound w n) (name tplt args : List ℕ) → Under n tplt → Under n args → (t : TypeNo) (m : ℕ) (v : List ℕ)
-    → Gave (callOutcome place w n name (types w tplt) (types w args)) (Value t m) v → Typed (ruleOf name) (types w tplt) (types w args) t v
-call-typed place w n s name tplt args ut ua t m v g =
-    value-typed place w n s (ruleOf name) (types w tplt) (types w args) _
-    (name-call-ends place w n (types w tplt) (types w args) (types-formed w n s tplt ut) (types-formed w n s args ua) name) t m v (whole _ _ v g)
+pub call-typed : (profile place : ℕ) (w : List ℕ) (n : ℕ) (s : Sound w n) (name tplt args : List ℕ) → Under n tplt → Under n args → (t : TypeNo) (m : ℕ) (v : List ℕ)
+    → Gave (callOutcome profile place w n name (types w tplt) (types w args)) (Value t m) v → Typed (ruleOf profile name) (types w tplt) (types w args) t v
+call-typed profile place w n s name tplt args ut ua t m v g =
+    value-typed place w n s (ruleOf profile name) (types w tplt) (types w args) _
+    (name-call-ends profile place w n (types w tplt) (types w args) (types-formed w n s tplt ut) (types-formed w n s args ua) name) t m v (whole _ _ v g)
 
-pub single-typed : (w : List ℕ) (n : ℕ) (name tplt args : List ℕ) (t : TypeNo) (m : ℕ) (v : List ℕ)
-    → Gave (typeBuiltinFn w n name tplt args) (Value t m) v → Typed (ruleOf name) (types w tplt) (types w args) t v
-single-typed w n name tplt args t m v g = go (single-ends w n name tplt args)
+pub single-typed : (profile : ℕ) (w : List ℕ) (n : ℕ) (name tplt args : List ℕ) (t : TypeNo) (m : ℕ) (v : List ℕ)
+    → Gave (typeBuiltinFn profile w n name tplt args) (Value t m) v → Typed (ruleOf profile name) (types w tplt) (types w args) t v
+single-typed profile w n name tplt args t m v g = go (single-ends profile w n name tplt args)
   where
-    go : Single w n name tplt args (typeBuiltinFn w n name tplt args) → Typed (ruleOf name) (types w tplt) (types w args) t v
+    go : Single profile w n name tplt args (typeBuiltinFn profile w n name tplt args) → Typed (ruleOf profile name) (types w tplt) (types w args) t v
     go (early reason f e) =
         let a : Value t m ≡ refuse reason 0 n = g .reply ∙ ap (λ (x : Outcome). x .answer) e in
         absurd (let z : _≡_ {A = ℕ} 0 1 = cc in omega arith)
-    go (late s x) = value-typed 0 w n s (ruleOf name) (types w tplt) (types w args) _ x t m v (whole _ _ v g)
+    go (late s x) = value-typed 0 w n s (ruleOf profile name) (types w tplt) (types w args) _ x t m v (whole _ _ v g)

@@ -43,7 +43,7 @@ use Rattle.call_ty.proofs.Ends.Single.{early, late}
 
 -- the demand's own hypotheses: a sound table, a ruled name, no template list, operands below n of which none is a reference
 
-module _ (w : List ℕ) (n : ℕ) (s : Sound w n) (name args : List ℕ) (r : Ruling) (ruled : ruleOf name ≡ rule (ruling r))
+module _ (profile : ℕ) (w : List ℕ) (n : ℕ) (s : Sound w n) (name args : List ℕ) (r : Ruling) (ruled : ruleOf profile name ≡ rule (ruling r))
     (under : Under n args) (loaded : anyReference (types w args) ≡ false) where
   formed-args : allFormed (types w args) ≡ true
   formed-args = types-formed w n s args under
@@ -52,24 +52,24 @@ module _ (w : List ℕ) (n : ℕ) (s : Sound w n) (name args : List ℕ) (r : Ru
   unfolding templateRight
   no-template = refl
 
-  single : byRule 0 w n (rule (ruling r)) [] (types w args) ≡ typeBuiltinFn w n name [] args
+  single : byRule 0 w n (rule (ruling r)) [] (types w args) ≡ typeBuiltinFn profile w n name [] args
   single =
       ap (λ (k : Named). byRule 0 w n k [] (types w args)) (sym ruled)
-      ∙ single-call w n name [] args (of-sound w n s) (under-all n [] (λ i l. absurd (omega arith))) (under-all n args under)
+      ∙ single-call profile w n name [] args (of-sound w n s) (under-all n [] (λ i l. absurd (omega arith))) (under-all n args under)
 
   -- as many operands as the name's overloads have parameters: judged by those overloads
-  judged : length (types w args) ≡ operandsOf (ruling r) → judgedOutcome 0 w n (judgeBy r (types w args)) ≡ typeBuiltinFn w n name [] args
+  judged : length (types w args) ≡ operandsOf (ruling r) → judgedOutcome 0 w n (judgeBy r (types w args)) ≡ typeBuiltinFn profile w n name [] args
   unfolding givenOutcome givenBy
   judged k = by-call 0 w n (ruling r) [] (types w args) no-template k loaded ∙ single
 
   -- any other count is refused with 7, and no overload fits
-  pub counted : length (types w args) ≢ operandsOf (ruling r) → typeBuiltinFn w n name [] args ≡ turnedDown Operands 0 w n
+  pub counted : length (types w args) ≢ operandsOf (ruling r) → typeBuiltinFn profile w n name [] args ≡ turnedDown Operands 0 w n
   counted k = sym (by-count 0 w n (ruling r) [] (types w args) no-template k ∙ single)
 
-  miscounted : length (types w args) ≢ operandsOf (ruling r) → Demand3 (overloadsBy r) (types w args) (typeBuiltinFn w n name [] args)
+  miscounted : length (types w args) ≢ operandsOf (ruling r) → Demand3 (overloadsBy r) (types w args) (typeBuiltinFn profile w n name [] args)
   miscounted k =
-      let none : (p : Overload) → overloadsBy r p → T (fits (p .params) (types w args)) → ⊥ = λ p m f. wrong-count r (ruling-known name r ruled) (types w args) k p m f in
-      let no : Accepts (typeBuiltinFn w n name [] args) → ⊥ = λ a. refused-not (typeBuiltinFn w n name [] args) (counted k) a in
+      let none : (p : Overload) → overloadsBy r p → T (fits (p .params) (types w args)) → ⊥ = λ p m f. wrong-count r (ruling-known profile name r ruled) (types w args) k p m f in
+      let no : Accepts (typeBuiltinFn profile w n name [] args) → ⊥ = λ a. refused-not (typeBuiltinFn profile w n name [] args) (counted k) a in
       record {
         accepted = λ p m f. absurd (none p m f);
         fitting = λ a. absurd (no a);
@@ -84,9 +84,9 @@ module _ (w : List ℕ) (n : ℕ) (s : Sound w n) (name args : List ℕ) (r : Ru
           omega arith
 
   -- DEMAND 3
-  pub builtin-demand-3 : HasRoom (overloadsBy r) w n (types w args) → Demand3 (overloadsBy r) (types w args) (typeBuiltinFn w n name [] args)
+  pub builtin-demand-3 : HasRoom (overloadsBy r) w n (types w args) → Demand3 (overloadsBy r) (types w args) (typeBuiltinFn profile w n name [] args)
   builtin-demand-3 room =
-      let known = ruling-known name r ruled in
+      let known = ruling-known profile name r ruled in
       split (eqb (length (types w args)) (operandsOf (ruling r)))
       (λ b.
       subst (Demand3 (overloadsBy r) (types w args)) (judged (eqb-true _ _ b))
@@ -96,9 +96,9 @@ module _ (w : List ℕ) (n : ℕ) (s : Sound w n) (name args : List ℕ) (r : Ru
 
   -- and where none fits the right count: refused with 8
   pub builtin-none : length (types w args) ≡ operandsOf (ruling r) → ((p : Overload) → overloadsBy r p → T (fits (p .params) (types w args)) → ⊥)
-      → typeBuiltinFn w n name [] args ≡ turnedDown NoOverload 0 w n
+      → typeBuiltinFn profile w n name [] args ≡ turnedDown NoOverload 0 w n
   builtin-none k h =
-      let known = ruling-known name r ruled in
+      let known = ruling-known profile name r ruled in
       sym (judged k)
       ∙ judged-nothing 0 w n s (overloadsBy r) (types w args) (ruling-never (types w args) formed-args r known) (judgeBy r (types w args)) (ruling-resolved (types w args) formed-args r) h
 
@@ -118,15 +118,15 @@ ends-never place w n s named ts us o (silent e) =
     λ r h q. let a : NoValue n ≡ Refused r = ap (λ (x : Outcome). x .answer) (sym e) ∙ h in let z : _≡_ {A = ℕ} 0 1 = cc in omega arith
 ends-never place w n s named ts us o (valued R q f x g e) = subst Never13 (sym e) (never-entering place w n s R f)
 
-pub call-never-13 : (place : ℕ) (w : List ℕ) (n : ℕ) → Sound w n → (name tplt args : List ℕ) → Under n tplt → Under n args
-    → Never13 (callOutcome place w n name (types w tplt) (types w args))
-call-never-13 place w n s name tplt args ut ua =
-    ends-never place w n s (ruleOf name) (types w tplt) (types w args) _
-    (name-call-ends place w n (types w tplt) (types w args) (types-formed w n s tplt ut) (types-formed w n s args ua) name)
+pub call-never-13 : (profile place : ℕ) (w : List ℕ) (n : ℕ) → Sound w n → (name tplt args : List ℕ) → Under n tplt → Under n args
+    → Never13 (callOutcome profile place w n name (types w tplt) (types w args))
+call-never-13 profile place w n s name tplt args ut ua =
+    ends-never place w n s (ruleOf profile name) (types w tplt) (types w args) _
+    (name-call-ends profile place w n (types w tplt) (types w args) (types-formed w n s tplt ut) (types-formed w n s args ua) name)
 
-pub builtin-never-13 : (w : List ℕ) (n : ℕ) (name tplt args : List ℕ) → Never13 (typeBuiltinFn w n name tplt args)
-builtin-never-13 w n name tplt args = go (single-ends w n name tplt args)
+pub builtin-never-13 : (profile : ℕ) (w : List ℕ) (n : ℕ) (name tplt args : List ℕ) → Never13 (typeBuiltinFn profile w n name tplt args)
+builtin-never-13 profile w n name tplt args = go (single-ends profile w n name tplt args)
   where
-    go : Single w n name tplt args (typeBuiltinFn w n name tplt args) → Never13 (typeBuiltinFn w n name tplt args)
+    go : Single profile w n name tplt args (typeBuiltinFn profile w n name tplt args) → Never13 (typeBuiltinFn profile w n name tplt args)
     go (early reason f e) = subst Never13 (sym e) (never-refused w n reason 0 (no-thirteen reason f))
-    go (late s x) = ends-never 0 w n s (ruleOf name) (types w tplt) (types w args) _ x
+    go (late s x) = ends-never 0 w n s (ruleOf profile name) (types w tplt) (types w args) _ x

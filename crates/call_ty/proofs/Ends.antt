@@ -105,16 +105,18 @@ module _ (place : ℕ) (w : List ℕ) (n : ℕ) (ts us : List Ty) (ft : allForme
   rule-call-ends (rule r) k = named-ends r k
   rule-call-ends unknown k = refused Unknown refl (sym (by-unknown place w n ts us))
 
-  pub name-call-ends : (name : List ℕ) → Ends place w n (ruleOf name) ts us (byRule place w n (ruleOf name) ts us)
-  name-call-ends name = rule-call-ends (ruleOf name) (ruling-known name)
+-- by a name of a profile
+pub name-call-ends : (profile place : ℕ) (w : List ℕ) (n : ℕ) (ts us : List Ty) → allFormed ts ≡ true → allFormed us ≡ true → (name : List ℕ)
+    → Ends place w n (ruleOf profile name) ts us (byRule place w n (ruleOf profile name) ts us)
+name-call-ends profile place w n ts us ft fu name = rule-call-ends place w n ts us ft fu (ruleOf profile name) (ruling-known profile name)
 
 -- A SINGLE CALL: of a table that is not sound, or of a number not below n, nothing is said but the refusal
-module _ (w : List ℕ) (n : ℕ) (name tplt args : List ℕ) where
+module _ (profile : ℕ) (w : List ℕ) (n : ℕ) (name tplt args : List ℕ) where
   pub data Single (o : Outcome) : Type 0 where
     early : (reason : Reason) → thirteen reason ≡ false → o ≡ turnedDown reason 0 w n → Single o
-    late : Sound w n → Ends 0 w n (ruleOf name) (types w tplt) (types w args) o → Single o
+    late : Sound w n → Ends 0 w n (ruleOf profile name) (types w tplt) (types w args) o → Single o
 
-  pub single-ends : Single (typeBuiltinFn w n name tplt args)
+  pub single-ends : Single (typeBuiltinFn profile w n name tplt args)
   unfolding typeBuiltinFn
   single-ends =
       choose Single (soundb w n) _ _
@@ -122,7 +124,7 @@ module _ (w : List ℕ) (n : ℕ) (name tplt args : List ℕ) where
       (λ d. choose Single (allUnder n args) _ _
       (λ e.
       let s = sound-of w n b in
-      late s (name-call-ends 0 w n (types w tplt) (types w args) (types-formed w n s tplt (all-under n tplt d)) (types-formed w n s args (all-under n args e)) name))
+      late s (name-call-ends profile 0 w n (types w tplt) (types w args) (types-formed w n s tplt (all-under n tplt d)) (types-formed w n s args (all-under n args e)) name))
       (λ e. early NoSuchType refl refl))
       (λ d. early NoSuchType refl refl))
       (λ b. early Unsound refl refl)

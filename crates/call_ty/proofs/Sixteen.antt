@@ -9,7 +9,7 @@ use Rattle.conv.specs.Types.Ty.{vec, frexp}
 use Rattle.conv.specs.Rank.{both, rankOf, shapeOf, componentOf, tagOf, firstOf, secondOf, elementOf, sameTy, conversionRank, made}
 use Rattle.overload.specs.Overload.{or, fits, noMore, less, sameTys, allYield, isPreferred, anyFits, chosen, judge}
 use Rattle.overload.specs.Rows.{formAt, componentAt, wrapped, overSecond, atSizes, overSet, ofFamilies, headCount, judgeBy}
-use Rattle.names.specs.Names.{names, sameBytes, ruleIn}
+use Rattle.names.specs.Names.{names, sameBytes, within, ruleIn}
 use Rattle.answer.specs.Answer.{accept}
 use Rattle.answer.specs.declared.Reason.the-variants.{NoOverload}
 use Rattle.table.specs.Tools.{allBelow}
@@ -38,7 +38,7 @@ abbrev pub vec2Float : ℕ
 vec2Float = 7
 
 abbrev pub call : String → List ℕ → Outcome
-call name args = typeBuiltinFn table 8 (ascii name) [] args
+call name args = typeBuiltinFn 0 table 8 (ascii name) [] args
 
 -- a type that stands there already
 abbrev pub gives : ℕ → Outcome
@@ -57,7 +57,7 @@ pub record Six : Type 0 where
   pub sign : call "sign" (u32 ∷ []) ≡ turnedDown NoOverload 0 table 8
 
 pub six : Six
-unfolding table ascii isValue formed expOf both rankOf shapeOf componentOf tagOf firstOf secondOf elementOf sameTy conversionRank made or fits noMore less sameTys allYield isPreferred anyFits chosen judge formAt componentAt wrapped overSecond atSizes overSet ofFamilies headCount judgeBy names sameBytes ruleIn allBelow rowOk chainBy chain baseOf madeOk entryOk findIn soundb madeEntry typeAt kindOf pOf qOf free standsIn placedOver placed entering anyReference judgedOutcome templateRight operandsBy operandsOf givenBy givenOutcome byRule allUnder typeBuiltinFn
+unfolding table ascii isValue formed expOf both rankOf shapeOf componentOf tagOf firstOf secondOf elementOf sameTy conversionRank made or fits noMore less sameTys allYield isPreferred anyFits chosen judge formAt componentAt wrapped overSecond atSizes overSet ofFamilies headCount judgeBy names sameBytes within ruleIn allBelow rowOk chainBy chain baseOf madeOk entryOk findIn soundb madeEntry typeAt kindOf pOf qOf free standsIn placedOver placed entering anyReference judgedOutcome templateRight operandsBy operandsOf givenBy givenOutcome byRule allUnder typeBuiltinFn
 six =
     record {
       sqrt = refl;

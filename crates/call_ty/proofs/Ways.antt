@@ -190,21 +190,21 @@ by-unknown place w n ts us = refl
 
 -- A SINGLE CALL
 
-module _ (w : List ℕ) (n : ℕ) (name tplt args : List ℕ) where
-  pub single-unsound : soundb w n ≡ false → turnedDown Unsound 0 w n ≡ typeBuiltinFn w n name tplt args
+module _ (profile : ℕ) (w : List ℕ) (n : ℕ) (name tplt args : List ℕ) where
+  pub single-unsound : soundb w n ≡ false → turnedDown Unsound 0 w n ≡ typeBuiltinFn profile w n name tplt args
   unfolding typeBuiltinFn
   single-unsound h = sym (rw h)
 
   module _ (s : soundb w n ≡ true) where
-    pub single-template : allUnder n tplt ≡ false → turnedDown NoSuchType 0 w n ≡ typeBuiltinFn w n name tplt args
+    pub single-template : allUnder n tplt ≡ false → turnedDown NoSuchType 0 w n ≡ typeBuiltinFn profile w n name tplt args
     unfolding typeBuiltinFn
     single-template h = sym (rw (s, h))
 
     module _ (t : allUnder n tplt ≡ true) where
-      pub single-operand : allUnder n args ≡ false → turnedDown NoSuchType 0 w n ≡ typeBuiltinFn w n name tplt args
+      pub single-operand : allUnder n args ≡ false → turnedDown NoSuchType 0 w n ≡ typeBuiltinFn profile w n name tplt args
       unfolding typeBuiltinFn
       single-operand h = sym (rw (s, t, h))
 
-      pub single-call : allUnder n args ≡ true → callOutcome 0 w n name (types w tplt) (types w args) ≡ typeBuiltinFn w n name tplt args
+      pub single-call : allUnder n args ≡ true → callOutcome profile 0 w n name (types w tplt) (types w args) ≡ typeBuiltinFn profile w n name tplt args
       unfolding typeBuiltinFn
       single-call h = sym (rw (s, t, h))

@@ -1,4 +1,4 @@
--- The builtins of document 01, by their names, and what a call of one does. Assumes nothing.
+-- The builtins of documents 01 and 02, by their names, and what a call of one does in a profile. Assumes nothing.
 use Prim.Native.Nat.{ℕ}
 use mathlib.Core.Bool.{Bool, true, _&&_, _||_, not, cond}
 use mathlib.Core.List.{List, [], _∷_, map}
@@ -105,7 +105,7 @@ unfoldable pub givenOutcome : ℕ → List ℕ → ℕ → Given → Outcome
 givenOutcome place w n (judgment j) = judgedOutcome place w n j
 givenOutcome place w n nothing = withoutValue w n
 
--- A CALL ON LOADED OPERANDS, at a place: 4 an unknown name, 5 the template list, 7 the operand count, 3 a reference offered, then its rule
+-- A CALL ON LOADED OPERANDS, at a place: 4 a name that the profile has not, 5 the template list, 7 the operand count, 3 a reference offered, then its rule
 
 unfoldable pub byRule : ℕ → List ℕ → ℕ → Named → List Ty → List Ty → Outcome
 byRule place w n unknown ts us = turnedDown Unknown place w n
@@ -116,8 +116,8 @@ byRule place w n (rule r) ts us =
     (turnedDown Operands place w n))
     (turnedDown Template place w n)
 
-abbrev pub callOutcome : ℕ → List ℕ → ℕ → List ℕ → List Ty → List Ty → Outcome
-callOutcome place w n name ts us = byRule place w n (ruleOf name) ts us
+abbrev pub callOutcome : ℕ → ℕ → List ℕ → ℕ → List ℕ → List Ty → List Ty → Outcome
+callOutcome profile place w n name ts us = byRule place w n (ruleOf profile name) ts us
 
 -- A SINGLE CALL, at place 0: 1, then 2 over the template list and over the operands, before these
 
@@ -125,12 +125,12 @@ unfoldable pub allUnder : ℕ → List ℕ → Bool
 allUnder n [] = true
 allUnder n (t ∷ ts) = ltb t n && allUnder n ts
 
-unfoldable pub typeBuiltinFn : List ℕ → ℕ → List ℕ → List ℕ → List ℕ → Outcome
-typeBuiltinFn w n name tplt args =
+unfoldable pub typeBuiltinFn : ℕ → List ℕ → ℕ → List ℕ → List ℕ → List ℕ → Outcome
+typeBuiltinFn profile w n name tplt args =
     cond (soundb w n)
     (cond (allUnder n tplt)
     (cond (allUnder n args)
-    (callOutcome 0 w n name (map (typeAt w) tplt) (map (typeAt w) args))
+    (callOutcome profile 0 w n name (map (typeAt w) tplt) (map (typeAt w) args))
     (turnedDown NoSuchType 0 w n))
     (turnedDown NoSuchType 0 w n))
     (turnedDown Unsound 0 w n)

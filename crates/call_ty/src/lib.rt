@@ -189,34 +189,36 @@ fn by_rule(
     crate_rule(words, n, place, rule, tplt, args)
 }
 
-// A call of a builtin on loaded operands, at a place; the table of names is lent as rows.
+// A call of a builtin of a profile on loaded operands, at a place; the table of names is lent as rows.
 pub fn call_at(
     words: &mut [u32],
     n: usize,
     place: Place,
     rows: &[u8],
+    profile: u32,
     name: &[u8],
     tplt: &[u32],
     args: &[u32],
 ) -> Answer
     requires { ⌜ Sound (now words) n × Under n (now tplt) × Under n (now args) × (now rows ≡ nameTable) ⌝ }
-    ensures { λ r. ⌜ Gave (callOutcome (place .0) (now (words .entry)) n (now (name .entry)) (map (typeAt (now (words .entry))) (now (tplt .entry))) (map (typeAt (now (words .entry))) (now (args .entry)))) r (now (words .exit)) ⌝ }
+    ensures { λ r. ⌜ Gave (callOutcome profile (place .0) (now (words .entry)) n (now (name .entry)) (map (typeAt (now (words .entry))) (now (tplt .entry))) (map (typeAt (now (words .entry))) (now (args .entry)))) r (now (words .exit)) ⌝ }
 {
-    match names::rule_of(rows, name) {
+    match names::rule_of(rows, profile, name) {
         RuleNo::Is(rule) => by_rule(words, n, place, rule, tplt, args),
         RuleNo::Unknown => table::refused(Reason::Unknown, place, n),
     }
 }
 
-// For a host: the type of a call of the builtin with that name, that template list, empty for none, and those operands.
+// For a host: the type of a call of the builtin with that name in that profile, that template list, empty for none, and those operands.
 pub fn type_builtin_fn(
     words: &mut [u32],
     n: usize,
+    profile: u32,
     name: &[u8],
     tplt: &[u32],
     args: &[u32],
 ) -> Answer
-    ensures { λ r. ⌜ Gave (typeBuiltinFn (now (words .entry)) n (now (name .entry)) (now (tplt .entry)) (now (args .entry))) r (now (words .exit)) ⌝ }
+    ensures { λ r. ⌜ Gave (typeBuiltinFn profile (now (words .entry)) n (now (name .entry)) (now (tplt .entry)) (now (args .entry))) r (now (words .exit)) ⌝ }
 {
     if !table::sound(words, n) {
         return table::refused(Reason::Unsound, Place(0), n);
@@ -228,5 +230,5 @@ pub fn type_builtin_fn(
         return table::refused(Reason::NoSuchType, Place(0), n);
     }
     let rows = names::name_table();
-    call_at(words, n, Place(0), &rows, name, tplt, args)
+    call_at(words, n, Place(0), &rows, profile, name, tplt, args)
 }

@@ -27,16 +27,16 @@ no-header s l = go (headerOk version s) refl
     go false e = e
 
 -- the lines of every longer input
-pub too-long : (s : List ℕ) → headerSize + longest < length s → report s ≡ ascii "refused 10 at 0" ++ lineEnd ++ ascii "entries 7" ++ lineEnd
+pub too-long : (profile : ℕ) (s : List ℕ) → headerSize + longest < length s → report profile s ≡ ascii "refused 10 at 0" ++ lineEnd ++ ascii "entries 7" ++ lineEnd
 unfolding report ascii decimalBy decimal refusedLine firstLine secondLine linesOf
-too-long s h = ap (λ (o : Outcome). linesOf (o .words) (o .answer)) (sheet-header start scalars s start-sound (no-header s h))
+too-long profile s h = ap (λ (o : Outcome). linesOf (o .words) (o .answer)) (sheet-header profile start scalars s start-sound (no-header s h))
 
 -- so what is cut off behind more than 60,003 bytes is not missed
-pub report-cut : (n : ℕ) (s : List ℕ) → headerSize + longest < n → report (take n s) ≡ report s
-report-cut n s h = go (ltb n (length s)) refl
+pub report-cut : (profile n : ℕ) (s : List ℕ) → headerSize + longest < n → report profile (take n s) ≡ report profile s
+report-cut profile n s h = go (ltb n (length s)) refl
   where
-    go : (b : Bool) → ltb n (length s) ≡ b → report (take n s) ≡ report s
+    go : (b : Bool) → ltb n (length s) ≡ b → report profile (take n s) ≡ report profile s
     go true e =
         let l = ltb-true n (length s) e in
-        too-long (take n s) (omega (arith, length-take n s)) ∙ sym (too-long s (omega arith))
-    go false e = ap report (take-all n s (ltb-false n (length s) e))
+        too-long profile (take n s) (omega (arith, length-take n s)) ∙ sym (too-long profile s (omega arith))
+    go false e = ap (report profile) (take-all n s (ltb-false n (length s) e))

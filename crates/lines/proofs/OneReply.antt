@@ -10,5 +10,5 @@ use Rattle.lines.specs.Lines.{linesOf, report}
 pub one-write : (w : List ℕ) (a : Answer) {out : List ℕ} {r q : ℕ} {u v : List ℕ} → Put out 0 (linesOf w a) r u → Put out 0 (linesOf w a) q v → (r ≡ q) × (u ≡ v)
 one-write w a = one-put
 
-pub one-answer : (s : List ℕ) {out : List ℕ} {r q : ℕ} {u v : List ℕ} → Put out 0 (report s) r u → Put out 0 (report s) q v → (r ≡ q) × (u ≡ v)
-one-answer s = one-put
+pub one-answer : (profile : ℕ) (s : List ℕ) {out : List ℕ} {r q : ℕ} {u v : List ℕ} → Put out 0 (report profile s) r u → Put out 0 (report profile s) q v → (r ≡ q) × (u ≡ v)
+one-answer profile s = one-put

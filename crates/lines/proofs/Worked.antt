@@ -31,14 +31,14 @@ boolLess = 1 ∷ 0 ∷ 9 ∷ 2 ∷ 1 ∷ 0 ∷ 2 ∷ 1 ∷ 0 ∷ 2 ∷ 3 ∷ 9 �
 
 -- what each comes to over the seven scalars
 pub typed :
-    (outcome sum ≡ record { answer = accept 5 7; words = start }) ×
-    (outcome boolLess ≡ record { answer = refuse NoOverload 9 7; words = start })
+    (outcome 0 sum ≡ record { answer = accept 5 7; words = start }) ×
+    (outcome 0 boolLess ≡ record { answer = refuse NoOverload 9 7; words = start })
 unfolding both or rankOf shapeOf componentOf tagOf firstOf secondOf elementOf sameTy conversionRank ranks.made allBelow chainBy chain entryOk findIn soundb typeAt free placed entering fits noMore less sameTys allYield isPreferred anyFits chosen judge formAt componentAt wrapped overSecond atSizes overSet ofFamilies judgeBy anyReference judgedOutcome takesReference ruledOutcome binaryRow binaryOutcome headerOk payloadItem itemAt itemsWithin itemsFrom onto pushEffect binaryEffect effectOf after turnOf onward runItems typeSheet
 typed = (refl, refl)
 
 -- and what is written for it
 pub worked :
-    (report sum ≡ ascii "type 5 f32" ++ lineEnd ++ ascii "entries 7" ++ lineEnd) ×
-    (report boolLess ≡ ascii "refused 8 at 9" ++ lineEnd ++ ascii "entries 7" ++ lineEnd)
+    (report 0 sum ≡ ascii "type 5 f32" ++ lineEnd ++ ascii "entries 7" ++ lineEnd) ×
+    (report 0 boolLess ≡ ascii "refused 8 at 9" ++ lineEnd ++ ascii "entries 7" ++ lineEnd)
 unfolding report
 worked = (rw (typed .0) (written-out .0), rw (typed .1) (written-out .1))

@@ -46,13 +46,13 @@ abbrev pub start : List ℕ
 start =
     0 ∷ 0 ∷ 0 ∷ 0 ∷ 1 ∷ 0 ∷ 0 ∷ 0 ∷ 2 ∷ 0 ∷ 0 ∷ 0 ∷ 3 ∷ 0 ∷ 0 ∷ 0 ∷ 4 ∷ 0 ∷ 0 ∷ 0 ∷ 5 ∷ 0 ∷ 0 ∷ 0 ∷ 6 ∷ 0 ∷ 0 ∷ 0 ∷ replicate 996 0
 
--- the outcome of a sheet over them
-abbrev pub outcome : List ℕ → Outcome
-outcome s = typeSheet start scalars s
+-- the outcome of a sheet over them, in a profile
+abbrev pub outcome : ℕ → List ℕ → Outcome
+outcome profile s = typeSheet profile start scalars s
 
 -- what the program writes for the bytes that it reads
-unfoldable pub report : List ℕ → List ℕ
-report s = linesOf (outcome s .words) (outcome s .answer)
+unfoldable pub report : ℕ → List ℕ → List ℕ
+report profile s = linesOf (outcome profile s .words) (outcome profile s .answer)
 
 -- an answer whose type can be spelled: the table is sound, and the number is one of it
 abbrev pub Spellable : List ℕ → Answer → Type 0

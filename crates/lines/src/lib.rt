@@ -95,12 +95,12 @@ fn scalars() -> [u32; 1024]
     words
 }
 
-// For a host: the two lines of a sheet that is typed over the seven scalars, from the start of the output; how many bytes they have.
-pub fn answer_sheet(bytes: &[u8], out: &mut [u8]) -> usize
-    ensures { λ r. ⌜ Put (now (out .entry)) 0 (report (now (bytes .entry))) r (now (out .exit)) ⌝ }
+// For a host: the two lines of a sheet that is typed over the seven scalars in a profile, from the start of the output; how many bytes they have.
+pub fn answer_sheet(profile: u32, bytes: &[u8], out: &mut [u8]) -> usize
+    ensures { λ r. ⌜ Put (now (out .entry)) 0 (report profile (now (bytes .entry))) r (now (out .exit)) ⌝ }
     ensures { λ r. ⌜ r ≤ linesRoom ⌝ }
 {
     let mut words = scalars();
-    let a = type_sheet(&mut words, table::SCALARS, bytes);
+    let a = type_sheet(&mut words, table::SCALARS, profile, bytes);
     write(&words, a, out)
 }

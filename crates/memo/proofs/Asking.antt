@@ -10,7 +10,7 @@ use mathlib.Core.List.{List, [], _∷_, map}
 use native.Mathlib.Omega.{arith}
 use lib.ListN.{length, getD, take, drop, set, length-drop, length-append}
 use lib.Seq.{length-take-le, getD-take, getD-drop}
-use borrow.Author.Tests.{le-leb}
+use borrow.Author.Tests.{lt-leb, le-leb}
 use Rattle.answer.specs.Answer.{accept}
 use Rattle.answer.specs.declared.TypeNo.{TypeNo}
 use Rattle.answer.specs.declared.Answer.{Answer}
@@ -65,18 +65,18 @@ on-some (binary op) k h = let a = h .0 in let b = h .1 in (omega arith, omega ar
 on-some (unary op) k h = let a = h .0 in let b = h .1 in (omega arith, omega arith, omega arith)
 on-some (builtin number) k h = let a = h .0 in (h .1, h .2, omega arith)
 
-module _ (s : List ℕ) (i : Item) (code k : ℕ) (a : Asks s i code k) where
+module _ (profile : ℕ) (s : List ℕ) (i : Item) (code k : ℕ) (a : Asks profile s i code k) where
   pub asks-coded : Coded code k
   asks-coded = go (a .asks)
     where
-      go : (code ≡ 0) ⊎ AskedBy s i code k → Coded code k
+      go : (code ≡ 0) ⊎ AskedBy profile s i code k → Coded code k
       go (inl e) = record { coded = inl e }
       go (inr b) = let x = on-some (b .question) k (b .on) in record { coded = inr (rw (b .number) (x .2), x .0, x .1) }
 
-  asked-by : code ≢ 0 → AskedBy s i code k
+  asked-by : code ≢ 0 → AskedBy profile s i code k
   asked-by n = go (a .asks)
     where
-      go : (code ≡ 0) ⊎ AskedBy s i code k → AskedBy s i code k
+      go : (code ≡ 0) ⊎ AskedBy profile s i code k → AskedBy profile s i code k
       go (inl e) = absurd (n e)
       go (inr b) = b
 
@@ -108,47 +108,47 @@ ready-small count vals used w ready =
 many : (st : State) (k : ℕ) → k ≤ height st → length (operands k st) ≡ k
 many st k h = length-drop (height st - k) (st .stack) ∙ (let z : height st - (height st - k) ≡ k = omega arith in z)
 
-pub binary-asks : (s : List ℕ) (op : ℕ) → op < binaryOps → AskedBy s (Binary op) (op + 1) 2
+pub binary-asks : (profile : ℕ) (s : List ℕ) (op : ℕ) → op < binaryOps → AskedBy profile s (Binary op) (op + 1) 2
 unfolding effectOf binaryEffect
-binary-asks s op h =
+binary-asks profile s op h =
     record {
       question = binary op;
       on = (h, refl);
       number = refl;
-      effect = λ place st l.
+      effect = λ place st l _.
           let n = many st 2 l in
           rw (le-leb 2 (height st) l, type-in (st .words) (operands 2 st) 0 (omega arith), type-in (st .words) (operands 2 st) 1 (omega arith));
     }
 
-pub unary-asks : (s : List ℕ) (op : ℕ) → op < unaryOps → AskedBy s (Unary op) (op + 19) 1
+pub unary-asks : (profile : ℕ) (s : List ℕ) (op : ℕ) → op < unaryOps → AskedBy profile s (Unary op) (op + 19) 1
 unfolding effectOf unaryEffect
-unary-asks s op h =
+unary-asks profile s op h =
     record {
       question = unary op;
       on = (h, refl);
       number = refl;
-      effect = λ place st l.
+      effect = λ place st l _.
           let n = many st 1 l in
           rw (le-leb 1 (height st) l, type-in (st .words) (operands 1 st) 0 (omega arith));
     }
 
-pub call-asks : (s : List ℕ) (name : Part) (k number : ℕ) → 1 ≤ k → k ≤ 3 → number < 128 → ruleOf (bytesOf s name) ≡ rule (numbered number) → AskedBy s (Call k name) (number + 24) k
+pub call-asks : (profile : ℕ) (s : List ℕ) (name : Part) (k number : ℕ) → 1 ≤ k → k ≤ 3 → number < 128 → ruleOf profile (bytesOf s name) ≡ rule (numbered number) → AskedBy profile s (Call k name) (number + 24) k
 unfolding effectOf callEffect
-call-asks s name k number l m h e =
+call-asks profile s name k number l m h e =
     record {
       question = builtin number;
       on = (h, l, m);
       number = refl;
-      effect = λ place st g.
-          rw (le-leb k (height st) g)
+      effect = λ place st g u.
+          rw (le-leb k (height st) g, lt-leb most (height st - k) (omega arith))
           (ap (λ (r : Named). onto (below k st) (byRule place (st .words) (st .used) r [] (map (typeAt (st .words)) (operands k st)))) e);
     }
 
 -- the code and the count as they were made
-pub call-asked : (s : List ℕ) (name : Part) (k number code j : ℕ) → 1 ≤ k → k ≤ 3 → number < 128 → ruleOf (bytesOf s name) ≡ rule (numbered number) → code ≡ 24 + number → j ≡ k → Asks s (Call k name) code j
-call-asked s name k number code j l m h e c d =
+pub call-asked : (profile : ℕ) (s : List ℕ) (name : Part) (k number code j : ℕ) → 1 ≤ k → k ≤ 3 → number < 128 → ruleOf profile (bytesOf s name) ≡ rule (numbered number) → code ≡ 24 + number → j ≡ k → Asks profile s (Call k name) code j
+call-asked profile s name k number code j l m h e c d =
     let z : code ≡ number + 24 = omega arith in
-    record { asks = inr (rw (z, d) (call-asks s name k number l m h e)) }
+    record { asks = inr (rw (z, d) (call-asks profile s name k number l m h e)) }
 
 -- THE LAST VALUES of a slice
 
@@ -186,24 +186,24 @@ onto-went vs o st h = go (o .answer) refl
         let q : stops r (o .words) ≡ goes st = rw e at h in
         impossible (cc)
 
-module _ (count : ℕ) (vals : List ℕ) (used : ℕ) (w : List ℕ) (ready : Ready count vals used w) (s : List ℕ) (i : Item) where
+module _ (profile count : ℕ) (vals : List ℕ) (used : ℕ) (w : List ℕ) (ready : Ready count vals used w) (s : List ℕ) (i : Item) where
   abbrev st : State
   st = stateOf count vals used w
 
   -- the memo after an item that did not touch it
-  pub recalls-step : (place : ℕ) (d : Did) (vals' v memo : List ℕ) → Does (effectOf place st s i) d vals' v → Recalls memo w used → AfterStep d memo v
+  pub recalls-step : (place : ℕ) (d : Did) (vals' v memo : List ℕ) → Does (effectOf profile place st s i) d vals' v → Recalls memo w used → AfterStep d memo v
   unfolding AfterStep effectBy
-  recalls-step place (did.Went c u) vals' v memo h r = let k = rw (← h .effect) at (item-kept place st (ready .good) s i) in recalls-on w used v u (k .1) memo r
+  recalls-step place (did.Went c u) vals' v memo h r = let k = rw (← h .effect) at (item-kept place st (ready .good) profile s i) in recalls-on w used v u (k .1) memo r
   recalls-step place (did.Silent c u) vals' v memo h r = tt
   recalls-step place (did.Ended c u) vals' v memo h r = tt
   recalls-step place (did.Refused x) vals' v memo h r = tt
 
-  module _ (code k key base : ℕ) (asks : Asks s i code k) (keys : Keyed code k count vals key base) (some : key ≢ 0) where
+  module _ (code k key base : ℕ) (asks : Asks profile s i code k) (keys : Keyed code k count vals key base) (some : key ≢ 0) where
     keyed : KeyedBy code k count vals key base
     keyed = keyed-by code k count vals key base keys some
 
-    asked : AskedBy s i code k
-    asked = asked-by s i code k asks (keyed .some)
+    asked : AskedBy profile s i code k
+    asked = asked-by profile s i code k asks (keyed .some)
 
     pub key-small : key < 2 ^ 32
     key-small = keyed .small
@@ -232,16 +232,16 @@ module _ (count : ℕ) (vals : List ℕ) (used : ℕ) (w : List ℕ) (ready : Re
     is : key ≡ keyOf (codeOf q) vs
     is = keyed .is ∙ ap (keyOf code) (sym (operands-lent count vals fits k (keyed .enough))) ∙ ap (λ (c : ℕ). keyOf c vs) (asked .number)
 
-    effect : (place : ℕ) → effectOf place st s i ≡ onto (take (count - k) vals) (typed place w used q (map (typeAt w) vs))
+    effect : (place : ℕ) → effectOf profile place st s i ≡ onto (take (count - k) vals) (typed place w used q (map (typeAt w) vs))
     effect place =
-        asked .effect place st enough ∙ ap (λ (l : List ℕ). onto l (typed place w used q (map (typeAt w) vs))) (below-them count vals fits k)
+        asked .effect place st enough (ready .good .high) ∙ ap (λ (l : List ℕ). onto l (typed place w used q (map (typeAt w) vs))) (below-them count vals fits k)
 
     pub base-room : (base < most) × (base < length vals)
     base-room = let a = on-some q k (asked .on) in let b = keyed .enough in let e = keyed .start in (omega (arith, a .0, e, ready .fits), omega (arith, a .0, e, fits))
 
     -- a value that was recalled is the one that typing gives
     pub recalled-does : (memo : List ℕ) → Recalls memo w used → (t : ℕ) → Recalled memo key t → t ≢ nothing → (place : ℕ)
-        → Does (effectOf place st s i) (did.Went (base + 1) used) (set vals base t) w
+        → Does (effectOf profile place st s i) (did.Went (base + 1) used) (set vals base t) w
     recalled-does memo r t f n place =
         let z = slot-with memo key t f n in
         let x = r .holds (z .1 .0) (z .1 .1) .holds q vs t on bytes (z .0) (z .1 .2 ∙ ap (λ (y : ℕ). slotOf y t) is) in
@@ -251,7 +251,7 @@ module _ (count : ℕ) (vals : List ℕ) (used : ℕ) (w : List ℕ) (ready : Re
         record { effect = d .effect ∙ ap (λ (b : ℕ). onto (take b vals) (typed place w used q (map (typeAt w) vs))) (keyed .start) ∙ sym (effect place); counted = d .counted }
 
     -- what it left may be noted
-    noting : (place c u : ℕ) (vals' v : List ℕ) → c ≤ length vals' → effectOf place st s i ≡ goes (stateOf c vals' u v)
+    noting : (place c u : ℕ) (vals' v : List ℕ) → c ≤ length vals' → effectOf profile place st s i ≡ goes (stateOf c vals' u v)
         → (1 ≤ c) × (getD vals' (c - 1) 0 < 256) × Grew w used v u × Holds v u (slotOf key (getD vals' (c - 1) 0))
     noting place c u vals' v l h =
         let b = take (count - k) vals in
@@ -268,7 +268,7 @@ module _ (count : ℕ) (vals : List ℕ) (used : ℕ) (w : List ℕ) (ready : Re
         )
 
     module _ (place : ℕ) (vals' v : List ℕ) (size : length vals' ≡ most) where
-      went : (c u : ℕ) → Does (effectOf place st s i) (did.Went c u) vals' v
+      went : (c u : ℕ) → Does (effectOf profile place st s i) (did.Went c u) vals' v
           → (c ≤ length vals') × ((1 ≤ c) × (getD vals' (c - 1) 0 < 256) × Grew w used v u × Holds v u (slotOf key (getD vals' (c - 1) 0)))
       unfolding effectBy Counted
       went c u h =
@@ -276,14 +276,14 @@ module _ (count : ℕ) (vals : List ℕ) (used : ℕ) (w : List ℕ) (ready : Re
           let l : c ≤ length vals' = omega (arith, size) in
           (l, noting place c u vals' v l (sym (h .effect)))
 
-      pub step-leaves : (d : Did) → Does (effectOf place st s i) d vals' v → Leaves d vals'
+      pub step-leaves : (d : Did) → Does (effectOf profile place st s i) d vals' v → Leaves d vals'
       unfolding Leaves
       step-leaves (did.Went c u) h = let z = went c u h in (z .1 .0, z .0, z .1 .1)
       step-leaves (did.Silent c u) h = tt
       step-leaves (did.Ended c u) h = tt
       step-leaves (did.Refused x) h = tt
 
-      pub step-noted : (memo memo' : List ℕ) → Recalls memo w used → (d : Did) → Does (effectOf place st s i) d vals' v → NotedStep memo key d vals' memo' → AfterStep d memo' v
+      pub step-noted : (memo memo' : List ℕ) → Recalls memo w used → (d : Did) → Does (effectOf profile place st s i) d vals' v → NotedStep memo key d vals' memo' → AfterStep d memo' v
       unfolding NotedStep AfterStep
       step-noted memo memo' r (did.Went c u) h n =
           let z = went c u h .1 in

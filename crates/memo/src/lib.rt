@@ -147,10 +147,10 @@ fn asked_short(x: Short) -> Ask
     }
 }
 
-// A call of a builtin asks by the rule of its name.
-fn asked_call(items: &[u8], rows: &[u8], name: Part, k: u8) -> Ask
+// A call of a builtin asks by the rule of its name in a profile.
+fn asked_call(items: &[u8], rows: &[u8], profile: u32, name: Part, k: u8) -> Ask
     requires { ⌜ LiesIn (length (now items)) name × (now rows ≡ nameTable) ⌝ }
-    ensures { λ r. ⌜ Asks (sheetOf (now (items .entry))) (Call k name) (r .code) (r .operands) ⌝ }
+    ensures { λ r. ⌜ Asks profile (sheetOf (now (items .entry))) (Call k name) (r .code) (r .operands) ⌝ }
 {
     if (k < 1) | (OPERANDS < k) {
         return Ask {
@@ -158,7 +158,7 @@ fn asked_call(items: &[u8], rows: &[u8], name: Part, k: u8) -> Ask
             operands: 0,
         };
     }
-    match names::rule_of(rows, frame::name_in(items, name)) {
+    match names::rule_of(rows, profile, frame::name_in(items, name)) {
         RuleNo::Is(rule) => {
             if RULES <= rule {
                 return Ask {
@@ -178,9 +178,9 @@ fn asked_call(items: &[u8], rows: &[u8], name: Part, k: u8) -> Ask
     }
 }
 
-fn asked(items: &[u8], rows: &[u8], item: Item) -> Ask
+fn asked(items: &[u8], rows: &[u8], profile: u32, item: Item) -> Ask
     requires { ⌜ NameIn (length (now items)) item × (now rows ≡ nameTable) ⌝ }
-    ensures { λ r. ⌜ Asks (sheetOf (now (items .entry))) item (r .code) (r .operands) ⌝ }
+    ensures { λ r. ⌜ Asks profile (sheetOf (now (items .entry))) item (r .code) (r .operands) ⌝ }
 {
     match item {
         Item::Unary(op) => asked_short(Short {
@@ -191,7 +191,7 @@ fn asked(items: &[u8], rows: &[u8], item: Item) -> Ask
             kind: ITEM_BINARY,
             number: op,
         }),
-        Item::Call { count: k, name } => asked_call(items, rows, name, k),
+        Item::Call { count: k, name } => asked_call(items, rows, profile, name, k),
         _ => Ask {
             code: 0,
             operands: 0,
@@ -291,10 +291,11 @@ pub fn quick_at(
     quick(frame::short_in(items, at), stack, count, table, used, memo)
 }
 
-// What stands at a place of the sheet: recalled where the memo has it, else typed, and noted.
+// What stands at a place of the sheet: recalled where the memo has it, else typed, and noted. The memo is that of a run, which has one profile.
 pub fn noted_step(
     items: &[u8],
     rows: &[u8],
+    profile: u32,
     item: Item,
     at: Place,
     stack: &mut [u32],
@@ -304,11 +305,11 @@ pub fn noted_step(
     memo: &mut [u64],
 ) -> Did
     requires { ⌜ Ready count (now stack) used (now table) × NameIn (length (now items)) item × Recalls (now memo) (now table) used × (now rows ≡ nameTable) ⌝ }
-    ensures { λ r. ⌜ Does (effectOf (at .0) (stateOf count (now (stack .entry)) used (now (table .entry))) (sheetOf (now (items .entry))) item) r (now (stack .exit)) (now (table .exit)) × AfterStep r (now (memo .exit)) (now (table .exit)) ⌝ }
+    ensures { λ r. ⌜ Does (effectOf profile (at .0) (stateOf count (now (stack .entry)) used (now (table .entry))) (sheetOf (now (items .entry))) item) r (now (stack .exit)) (now (table .exit)) × AfterStep r (now (memo .exit)) (now (table .exit)) ⌝ }
 {
-    let a = keyed(asked(items, rows, item), stack, count);
+    let a = keyed(asked(items, rows, profile, item), stack, count);
     if a.number == 0 {
-        return step::step(items, rows, item, at, stack, count, table, used);
+        return step::step(items, rows, profile, item, at, stack, count, table, used);
     }
     let t = recall(memo, a.number);
     if t != NOTHING {
@@ -319,7 +320,7 @@ pub fn noted_step(
             used,
         };
     }
-    let d = step::step(items, rows, item, at, stack, count, table, used);
+    let d = step::step(items, rows, profile, item, at, stack, count, table, used);
     note_did(memo, a.number, d, stack);
     d
 }

@@ -1,5 +1,5 @@
--- The names as document 01 lists them, group by group: the table and this list give any bytes the same rule. Every name of the one is computed to have
--- its rule in the other, and a law carries that over to all bytes. Assumes nothing.
+-- The names as documents 01 and 02 list them, group by group: the table and this list give any bytes the same rule, whatever the profile; and profile 0 has the names of
+-- document 01 alone. Every name of the one is computed to have its rule in the other, and a law carries that over to all bytes. Assumes nothing.
 use Prim.Native.Nat.{ℕ}
 use Prim.Native.String.{String}
 use mathlib.Core.Path.{_≡_, refl, sym, _∙_}
@@ -9,9 +9,9 @@ use mathlib.Core.List.{List, [], _∷_, _++_, map}
 use lib.Dec.{eqb}
 use Rattle.conv.specs.Rank.{both}
 use Rattle.text.specs.Text.{ascii}
-use Rattle.overload.specs.Rows.{Row, oneFloat, twoFloats, threeFloats, mixing, oneNumeric, twoNumerics, threeNumerics, negating, oneBits, extracting, inserting, measuring, distancing, dotting, oneFloatVector, twoFloatVectors, threeFloatVectors, refracting, crossing, squareMatrix, transposing, oneF32, frexpOf, modfOf, packing4F32, packing4I32, packing4U32, packing2F32, unpacking4F32, unpacking4I32, unpacking4U32, unpacking2F32, packedDotU32, packedDotI32, oneBool, selecting}
+use Rattle.overload.specs.Rows.{Row, oneFloat, twoFloats, threeFloats, mixing, oneNumeric, twoNumerics, threeNumerics, negating, oneBits, extracting, inserting, measuring, distancing, dotting, oneFloatVector, twoFloatVectors, threeFloatVectors, refracting, crossing, squareMatrix, transposing, oneF32, frexpOf, modfOf, packing4F32, packing4I32, packing4U32, packing2F32, unpacking4F32, unpacking4I32, unpacking4U32, unpacking2F32, packedDotU32, packedDotI32, oneBool, selecting, oneConcrete, voting, balloting, electing, ofLane, shuffling}
 use Rattle.overload.specs.Rows.Ruling.{byRow}
-use Rattle.names.specs.Names.{Rule, Name, names, sameBytes, Named, ruleIn, ruleOf}
+use Rattle.names.specs.Names.{Rule, Name, names, sameBytes, within, Named, ruleFor, ruleIn, ruleOf}
 use Rattle.names.specs.Names.Rule.{ruling, bitcast, arrayLength, ldexp, barrier}
 use Rattle.names.specs.Names.Named.{rule, unknown}
 use Rattle.names.proofs.Bytes.{same-bytes}
@@ -26,15 +26,18 @@ words : List ℕ → List (List ℕ)
 words [] = [] ∷ []
 words (c ∷ cs) = cond (eqb c 32) ([] ∷ words cs) (ahead c (words cs))
 
-under : Rule → List (List ℕ) → List Name
-under r [] = []
-under r (w ∷ ws) = record { text = w; rule = r } ∷ under r ws
+under : ℕ → Rule → List (List ℕ) → List Name
+under profile r [] = []
+under profile r (w ∷ ws) = record { text = w; profile = profile; rule = r } ∷ under profile r ws
 
 abbrev group : Rule → String → List Name
-group r text = under r (words (ascii text))
+group r text = under 0 r (words (ascii text))
 
 abbrev ruledBy : Row → String → List Name
 ruledBy r text = group (ruling (byRow r)) text
+
+abbrev lanesBy : Row → String → List Name
+lanesBy r text = under 1 (ruling (byRow r)) (words (ascii text))
 
 -- "Ruled, 88"
 pub ruled : List Name
@@ -92,34 +95,56 @@ crateRules =
     ++ (group ldexp "ldexp"
     ++ group barrier "storageBarrier textureBarrier workgroupBarrier"))
 
+-- the 94
 abbrev pub document : List Name
 document = ruled ++ crateRules
 
--- every name of a list has its rule in another
-abbrev Covers : List Name → List Name → Type 0
-Covers rs other = map (λ (r : Name). ruleIn other (r .text)) rs ≡ map (λ (r : Name). rule (r .rule)) rs
+-- document 02, K1: "1 adds the subgroup and quad names of source document 000, without the naga form of subgroupBallot", by WGSL's subgroup chapter
+pub subgroups : List Name
+subgroups =
+    -- wide concrete numeric T to T
+    lanesBy oneConcrete "subgroupAdd subgroupExclusiveAdd subgroupInclusiveAdd subgroupMul subgroupExclusiveMul subgroupInclusiveMul subgroupMax subgroupMin subgroupBroadcastFirst quadSwapDiagonal quadSwapX quadSwapY"
+    -- wide i32 or u32
+    ++ (lanesBy oneBits "subgroupAnd subgroupOr subgroupXor"
+    -- bool to bool, bool to vec4 of u32, nothing to bool
+    ++ (lanesBy voting "subgroupAll subgroupAny"
+    ++ (lanesBy balloting "subgroupBallot"
+    ++ (lanesBy electing "subgroupElect"
+    -- T and i32 or u32, T and u32
+    ++ (lanesBy ofLane "subgroupBroadcast subgroupShuffle quadBroadcast"
+    ++ lanesBy shuffling "subgroupShuffleDown subgroupShuffleUp subgroupShuffleXor")))))
 
-covered : (rs other : List Name) → Covers rs other → (s : List ℕ) (R : Rule) → ruleIn rs s ≡ rule R → ruleIn other s ≡ rule R
+-- every name of a list has its rule in another
+abbrev Covers : ℕ → List Name → List Name → Type 0
+Covers profile rs other = map (λ (r : Name). ruleIn profile other (r .text)) rs ≡ map (λ (r : Name). ruleFor profile r) rs
+
+covered : (profile : ℕ) (rs other : List Name) → Covers profile rs other → (s : List ℕ) (R : Rule) → ruleIn profile rs s ≡ rule R → ruleIn profile other s ≡ rule R
 unfolding ruleIn
-covered [] other c s R e = absurd (let z : _≡_ {A = ℕ} 0 1 = cc in omega arith)
-covered (r ∷ rs) other c s R e = go (sameBytes (r .text) s) refl e (covered rs other (cc) s R)
+covered profile [] other c s R e = absurd (let z : _≡_ {A = ℕ} 0 1 = cc in omega arith)
+covered profile (r ∷ rs) other c s R e = go (sameBytes (r .text) s) refl e (covered profile rs other (cc) s R)
   where
-    head : ruleIn other (r .text) ≡ rule (r .rule)
+    head : ruleIn profile other (r .text) ≡ ruleFor profile r
     head = cc
 
-    go : (b : Bool) → sameBytes (r .text) s ≡ b → cond b (rule (r .rule)) (ruleIn rs s) ≡ rule R → (ruleIn rs s ≡ rule R → ruleIn other s ≡ rule R) → ruleIn other s ≡ rule R
+    go : (b : Bool) → sameBytes (r .text) s ≡ b → cond b (ruleFor profile r) (ruleIn profile rs s) ≡ rule R → (ruleIn profile rs s ≡ rule R → ruleIn profile other s ≡ rule R)
+        → ruleIn profile other s ≡ rule R
     go true p q later = rw (← same-bytes (r .text) s p) (head ∙ q)
     go false p q later = later q
 
-same-rules : (rs other : List Name) → Covers rs other → Covers other rs → (s : List ℕ) → ruleIn rs s ≡ ruleIn other s
-same-rules rs other t u s = go (ruleIn rs s) refl (ruleIn other s) refl
+same-rules : (profile : ℕ) (rs other : List Name) → Covers profile rs other → Covers profile other rs → (s : List ℕ) → ruleIn profile rs s ≡ ruleIn profile other s
+same-rules profile rs other t u s = go (ruleIn profile rs s) refl (ruleIn profile other s) refl
   where
-    go : (a : Named) → ruleIn rs s ≡ a → (b : Named) → ruleIn other s ≡ b → ruleIn rs s ≡ ruleIn other s
-    go (rule R) p b q = p ∙ sym (covered rs other t s R p)
-    go unknown p (rule R) q = covered other rs u s R q ∙ sym q
+    go : (a : Named) → ruleIn profile rs s ≡ a → (b : Named) → ruleIn profile other s ≡ b → ruleIn profile rs s ≡ ruleIn profile other s
+    go (rule R) p b q = p ∙ sym (covered profile rs other t s R p)
+    go unknown p (rule R) q = covered profile other rs u s R q ∙ sym q
     go unknown p unknown q = p ∙ sym q
 
--- THE TABLE SAYS WHAT DOCUMENT 01 SAYS, of all bytes
-pub as-document : (s : List ℕ) → ruleOf s ≡ ruleIn document s
-unfolding ascii words ahead under ruled crateRules names both sameBytes ruleIn
-as-document s = same-rules names document refl refl s
+-- THE TABLE SAYS WHAT THE DOCUMENTS SAY, of all bytes: in any profile the rule is that of the lists; in profile 0 that of document 01's alone
+
+pub as-documents : (profile : ℕ) (s : List ℕ) → ruleOf profile s ≡ ruleIn profile (document ++ subgroups) s
+unfolding ascii words ahead under ruled crateRules subgroups names both sameBytes ruleIn
+as-documents profile s = same-rules profile names (document ++ subgroups) refl refl s
+
+pub as-document : (s : List ℕ) → ruleOf 0 s ≡ ruleIn 0 document s
+unfolding ascii words ahead under ruled crateRules names both sameBytes within ruleIn
+as-document s = same-rules 0 names document refl refl s

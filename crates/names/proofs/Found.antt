@@ -4,15 +4,15 @@ use Prim.Native.Nat.{ℕ, zero, suc, _≤_, _<_, zero-le, suc-le-suc}
 use native.Mathlib.Nat.{not-suc-le-zero, le-of-suc-le-suc}
 use native.Mathlib.Omega.{arith}
 use mathlib.Core.Path.{_≡_, refl, sym, _∙_, ap}
-use mathlib.Core.Bool.{Bool, true, false, _||_, cond}
+use mathlib.Core.Bool.{Bool, true, false, _&&_, _||_, cond}
 use mathlib.Core.List.{List, [], _∷_}
-use lib.Dec.{T, eqb, leb, leb→le}
+use lib.Dec.{T, eqb, ltb, leb, leb→le}
 use lib.ListN.{length, getD}
-use borrow.Author.Tests.{eqb-false, eq-eqb, ne-eqb}
+use borrow.Author.Tests.{eqb-false, eq-eqb, ne-eqb, lt-ltb, le-ltb, lt-leb, le-leb}
 use Rattle.conv.specs.Rank.{both}
 use Rattle.conv.proofs.Finite.{below, both-left, both-right, same, same-eq}
 use Rattle.text.specs.Text.{ascii}
-use Rattle.names.specs.Names.{Rule, Name, names, noName, nameAt, count, sameBytes, Named, ruleIn, ruleOf}
+use Rattle.names.specs.Names.{Rule, Name, names, noName, nameAt, count, sameBytes, profiles, within, Named, ruleFor, ruleIn, ruleOf}
 use Rattle.names.specs.Names.Named.{rule, unknown}
 use Rattle.names.specs.inner.Table.{nameWidth, blank, hasBlank}
 use Rattle.names.proofs.Bytes.{differ, same-self, not-same}
@@ -83,31 +83,70 @@ row-other k s i n = differ (nameAt k) s (λ e. n (ap (λ (t : List ℕ). getD t 
 
 -- THE RULE OF A NAME, by the row that has it: no name stands twice
 
-first-in : (rs : List Name) (s : List ℕ) (k : ℕ) → k < length rs → ((j : ℕ) → j < k → sameBytes (getD rs j noName .text) s ≡ false)
-    → sameBytes (getD rs k noName .text) s ≡ true → ruleIn rs s ≡ rule (getD rs k noName .rule)
+first-in : (profile : ℕ) (rs : List Name) (s : List ℕ) (k : ℕ) → k < length rs → ((j : ℕ) → j < k → sameBytes (getD rs j noName .text) s ≡ false)
+    → sameBytes (getD rs k noName .text) s ≡ true → ruleIn profile rs s ≡ ruleFor profile (getD rs k noName)
 unfolding ruleIn
-first-in [] s k h n e = absurd (not-suc-le-zero h)
-first-in (r ∷ rs) s zero h n e = rw e
-first-in (r ∷ rs) s (suc k) h n e = rw (n zero (suc-le-suc zero-le)) (first-in rs s k (le-of-suc-le-suc h) (λ j l. n (suc j) (suc-le-suc l)) e)
+first-in profile [] s k h n e = absurd (not-suc-le-zero h)
+first-in profile (r ∷ rs) s zero h n e = rw e
+first-in profile (r ∷ rs) s (suc k) h n e = rw (n zero (suc-le-suc zero-le)) (first-in profile rs s k (le-of-suc-le-suc h) (λ j l. n (suc j) (suc-le-suc l)) e)
 
-absent : (rs : List Name) (s : List ℕ) → ((k : ℕ) → k < length rs → sameBytes (getD rs k noName .text) s ≡ false) → ruleIn rs s ≡ unknown
+absent : (profile : ℕ) (rs : List Name) (s : List ℕ) → ((k : ℕ) → k < length rs → sameBytes (getD rs k noName .text) s ≡ false) → ruleIn profile rs s ≡ unknown
 unfolding ruleIn
-absent [] s n = refl
-absent (r ∷ rs) s n = rw (n zero (suc-le-suc zero-le)) (absent rs s (λ k h. n (suc k) (suc-le-suc h)))
+absent profile [] s n = refl
+absent profile (r ∷ rs) s n = rw (n zero (suc-le-suc zero-le)) (absent profile rs s (λ k h. n (suc k) (suc-le-suc h)))
 
-pub found : (s : List ℕ) (k : ℕ) → k < count → nameAt k ≡ s → ruleOf s ≡ rule (at k .rule)
+pub found : (profile : ℕ) (s : List ℕ) (k : ℕ) → k < count → nameAt k ≡ s → ruleOf profile s ≡ ruleFor profile (at k)
 unfolding nameAt
-found s k h e =
-    first-in names s k h (λ j l. differ (nameAt j) s (λ q. let o = once j k (omega arith) h (q ∙ sym e) in omega arith)) (rw e (same-self s))
+found profile s k h e =
+    first-in profile names s k h (λ j l. differ (nameAt j) s (λ q. let o = once j k (omega arith) h (q ∙ sym e) in omega arith)) (rw e (same-self s))
 
-pub missing : (s : List ℕ) → ((k : ℕ) → k < count → nameAt k ≡ s → ⊥) → ruleOf s ≡ unknown
+pub missing : (profile : ℕ) (s : List ℕ) → ((k : ℕ) → k < count → nameAt k ≡ s → ⊥) → ruleOf profile s ≡ unknown
 unfolding nameAt
-missing s n = absent names s (λ k h. differ (nameAt k) s (n k h))
+missing profile s n = absent profile names s (λ k h. differ (nameAt k) s (n k h))
 
 -- a name longer than a line, or with a blank, has none
 
-pub too-long : (s : List ℕ) → nameWidth < length s → ruleOf s ≡ unknown
-too-long s h = missing s (λ k l e. let m = short k l in let n : length (nameAt k) ≡ length s = ap length e in omega arith)
+pub too-long : (profile : ℕ) (s : List ℕ) → nameWidth < length s → ruleOf profile s ≡ unknown
+too-long profile s h = missing profile s (λ k l e. let m = short k l in let n : length (nameAt k) ≡ length s = ap length e in omega arith)
 
-pub with-blank : (s : List ℕ) → hasBlank s ≡ true → ruleOf s ≡ unknown
-with-blank s h = missing s (λ k l e. let z = sym (unbroken k l) ∙ ap hasBlank e ∙ h in let y : _≡_ {A = ℕ} 0 1 = cc in omega arith)
+pub with-blank : (profile : ℕ) (s : List ℕ) → hasBlank s ≡ true → ruleOf profile s ≡ unknown
+with-blank profile s h = missing profile s (λ k l e. let z = sym (unbroken k l) ∙ ap hasBlank e ∙ h in let y : _≡_ {A = ℕ} 0 1 = cc in omega arith)
+
+-- THE PROFILE: a name that it has, and one that it has not; an unknown profile has none
+
+pub has-name : (profile first : ℕ) → profile < profiles → first ≤ profile → within profile first ≡ true
+unfolding within
+has-name profile first h l = rw (lt-ltb profile profiles h, le-leb first profile l)
+
+pub lacks-name : (profile first : ℕ) → profile < first → within profile first ≡ false
+unfolding within
+lacks-name profile first l = rw (lt-leb first profile l) (none (ltb profile profiles))
+  where
+    none : (b : Bool) → (b && false) ≡ false
+    none true = refl
+    none false = refl
+
+no-profile : (profile first : ℕ) → profiles ≤ profile → within profile first ≡ false
+unfolding within
+no-profile profile first h = rw (le-ltb profile profiles h)
+
+none-in : (profile : ℕ) (rs : List Name) (s : List ℕ) → profiles ≤ profile → ruleIn profile rs s ≡ unknown
+unfolding ruleIn
+none-in profile [] s h = refl
+none-in profile (r ∷ rs) s h = rw (no-profile profile (r .profile) h, none-in profile rs s h) (either (sameBytes (r .text) s))
+  where
+    either : (b : Bool) → cond b unknown unknown ≡ unknown
+    either true = refl
+    either false = refl
+
+pub unknown-profile : (profile : ℕ) (s : List ℕ) → profiles ≤ profile → ruleOf profile s ≡ unknown
+unknown-profile profile s h = none-in profile names s h
+
+-- so a name that stands at a row has its rule, or none
+
+module _ (profile : ℕ) (s : List ℕ) (k : ℕ) (h : k < count) (e : nameAt k ≡ s) where
+  pub found-here : profile < profiles → at k .profile ≤ profile → ruleOf profile s ≡ rule (at k .rule)
+  found-here p l = found profile s k h e ∙ ap (λ (b : Bool). cond b (rule (at k .rule)) unknown) (has-name profile (at k .profile) p l)
+
+  pub found-later : profile < at k .profile → ruleOf profile s ≡ unknown
+  found-later l = found profile s k h e ∙ ap (λ (b : Bool). cond b (rule (at k .rule)) unknown) (lacks-name profile (at k .profile) l)

@@ -31,7 +31,7 @@ filled-at (suc w) (x ∷ xs) (suc i) l = filled-at w xs i (le-of-suc-le-suc l)
 
 line-length : (r : Name) → length (line r) ≡ lineWidth
 unfolding line
-line-length r = length-append (filled nameWidth (r .text)) _ ∙ ap (λ (k : ℕ). k + 1) (filled-length nameWidth (r .text))
+line-length r = length-append (filled nameWidth (r .text)) _ ∙ ap (λ (k : ℕ). k + 2) (filled-length nameWidth (r .text))
 
 lines-length : (rs : List Name) → length (linesOf rs) ≡ length rs * lineWidth
 unfolding linesOf
@@ -75,7 +75,7 @@ module _ (rows : List ℕ) (lent : rows ≡ nameTable) where
         let a = filled-length nameWidth (at k .text) in
         ap (λ (s : List ℕ). getD s (k * lineWidth + i) 0) lent
         ∙ lines-at names k i h (omega arith)
-        ∙ List·getD-append (filled nameWidth (at k .text)) (ruleNumber (at k .rule) ∷ []) 0 i (omega arith)
+        ∙ List·getD-append (filled nameWidth (at k .text)) (ruleNumber (at k .rule) ∷ at k .profile ∷ []) 0 i (omega arith)
         ∙ filled-at nameWidth (at k .text) i l
 
     -- and the number of its rule
@@ -84,4 +84,16 @@ module _ (rows : List ℕ) (lent : rows ≡ nameTable) where
     number-at =
         ap (λ (s : List ℕ). getD s (k * lineWidth + nameWidth) 0) lent
         ∙ lines-at names k nameWidth h (omega arith)
-        ∙ getD-at (filled nameWidth (at k .text)) (ruleNumber (at k .rule)) [] 0 nameWidth (filled-length nameWidth (at k .text))
+        ∙ getD-at (filled nameWidth (at k .text)) (ruleNumber (at k .rule)) (at k .profile ∷ []) 0 nameWidth (filled-length nameWidth (at k .text))
+
+    -- and its profile
+    pub profile-at : getD rows (k * lineWidth + nameWidth + 1) 0 ≡ at k .profile
+    unfolding nameTable line
+    profile-at =
+        let a = filled-length nameWidth (at k .text) in
+        let e : k * lineWidth + nameWidth + 1 ≡ k * lineWidth + 33 = omega arith in
+        ap (λ (j : ℕ). getD rows j 0) e
+        ∙ ap (λ (s : List ℕ). getD s (k * lineWidth + 33) 0) lent
+        ∙ lines-at names k 33 h (omega arith)
+        ∙ ap (λ (j : ℕ). getD (line (at k)) j 0) (let q : 33 ≡ length (filled nameWidth (at k .text)) + 1 = omega arith in q)
+        ∙ getD-append-add (filled nameWidth (at k .text)) (ruleNumber (at k .rule) ∷ at k .profile ∷ []) 1 0

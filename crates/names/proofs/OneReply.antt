@@ -6,5 +6,5 @@ use Rattle.names.specs.declared.RuleNo.{RuleNo}
 use Rattle.names.specs.Names.{ruleOf}
 use Rattle.names.specs.inner.Table.{replied}
 
-pub rule-of-one : (name : List ℕ) (r q : RuleNo) → r ≡ replied (ruleOf name) → q ≡ replied (ruleOf name) → r ≡ q
-rule-of-one name r q h k = h ∙ sym k
+pub rule-of-one : (profile : ℕ) (name : List ℕ) (r q : RuleNo) → r ≡ replied (ruleOf profile name) → q ≡ replied (ruleOf profile name) → r ≡ q
+rule-of-one profile name r q h k = h ∙ sym k

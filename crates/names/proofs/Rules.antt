@@ -10,7 +10,7 @@ use borrow.Author.Tests.{lt-ltb, le-ltb, eq-eqb, ne-eqb, ltb-true, ltb-false}
 use Rattle.overload.specs.Rows.{Row, rows, noRow, rowAt, Ruling, Known}
 use Rattle.overload.specs.Rows.Ruling.{byRow, address, indirection}
 use Rattle.overload.proofs.Rulings.{row-known}
-use Rattle.names.specs.Names.{Rule, Name, names, sameBytes, Named, ruleIn, ruleOf}
+use Rattle.names.specs.Names.{Rule, Name, names, sameBytes, within, Named, ruleFor, ruleIn, ruleOf}
 use Rattle.names.specs.Names.Rule.{ruling, bitcast, arrayLength, ldexp, barrier}
 use Rattle.names.specs.Names.Named.{rule, unknown}
 use Rattle.names.specs.inner.Table.{rulingNumber, ruleNumber, numbered, replied}
@@ -20,42 +20,43 @@ use Rattle.names.specs.declared.RuleNo.the-variants.{Is, Unknown}
 abbrev Fixes : (Rule → Rule) → List Name → Type 0
 Fixes f rs = map (λ (r : Name). f (r .rule)) rs ≡ map (λ (r : Name). r .rule) rs
 
-fixed : (f : Rule → Rule) (rs : List Name) → Fixes f rs → (s : List ℕ) (R : Rule) → ruleIn rs s ≡ rule R → f R ≡ R
+fixed : (f : Rule → Rule) (profile : ℕ) (rs : List Name) → Fixes f rs → (s : List ℕ) (R : Rule) → ruleIn profile rs s ≡ rule R → f R ≡ R
 unfolding ruleIn
-fixed f [] h s R e = absurd (let z : _≡_ {A = ℕ} 0 1 = cc in omega arith)
-fixed f (r ∷ rs) h s R e = go (sameBytes (r .text) s) e (fixed f rs (cc) s R)
+fixed f profile [] h s R e = absurd (let z : _≡_ {A = ℕ} 0 1 = cc in omega arith)
+fixed f profile (r ∷ rs) h s R e = go (sameBytes (r .text) s) (within profile (r .profile)) e (fixed f profile rs (cc) s R)
   where
     head : f (r .rule) ≡ r .rule
     head = cc
 
-    go : (b : Bool) → cond b (rule (r .rule)) (ruleIn rs s) ≡ rule R → (ruleIn rs s ≡ rule R → f R ≡ R) → f R ≡ R
-    go true q later = let p : r .rule ≡ R = cc in rw p at head
-    go false q later = later q
+    go : (b d : Bool) → cond b (cond d (rule (r .rule)) unknown) (ruleIn profile rs s) ≡ rule R → (ruleIn profile rs s ≡ rule R → f R ≡ R) → f R ≡ R
+    go true true q later = let p : r .rule ≡ R = cc in rw p at head
+    go true false q later = absurd (let z : _≡_ {A = ℕ} 0 1 = cc in omega arith)
+    go false d q later = later q
 
 -- a rule that a name has is the one of its number
-pub rule-numbered : (s : List ℕ) (R : Rule) → ruleOf s ≡ rule R → numbered (ruleNumber R) ≡ R
+pub rule-numbered : (profile : ℕ) (s : List ℕ) (R : Rule) → ruleOf profile s ≡ rule R → numbered (ruleNumber R) ≡ R
 unfolding names rulingNumber ruleNumber numbered rows rowAt
-rule-numbered s R e = fixed (λ (R : Rule). numbered (ruleNumber R)) names refl s R e
+rule-numbered profile s R e = fixed (λ (R : Rule). numbered (ruleNumber R)) profile names refl s R e
 
 -- WHAT A REPLY SAYS of a name
 
 impossible : {P : Type 0} → _≡_ {A = ℕ} 0 1 → P
 impossible z = absurd (omega arith)
 
-module _ (s : List ℕ) where
-  pub said-rule : (k : ℕ) → replied (ruleOf s) ≡ Is k → ruleOf s ≡ rule (numbered k)
+module _ (profile : ℕ) (s : List ℕ) where
+  pub said-rule : (k : ℕ) → replied (ruleOf profile s) ≡ Is k → ruleOf profile s ≡ rule (numbered k)
   unfolding replied
-  said-rule k e = go (ruleOf s) refl e
+  said-rule k e = go (ruleOf profile s) refl e
     where
-      go : (a : Named) → ruleOf s ≡ a → replied a ≡ Is k → ruleOf s ≡ rule (numbered k)
-      go (rule R) p q = let i : ruleNumber R ≡ k = cc in p ∙ ap rule (sym (rule-numbered s R p) ∙ ap numbered i)
+      go : (a : Named) → ruleOf profile s ≡ a → replied a ≡ Is k → ruleOf profile s ≡ rule (numbered k)
+      go (rule R) p q = let i : ruleNumber R ≡ k = cc in p ∙ ap rule (sym (rule-numbered profile s R p) ∙ ap numbered i)
       go unknown p q = impossible (cc)
 
-  pub said-unknown : replied (ruleOf s) ≡ Unknown → ruleOf s ≡ unknown
+  pub said-unknown : replied (ruleOf profile s) ≡ Unknown → ruleOf profile s ≡ unknown
   unfolding replied
-  said-unknown e = go (ruleOf s) refl e
+  said-unknown e = go (ruleOf profile s) refl e
     where
-      go : (a : Named) → ruleOf s ≡ a → replied a ≡ Unknown → ruleOf s ≡ unknown
+      go : (a : Named) → ruleOf profile s ≡ a → replied a ≡ Unknown → ruleOf profile s ≡ unknown
       go (rule R) p q = impossible (cc)
       go unknown p q = p
 
@@ -94,15 +95,15 @@ again arrayLength = arrayLength
 again ldexp = ldexp
 again barrier = barrier
 
-name-again : (s : List ℕ) (R : Rule) → ruleOf s ≡ rule R → again R ≡ R
+name-again : (profile : ℕ) (s : List ℕ) (R : Rule) → ruleOf profile s ≡ rule R → again R ≡ R
 unfolding names again rows rowAt
-name-again s R e = fixed again names refl s R e
+name-again profile s R e = fixed again profile names refl s R e
 
-pub ruling-known : (s : List ℕ) (r : Ruling) → ruleOf s ≡ rule (ruling r) → Known r
+pub ruling-known : (profile : ℕ) (s : List ℕ) (r : Ruling) → ruleOf profile s ≡ rule (ruling r) → Known r
 unfolding again Known
-ruling-known s (byRow r) e = let p : ruling (byRow (rowAt (r .number))) ≡ ruling (byRow r) = name-again s (ruling (byRow r)) e in cc
-ruling-known s address e = tt
-ruling-known s indirection e = tt
+ruling-known profile s (byRow r) e = let p : ruling (byRow (rowAt (r .number))) ≡ ruling (byRow r) = name-again profile s (ruling (byRow r)) e in cc
+ruling-known profile s address e = tt
+ruling-known profile s indirection e = tt
 
 -- so is a ruling that a number has
 

@@ -1,13 +1,14 @@
--- THE BUILTIN NAMES of document 01, "Builtins": each with its rule, and the rule of any bytes that are offered as a name. Assumes nothing.
+-- THE BUILTIN NAMES of document 01, "Builtins", and of document 02, K1: each with its profile and its rule, and the rule of any bytes that are offered as a name.
+-- Assumes nothing.
 use Prim.Native.Nat.{ℕ, _+_, _<_}
 use Prim.Native.String.{String}
-use mathlib.Core.Bool.{Bool, true, false, cond}
+use mathlib.Core.Bool.{Bool, true, false, _&&_, cond}
 use mathlib.Core.List.{List, [], _∷_}
-use lib.Dec.{T, eqb, ltb}
+use lib.Dec.{T, eqb, ltb, leb}
 use lib.ListN.{length, getD}
 use Rattle.text.specs.Text.{ascii}
 use Rattle.conv.specs.Rank.{both}
-use Rattle.overload.specs.Rows.{Row, Ruling, negating, oneFloat, twoFloats, threeFloats, mixing, oneNumeric, twoNumerics, threeNumerics, oneBits, extracting, inserting, measuring, distancing, dotting, oneFloatVector, twoFloatVectors, threeFloatVectors, refracting, crossing, squareMatrix, transposing, oneF32, frexpOf, modfOf, packing4F32, packing4I32, packing4U32, packing2F32, unpacking4F32, unpacking4I32, unpacking4U32, unpacking2F32, packedDotU32, packedDotI32, oneBool, selecting}
+use Rattle.overload.specs.Rows.{Row, Ruling, negating, oneFloat, twoFloats, threeFloats, mixing, oneNumeric, twoNumerics, threeNumerics, oneBits, extracting, inserting, measuring, distancing, dotting, oneFloatVector, twoFloatVectors, threeFloatVectors, refracting, crossing, squareMatrix, transposing, oneF32, frexpOf, modfOf, packing4F32, packing4I32, packing4U32, packing2F32, unpacking4F32, unpacking4I32, unpacking4U32, unpacking2F32, packedDotU32, packedDotI32, oneBool, selecting, oneConcrete, voting, balloting, electing, ofLane, shuffling}
 use Rattle.overload.specs.Rows.Ruling.{byRow}
 
 -- A RULE: which overloads the calls of a name have, or one of the crate rules; the three barriers have one
@@ -16,19 +17,24 @@ pub data Rule : Type 0 where
   ruling : Ruling → Rule
   bitcast arrayLength ldexp barrier : Rule
 
+-- a name: its bytes, the first profile that has it, and its rule
 pub record Name : Type 0 where
   pub text : List ℕ
+  pub profile : ℕ
   pub rule : Rule
 
--- a ruled name, with its row of `overload/specs/Rows.antt`; a name with a crate rule
+-- a ruled name, with its row of `overload/specs/Rows.antt`; a name with a crate rule; and a name of profile 1
 
 abbrev pub ruled : String → Row → Name
-ruled text row = record { text = ascii text; rule = ruling (byRow row) }
+ruled text row = record { text = ascii text; profile = 0; rule = ruling (byRow row) }
 
 abbrev pub crateRule : String → Rule → Name
-crateRule text rule = record { text = ascii text; rule = rule }
+crateRule text rule = record { text = ascii text; profile = 0; rule = rule }
 
--- "The 94 builtin names stand sorted by their bytes"
+abbrev pub lanes : String → Row → Name
+lanes text row = record { text = ascii text; profile = 1; rule = ruling (byRow row) }
+
+-- "The 94 builtin names stand sorted by their bytes", and among them the 25 of subgroups and quads
 unfoldable pub names : List Name
 names =
     ruled "abs" oneNumeric
@@ -97,6 +103,10 @@ names =
     ∷ ruled "pack4xU8" packing4U32
     ∷ ruled "pack4xU8Clamp" packing4U32
     ∷ ruled "pow" twoFloats
+    ∷ lanes "quadBroadcast" ofLane
+    ∷ lanes "quadSwapDiagonal" oneConcrete
+    ∷ lanes "quadSwapX" oneConcrete
+    ∷ lanes "quadSwapY" oneConcrete
     ∷ ruled "quantizeToF16" oneF32
     ∷ ruled "radians" oneFloat
     ∷ ruled "reflect" twoFloatVectors
@@ -112,6 +122,27 @@ names =
     ∷ ruled "sqrt" oneFloat
     ∷ ruled "step" twoFloats
     ∷ crateRule "storageBarrier" barrier
+    ∷ lanes "subgroupAdd" oneConcrete
+    ∷ lanes "subgroupAll" voting
+    ∷ lanes "subgroupAnd" oneBits
+    ∷ lanes "subgroupAny" voting
+    ∷ lanes "subgroupBallot" balloting
+    ∷ lanes "subgroupBroadcast" ofLane
+    ∷ lanes "subgroupBroadcastFirst" oneConcrete
+    ∷ lanes "subgroupElect" electing
+    ∷ lanes "subgroupExclusiveAdd" oneConcrete
+    ∷ lanes "subgroupExclusiveMul" oneConcrete
+    ∷ lanes "subgroupInclusiveAdd" oneConcrete
+    ∷ lanes "subgroupInclusiveMul" oneConcrete
+    ∷ lanes "subgroupMax" oneConcrete
+    ∷ lanes "subgroupMin" oneConcrete
+    ∷ lanes "subgroupMul" oneConcrete
+    ∷ lanes "subgroupOr" oneBits
+    ∷ lanes "subgroupShuffle" ofLane
+    ∷ lanes "subgroupShuffleDown" shuffling
+    ∷ lanes "subgroupShuffleUp" shuffling
+    ∷ lanes "subgroupShuffleXor" shuffling
+    ∷ lanes "subgroupXor" oneBits
     ∷ ruled "tan" oneFloat
     ∷ ruled "tanh" oneFloat
     ∷ crateRule "textureBarrier" barrier
@@ -127,7 +158,15 @@ names =
     ∷ crateRule "workgroupBarrier" barrier
     ∷ []
 
--- THE RULE OF A NAME: names are compared byte for byte
+-- A PROFILE has the names of its own number and of every smaller one: 0 those of document 01, 1 all. There is no other, and a profile that is unknown has none
+
+abbrev pub profiles : ℕ
+profiles = 2
+
+unfoldable pub within : ℕ → ℕ → Bool
+within profile first = ltb profile profiles && leb first profile
+
+-- THE RULE OF A NAME in a profile: names are compared byte for byte
 
 unfoldable pub sameBytes : List ℕ → List ℕ → Bool
 sameBytes [] [] = true
@@ -139,12 +178,15 @@ pub data Named : Type 0 where
   rule : Rule → Named
   unknown : Named
 
-unfoldable pub ruleIn : List Name → List ℕ → Named
-ruleIn [] s = unknown
-ruleIn (r ∷ rs) s = cond (sameBytes (r .text) s) (rule (r .rule)) (ruleIn rs s)
+abbrev pub ruleFor : ℕ → Name → Named
+ruleFor profile r = cond (within profile (r .profile)) (rule (r .rule)) unknown
 
-abbrev pub ruleOf : List ℕ → Named
-ruleOf s = ruleIn names s
+unfoldable pub ruleIn : ℕ → List Name → List ℕ → Named
+ruleIn profile [] s = unknown
+ruleIn profile (r ∷ rs) s = cond (sameBytes (r .text) s) (ruleFor profile r) (ruleIn profile rs s)
+
+abbrev pub ruleOf : ℕ → List ℕ → Named
+ruleOf profile s = ruleIn profile names s
 
 -- SORTED BY THEIR BYTES: at the first byte where two names differ the earlier one has the smaller; a name stands before a longer one that begins with it
 
@@ -158,7 +200,7 @@ count = length names
 
 -- past the last stands an empty name
 abbrev pub noName : Name
-noName = record { text = []; rule = barrier }
+noName = record { text = []; profile = 0; rule = barrier }
 
 unfoldable pub nameAt : ℕ → List ℕ
 nameAt k = getD names k noName .text

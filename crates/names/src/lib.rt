@@ -1,4 +1,4 @@
-// Which rule the bytes that are offered as a builtin's name have.
+// Which rule the bytes that are offered as a builtin's name have in a profile.
 mod tables;
 
 use tables::LINE_WIDTH;
@@ -19,6 +19,9 @@ pub const RULE_ARRAY_LENGTH: u8 = 101;
 pub const RULE_LDEXP: u8 = 102;
 
 pub const RULE_BARRIER: u8 = 103;
+
+// How many profiles there are.
+pub const PROFILES: u32 = 2;
 
 // What names are filled up with: it is below every letter and digit.
 const BLANK: u8 = b' ';
@@ -82,11 +85,14 @@ fn row_of(rows: &[u8], name: &[u8], lines: usize) -> usize
     lines
 }
 
-// The number of the rule that the name with these bytes has. For the crates above, which lend the table: a host calls nothing of this crate.
-pub fn rule_of(rows: &[u8], name: &[u8]) -> RuleNo
+// The number of the rule that the name with these bytes has in a profile. For the crates above, which lend the table: a host calls nothing of this crate.
+pub fn rule_of(rows: &[u8], profile: u32, name: &[u8]) -> RuleNo
     requires { ⌜ now rows ≡ nameTable ⌝ }
-    ensures { λ r. ⌜ r ≡ replied (ruleOf (now (name .entry))) ⌝ }
+    ensures { λ r. ⌜ r ≡ replied (ruleOf profile (now (name .entry))) ⌝ }
 {
+    if PROFILES <= profile {
+        return RuleNo::Unknown;
+    }
     if NAME_WIDTH < name.len() {
         return RuleNo::Unknown;
     }
@@ -95,8 +101,12 @@ pub fn rule_of(rows: &[u8], name: &[u8]) -> RuleNo
     }
     let lines = rows.len() / LINE_WIDTH;
     let row = row_of(rows, name, lines);
-    if row < lines {
-        return RuleNo::Is(rows[row * LINE_WIDTH + NAME_WIDTH]);
+    if lines <= row {
+        return RuleNo::Unknown;
     }
-    RuleNo::Unknown
+    let number = row * LINE_WIDTH + NAME_WIDTH;
+    if profile < cast::wide32(rows[number + 1]) {
+        return RuleNo::Unknown;
+    }
+    RuleNo::Is(rows[number])
 }

@@ -44,7 +44,7 @@ result-at [] h o m = absurd (List·Memᴰ·not-nil m)
 result-at (p ∷ ps) h o m =
     ⊎-elim (λ e. subst (λ (q : Overload). T (resultTest q)) (sym e) (both-left _ _ h)) (λ n. result-at ps (both-right (resultTest p) _ h) o n) (List·Memᴰ·cases-cons m)
 
-T-true : (b : Bool) → T b → b ≡ true
+pub T-true : (b : Bool) → T b → b ≡ true
 T-true true t = refl
 T-true false t = absurd t
 

@@ -154,16 +154,23 @@ signed = abstractInt ∷ abstractFloat ∷ i32 ∷ f32 ∷ f16 ∷ []
 abbrev pub bits : List ℕ
 bits = i32 ∷ u32 ∷ []
 
+-- concrete numeric
+abbrev pub concrete : List ℕ
+concrete = i32 ∷ u32 ∷ f32 ∷ f16 ∷ []
+
 abbrev pub only : ℕ → List ℕ
 only s = s ∷ []
 
--- PATTERNS BY NAME: `N` of the size and `E` the component, of T; `Nof s` and `Eof s` of the scalar s
+-- PATTERNS BY NAME: `N` of the size and `E` the component, of T; `I` the scalar of the second choice; `Nof s` and `Eof s` of the scalar s
 
 abbrev pub N : Pattern
 N = record { form = sized; of = ofT }
 
 abbrev pub E : Pattern
 E = record { form = single; of = ofT }
+
+abbrev pub I : Pattern
+I = record { form = single; of = ofI }
 
 abbrev pub Nof : ℕ → Pattern
 Nof s = record { form = sized; of = just s }
@@ -192,6 +199,10 @@ noChoice = only bool
 
 abbrev pub family : List ℕ → List Size → List Pattern → Pattern → Family
 family set sizes params result = record { set = set; second = noChoice; sizes = sizes; params = params; wrap = bare; result = result }
+
+-- with a second choice, which one at least of its patterns asks
+abbrev pub choosing : List ℕ → List ℕ → List Size → List Pattern → Pattern → Family
+choosing set second sizes params result = record { set = set; second = second; sizes = sizes; params = params; wrap = bare; result = result }
 
 abbrev pub resultType : Wrap → Family
 resultType w = record { set = float; second = noChoice; sizes = wides; params = N ∷ []; wrap = w; result = N }
@@ -382,6 +393,31 @@ selecting =
     ∷ family (bool ∷ numeric) vectors (N ∷ N ∷ Nof bool ∷ []) N
     ∷ [])
 
+-- of subgroups and quads, by WGSL's "Subgroup Built-in Functions" and "Quad Operations": wide concrete numeric T to T
+
+abbrev pub oneConcrete : Row
+oneConcrete = row 47 (family concrete wides (N ∷ []) N ∷ [])
+
+-- bool to bool
+abbrev pub voting : Row
+voting = row 48 (family (only bool) scalars (N ∷ []) N ∷ [])
+
+-- bool to vec4 of u32
+abbrev pub balloting : Row
+balloting = row 49 (family (only u32) (width 4) (Eof bool ∷ []) N ∷ [])
+
+-- nothing to bool
+abbrev pub electing : Row
+electing = row 50 (family (only bool) scalars [] N ∷ [])
+
+-- T, and the lane as i32 or u32
+abbrev pub ofLane : Row
+ofLane = row 51 (choosing concrete bits wides (N ∷ I ∷ []) N ∷ [])
+
+-- T, and how far its lane is, as u32
+abbrev pub shuffling : Row
+shuffling = row 52 (family concrete wides (N ∷ Eof u32 ∷ []) N ∷ [])
+
 -- all rows, by their numbers
 unfoldable pub rows : List Row
 rows =
@@ -390,6 +426,7 @@ rows =
     ∷ measuring ∷ distancing ∷ dotting ∷ oneFloatVector ∷ twoFloatVectors ∷ threeFloatVectors ∷ refracting ∷ crossing ∷ squareMatrix ∷ transposing
     ∷ oneF32 ∷ frexpOf ∷ modfOf ∷ packing4F32 ∷ packing4I32 ∷ packing4U32 ∷ packing2F32 ∷ unpacking4F32 ∷ unpacking4I32 ∷ unpacking4U32 ∷ unpacking2F32
     ∷ packedDotU32 ∷ packedDotI32 ∷ oneBool ∷ selecting
+    ∷ oneConcrete ∷ voting ∷ balloting ∷ electing ∷ ofLane ∷ shuffling
     ∷ []
 
 -- the row of a number; a number that no row has has no overload

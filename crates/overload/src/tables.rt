@@ -105,6 +105,18 @@ pub fn row_line(row: usize) -> u64
         45 => 0x1_3b_0_ffff0fff0,
         // selecting
         46 => 0x3_3c_0_ffff10ff0,
+        // oneConcrete
+        47 => 0x1_3e_0_ffff0fff0,
+        // voting
+        48 => 0x1_3f_0_ffffffff0,
+        // balloting
+        49 => 0x1_40_0_ffffffff0,
+        // electing
+        50 => 0x0_41_0_ffffffff0,
+        // ofLane
+        51 => 0x2_42_0_fffff0ff0,
+        // shuffling
+        52 => 0x2_43_0_fffff0ff0,
         _ => 0x0_00_0_fffffffff,
     }
 }
@@ -239,6 +251,18 @@ pub fn family_word(f: u64) -> u64
         60 => 0x0_5_5_0_0_90_90_01_90_90_3,
         // selecting: (N, N, N of bool) to N; T bool ∷ numeric; vectors
         61 => 0x0_5_4_0_0_90_90_00_90_90_3,
+        // oneConcrete: (N) to N; T concrete; wides
+        62 => 0x0_a_5_0_0_90_90_90_90_90_1,
+        // voting: (N) to N; T only bool; scalars
+        63 => 0x0_0_0_0_0_90_90_90_90_90_1,
+        // balloting: (E of bool) to N; T only u32; width 4
+        64 => 0x0_9_3_3_0_90_90_90_90_01_1,
+        // electing: () to N; T only bool; scalars
+        65 => 0x0_0_0_0_0_90_90_90_90_90_0,
+        // ofLane: (N, E of I) to N; T concrete, I bits; wides
+        66 => 0x6_a_5_0_0_90_90_90_71_90_2,
+        // shuffling: (N, E of u32) to N; T concrete; wides
+        67 => 0x0_a_5_0_0_90_90_90_41_90_2,
         _ => 0xf_f_f_0_0_90_90_90_90_90_0,
     }
 }
@@ -354,7 +378,8 @@ pub fn set_line(k: u8) -> u64
         8 => 0x4,
         // only u32
         9 => 0x8,
-        10 => 0,
+        // concrete
+        10 => 0x6c,
         11 => 0,
         12 => 0,
         13 => 0,

@@ -6,7 +6,7 @@ use mathlib.Core.Path.{_≡_, refl, sym, _∙_, ap}
 use mathlib.Core.Bool.{true, false}
 use mathlib.Core.List.{List, [], _∷_, map}
 use native.Mathlib.Omega.{arith}
-use lib.Dec.{ltb}
+use lib.Dec.{ltb, leb}
 use lib.ListN.{getD, length-drop}
 use borrow.Author.Tests.{lt-ltb, le-leb}
 use Rattle.table.specs.Table.{soundb, allowedb}
@@ -16,14 +16,14 @@ use Rattle.table.specs.Placing.{enterType}
 use Rattle.table.specs.declared.Entry.{Entry}
 use Rattle.answer.specs.declared.Reason.the-variants.{NoSuchType, Template}
 use Rattle.table.proofs.SoundLaws.{of-sound}
-use Rattle.table.proofs.KindLaws.{split}
+use Rattle.table.proofs.KindLaws.{split, and-false}
 use Rattle.table.proofs.Keeping.{enter-call}
 use Rattle.ops_ty.specs.Ops.{unaryOutcome, binaryOutcome, typeUnaryOp, typeBinaryOp}
 use Rattle.call_ty.specs.Calls.{callOutcome, allUnder, typeBuiltinFn}
 use Rattle.call_ty.specs.inner.Codes.{Under}
 use Rattle.call_ty.proofs.Lists.{under-all}
 use Rattle.held.specs.Held.{numberOf}
-use Rattle.step.specs.Effect.{most, State, height, operands, below, stop, onto, calling, unaryEffect, binaryEffect, callEffect, templateEffect, takeEffect}
+use Rattle.step.specs.Effect.{most, State, height, operands, below, stop, onto, isValued, landing, calling, unaryEffect, binaryEffect, callEffect, templateEffect, takeEffect}
 use Rattle.step.specs.inner.Code.{Good}
 use Rattle.sheet.specs.Single.{moved}
 use Rattle.step.proofs.StackLaws.{under-drop}
@@ -78,38 +78,38 @@ module _ (place : ℕ) (st : State) (good : Good st) where
       (binary-moved place w n op (typeAt w a) (typeAt w b)
       ∙ ap (moved place) (binary-call op a b (operand-under 2 0 l (omega arith)) (operand-under 2 1 l (omega arith)))))
 
-  -- CALLS, without a template list and with one type in it
+  -- CALLS, without a template list and with one type in it: the single call in the run's profile, whose value has a place on the stack
 
-  call-call : (name tplt : List ℕ) (k : ℕ) → allUnder n tplt ≡ true
-      → callOutcome 0 w n name (map (typeAt w) tplt) (map (typeAt w) (operands k st)) ≡ typeBuiltinFn w n name tplt (operands k st)
+  call-call : (profile : ℕ) (name tplt : List ℕ) (k : ℕ) → allUnder n tplt ≡ true
+      → callOutcome profile 0 w n name (map (typeAt w) tplt) (map (typeAt w) (operands k st)) ≡ typeBuiltinFn profile w n name tplt (operands k st)
   unfolding typeBuiltinFn
-  call-call name tplt k h = sym (rw (sound, h, under-all n (operands k st) (operands-under k)))
+  call-call profile name tplt k h = sym (rw (sound, h, under-all n (operands k st) (operands-under k)))
 
-  calling-single : (name tplt : List ℕ) (k : ℕ) → allUnder n tplt ≡ true
-      → calling place st name (map (typeAt w) tplt) k ≡ onto (below k st) (moved place (typeBuiltinFn w n name tplt (operands k st)))
-  calling-single name tplt k h =
-      ap (onto (below k st))
-      (call-moved place w n name (map (typeAt w) tplt) (map (typeAt w) (operands k st)) ∙ ap (moved place) (call-call name tplt k h))
+  calling-single : (profile : ℕ) (name tplt : List ℕ) (k : ℕ) → allUnder n tplt ≡ true
+      → calling profile place st name (map (typeAt w) tplt) k ≡ landing place st k (moved place (typeBuiltinFn profile w n name tplt (operands k st)))
+  calling-single profile name tplt k h =
+      ap (landing place st k)
+      (call-moved place w n profile name (map (typeAt w) tplt) (map (typeAt w) (operands k st)) ∙ ap (moved place) (call-call profile name tplt k h))
 
-  pub call-single : (name : List ℕ) (k : ℕ) → k ≤ height st
-      → callEffect place st name k ≡ onto (below k st) (moved place (typeBuiltinFn w n name [] (operands k st)))
+  pub call-single : (profile : ℕ) (name : List ℕ) (k : ℕ) → k ≤ height st
+      → callEffect profile place st name k ≡ landing place st k (moved place (typeBuiltinFn profile w n name [] (operands k st)))
   unfolding callEffect allUnder
-  call-single name k l = rw (le-leb k (height st) l) (calling-single name [] k refl)
+  call-single profile name k l = rw (le-leb k (height st) l) (calling-single profile name [] k refl)
 
   -- a template that is no type's number is 2, of the item and of the single call
-  no-template : (name : List ℕ) (t k : ℕ) → ltb t n ≡ false
-      → stop NoSuchType place st ≡ onto (below k st) (moved place (typeBuiltinFn w n name (t ∷ []) (operands k st)))
-  unfolding typeBuiltinFn allUnder onto
-  no-template name t k h = sym (rw (sound, h))
+  no-template : (profile : ℕ) (name : List ℕ) (t k : ℕ) → ltb t n ≡ false
+      → stop NoSuchType place st ≡ landing place st k (moved place (typeBuiltinFn profile w n name (t ∷ []) (operands k st)))
+  unfolding typeBuiltinFn allUnder onto isValued
+  no-template profile name t k h = sym (rw (sound, h, and-false (leb most (height st - k))))
 
-  pub template-single : (name : List ℕ) (t k : ℕ) → k ≤ height st
-      → templateEffect place st name t k ≡ onto (below k st) (moved place (typeBuiltinFn w n name (t ∷ []) (operands k st)))
+  pub template-single : (profile : ℕ) (name : List ℕ) (t k : ℕ) → k ≤ height st
+      → templateEffect profile place st name t k ≡ landing place st k (moved place (typeBuiltinFn profile w n name (t ∷ []) (operands k st)))
   unfolding templateEffect allUnder
-  template-single name t k l =
+  template-single profile name t k l =
       rw (le-leb k (height st) l)
       (split (ltb t n)
-      (λ b. rw b (calling-single name (t ∷ []) k (rw b)))
-      (λ b. rw b (no-template name t k b)))
+      (λ b. rw b (calling-single profile name (t ∷ []) k (rw b)))
+      (λ b. rw b (no-template profile name t k b)))
 
   -- TAKE, on a stack that has room for one value more
 

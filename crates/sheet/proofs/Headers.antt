@@ -16,20 +16,20 @@ use Rattle.frame.proofs.Parts.{Alike, alike-from, items-alike}
 use Rattle.step.specs.Effect.{State, Effect, goes, silent, ends, stops, bytesOf, callEffect, templateEffect, effectOf}
 use Rattle.sheet.specs.Machine.{Turned, more, done, after, turnOf, onward, runItems}
 
-module _ (s t : List ℕ) (a : Alike s t) where
+module _ (profile : ℕ) (s t : List ℕ) (a : Alike s t) where
   name-alike : (name : Part) → headerSize ≤ name .start .0 → bytesOf s name ≡ bytesOf t name
   name-alike name h = ap (take (name .length)) (alike-from a (name .start .0) h)
 
-  effect-alike : (at place : ℕ) (st : State) → effectOf place st s (itemAt s at .item) ≡ effectOf place st t (itemAt s at .item)
+  effect-alike : (at place : ℕ) (st : State) → effectOf profile place st s (itemAt s at .item) ≡ effectOf profile place st t (itemAt s at .item)
   unfolding effectOf
-  effect-alike at place st = item-elim s at (λ x. effectOf place st s (x .item) ≡ effectOf place st t (x .item)) refl (λ _. refl) (λ i n _ f. go i n f)
+  effect-alike at place st = item-elim s at (λ x. effectOf profile place st s (x .item) ≡ effectOf profile place st t (x .item)) refl (λ _. refl) (λ i n _ f. go i n f)
     where
-      go : (i : Item) (n : ℕ) → Framed s at i n → effectOf place st s i ≡ effectOf place st t i
+      go : (i : Item) (n : ℕ) → Framed s at i n → effectOf profile place st s i ≡ effectOf profile place st t i
       go (Push x) n f = refl
       go (Unary o) n f = refl
       go (Binary o) n f = refl
-      go (Call k name) n f = ap (λ (b : List ℕ). callEffect place st b k) (name-alike name (omega (arith, f .name .3, f .begins)))
-      go (CallTemplate x k name) n f = ap (λ (b : List ℕ). templateEffect place st b (x .0) k) (name-alike name (omega (arith, f .name .3, f .begins)))
+      go (Call k name) n f = ap (λ (b : List ℕ). callEffect profile place st b k) (name-alike name (omega (arith, f .name .3, f .begins)))
+      go (CallTemplate x k name) n f = ap (λ (b : List ℕ). templateEffect profile place st b (x .0) k) (name-alike name (omega (arith, f .name .3, f .begins)))
       go (Take kind p q elem) n f = refl
       go End n f = refl
       go Bad n f = refl
@@ -41,11 +41,11 @@ module _ (s t : List ℕ) (a : Alike s t) where
   after-alike place next (ends st) = rw (a .long)
   after-alike place next (stops r w) = refl
 
-  turn-alike : (at : ℕ) (st : State) → turnOf s (itemAt s at) st ≡ turnOf t (itemAt s at) st
+  turn-alike : (at : ℕ) (st : State) → turnOf profile s (itemAt s at) st ≡ turnOf profile t (itemAt s at) st
   unfolding turnOf
   turn-alike at st =
       let x = itemAt s at in
-      after-alike (x .at .0) (x .next .0) (effectOf (x .at .0) st s (x .item)) ∙ ap (after t (x .at .0) (x .next .0)) (effect-alike at (x .at .0) st)
+      after-alike (x .at .0) (x .next .0) (effectOf profile (x .at .0) st s (x .item)) ∙ ap (after t (x .at .0) (x .next .0)) (effect-alike at (x .at .0) st)
 
   onward-alike : (u : Turned) (f g : State → Outcome) → ((st : State) → f st ≡ g st) → onward u f ≡ onward u g
   unfolding onward
@@ -53,25 +53,25 @@ module _ (s t : List ℕ) (a : Alike s t) where
   onward-alike (done o) f g h = refl
 
   -- what follows an item
-  rest-alike : (b : Bool) (l : List Placed) (st : State) → runItems s [] st ≡ runItems t [] st → runItems s l st ≡ runItems t l st → runItems s (cond b l []) st ≡ runItems t (cond b l []) st
+  rest-alike : (b : Bool) (l : List Placed) (st : State) → runItems profile s [] st ≡ runItems profile t [] st → runItems profile s l st ≡ runItems profile t l st → runItems profile s (cond b l []) st ≡ runItems profile t (cond b l []) st
   rest-alike true l st e f = f
   rest-alike false l st e f = e
 
-  none-alike : (st : State) → runItems s [] st ≡ runItems t [] st
+  none-alike : (st : State) → runItems profile s [] st ≡ runItems profile t [] st
   unfolding runItems
   none-alike st = rw (a .long)
 
-  one-alike : (at : ℕ) (l : List Placed) (st : State) → ((st' : State) → runItems s l st' ≡ runItems t l st') → runItems s (itemAt s at ∷ l) st ≡ runItems t (itemAt s at ∷ l) st
+  one-alike : (at : ℕ) (l : List Placed) (st : State) → ((st' : State) → runItems profile s l st' ≡ runItems profile t l st') → runItems profile s (itemAt s at ∷ l) st ≡ runItems profile t (itemAt s at ∷ l) st
   unfolding runItems
-  one-alike at l st h = onward-alike (turnOf s (itemAt s at) st) (runItems s l) (runItems t l) h ∙ ap (λ (u : Turned). onward u (runItems t l)) (turn-alike at st)
+  one-alike at l st h = onward-alike (turnOf profile s (itemAt s at) st) (runItems profile s l) (runItems profile t l) h ∙ ap (λ (u : Turned). onward u (runItems profile t l)) (turn-alike at st)
 
-  within-alike : (n at : ℕ) (st : State) → runItems s (itemsWithin n s at) st ≡ runItems t (itemsWithin n s at) st
+  within-alike : (n at : ℕ) (st : State) → runItems profile s (itemsWithin n s at) st ≡ runItems profile t (itemsWithin n s at) st
   unfolding itemsWithin
   within-alike zero at st = one-alike at [] st none-alike
   within-alike (suc n) at st =
       one-alike at (cond (isItem (itemAt s at .item)) (itemsWithin n s (itemAt s at .next .0)) []) st
       (λ st'. rest-alike (isItem (itemAt s at .item)) (itemsWithin n s (itemAt s at .next .0)) st' (none-alike st') (within-alike n (itemAt s at .next .0) st'))
 
-  pub run-alike : (at : ℕ) (st : State) → runItems s (itemsFrom s at) st ≡ runItems t (itemsFrom t at) st
+  pub run-alike : (at : ℕ) (st : State) → runItems profile s (itemsFrom s at) st ≡ runItems profile t (itemsFrom t at) st
   unfolding itemsFrom
-  run-alike at st = within-alike (length s) at st ∙ ap (λ (l : List Placed). runItems t l st) (items-alike a at)
+  run-alike at st = within-alike (length s) at st ∙ ap (λ (l : List Placed). runItems profile t l st) (items-alike a at)

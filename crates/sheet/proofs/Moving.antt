@@ -62,5 +62,5 @@ module _ (place : ℕ) (w : List ℕ) (n : ℕ) where
       (either (eqb (length us) (operandsOf k)) _ _ _ _ (either (anyReference us) _ _ _ _ refl (given-moved (givenBy k ts us))) refl)
       refl
 
-  pub call-moved : (name : List ℕ) (ts us : List Ty) → callOutcome place w n name ts us ≡ moved place (callOutcome 0 w n name ts us)
-  call-moved name ts us = rule-moved (ruleOf name) ts us
+  pub call-moved : (profile : ℕ) (name : List ℕ) (ts us : List Ty) → callOutcome profile place w n name ts us ≡ moved place (callOutcome profile 0 w n name ts us)
+  call-moved profile name ts us = rule-moved (ruleOf profile name) ts us

@@ -7,5 +7,5 @@ use Rattle.answer.specs.declared.Answer.{Answer}
 use Rattle.table.proofs.OneReply.{gave-one}
 use Rattle.sheet.specs.Machine.{typeSheet}
 
-pub sheet-one : (w : List ℕ) (n : ℕ) (s : List ℕ) (a b : Answer) (v u : List ℕ) → Gave (typeSheet w n s) a v → Gave (typeSheet w n s) b u → (a ≡ b) × (v ≡ u)
-sheet-one w n s a b v u = gave-one (typeSheet w n s) a b v u
+pub sheet-one : (profile : ℕ) (w : List ℕ) (n : ℕ) (s : List ℕ) (a b : Answer) (v u : List ℕ) → Gave (typeSheet profile w n s) a v → Gave (typeSheet profile w n s) b u → (a ≡ b) × (v ≡ u)
+sheet-one profile w n s a b v u = gave-one (typeSheet profile w n s) a b v u

@@ -6,10 +6,12 @@ use mathlib.Core.Logic.{_⊎_, inl, inr, _≢_}
 use mathlib.Core.List.{List}
 use native.Mathlib.Omega.{arith}
 use lib.ListN.{length}
+use borrow.Author.Tests.{lt-ltb, le-ltb}
 use Rattle.table.specs.Table.{soundb, Sound}
 use Rattle.table.specs.Placing.{Outcome, Gave, turnedDown}
 use Rattle.table.proofs.Giving.{gave-whole}
-use Rattle.answer.specs.declared.Reason.the-variants.{Unsound, Framing}
+use Rattle.answer.specs.declared.Reason.the-variants.{Unsound, Unknown, Framing}
+use Rattle.names.specs.Names.{profiles}
 use Rattle.answer.specs.declared.Place.{Place}
 use Rattle.answer.specs.declared.Answer.{Answer}
 use Rattle.frame.specs.Frame.{itemAt, isItem, itemsFrom, version, headerSize, headerOk}
@@ -37,75 +39,75 @@ goes-from s place next (silent st') st h = absurd (let z : _≡_ {A = ℕ} 0 1 =
 goes-from s place next (ends st') st h = absurd (let z : _≡_ {A = ℕ} 0 1 = cc in omega arith)
 goes-from s place next (stops r w) st h = absurd (let z : _≡_ {A = ℕ} 0 1 = cc in omega arith)
 
-goes-item : (s : List ℕ) (place : ℕ) (st st' : State) (i : Item) → effectOf place st s i ≡ goes st' → isItem i ≡ true
+goes-item : (profile : ℕ) (s : List ℕ) (place : ℕ) (st st' : State) (i : Item) → effectOf profile place st s i ≡ goes st' → isItem i ≡ true
 unfolding effectOf
-goes-item s place st st' (Push t) h = refl
-goes-item s place st st' (Unary op) h = refl
-goes-item s place st st' (Binary op) h = refl
-goes-item s place st st' (Call k name) h = refl
-goes-item s place st st' (CallTemplate t k name) h = refl
-goes-item s place st st' (Take kind p q elem) h = refl
-goes-item s place st st' End h = absurd (let z : _≡_ {A = ℕ} 0 1 = cc in omega arith)
-goes-item s place st st' Bad h = absurd (let z : _≡_ {A = ℕ} 0 1 = cc in omega arith)
+goes-item profile s place st st' (Push t) h = refl
+goes-item profile s place st st' (Unary op) h = refl
+goes-item profile s place st st' (Binary op) h = refl
+goes-item profile s place st st' (Call k name) h = refl
+goes-item profile s place st st' (CallTemplate t k name) h = refl
+goes-item profile s place st st' (Take kind p q elem) h = refl
+goes-item profile s place st st' End h = absurd (let z : _≡_ {A = ℕ} 0 1 = cc in omega arith)
+goes-item profile s place st st' Bad h = absurd (let z : _≡_ {A = ℕ} 0 1 = cc in omega arith)
 
-module _ (s : List ℕ) (x : Placed) (st st' : State) (h : turnOf s x st ≡ more st') where
-  pub turn-goes-on : effectOf (x .at .0) st s (x .item) ≡ goes st'
+module _ (profile : ℕ) (s : List ℕ) (x : Placed) (st st' : State) (h : turnOf profile s x st ≡ more st') where
+  pub turn-goes-on : effectOf profile (x .at .0) st s (x .item) ≡ goes st'
   unfolding turnOf
-  turn-goes-on = goes-from s (x .at .0) (x .next .0) (effectOf (x .at .0) st s (x .item)) st' h
+  turn-goes-on = goes-from s (x .at .0) (x .next .0) (effectOf profile (x .at .0) st s (x .item)) st' h
 
   pub turn-item : isItem (x .item) ≡ true
-  turn-item = goes-item s (x .at .0) st st' (x .item) turn-goes-on
+  turn-item = goes-item profile s (x .at .0) st st' (x .item) turn-goes-on
 
   -- and leaves a good state, in which every earlier entry stands; what it added its result needs
   pub turn-kept : Good st → Good st' × Grew (st .words) (st .used) (st' .words) (st' .used) × Needed st st'
-  turn-kept g = rw turn-goes-on at (item-kept (x .at .0) st g s (x .item))
+  turn-kept g = rw turn-goes-on at (item-kept (x .at .0) st g profile s (x .item))
 
 -- THE RUN from a place on
 
-module _ (s : List ℕ) (at : ℕ) (st : State) where
+module _ (profile : ℕ) (s : List ℕ) (at : ℕ) (st : State) where
   abbrev from : ℕ → State → Outcome
-  from k t = runItems s (itemsFrom s k) t
+  from k t = runItems profile s (itemsFrom s k) t
 
-  pub run-more : (st' : State) → turnOf s (itemAt s at) st ≡ more st' → from at st ≡ from (itemAt s at .next .0) st'
+  pub run-more : (st' : State) → turnOf profile s (itemAt s at) st ≡ more st' → from at st ≡ from (itemAt s at .next .0) st'
   unfolding runItems onward
   run-more st' h =
-      let i = turn-item s (itemAt s at) st st' h in
-      ap (λ (l : List Placed). runItems s l st) (items-from s at) ∙ rw (h, i)
+      let i = turn-item profile s (itemAt s at) st st' h in
+      ap (λ (l : List Placed). runItems profile s l st) (items-from s at) ∙ rw (h, i)
 
-  pub run-done : (o : Outcome) → turnOf s (itemAt s at) st ≡ done o → from at st ≡ o
+  pub run-done : (o : Outcome) → turnOf profile s (itemAt s at) st ≡ done o → from at st ≡ o
   unfolding runItems onward
-  run-done o h = ap (λ (l : List Placed). runItems s l st) (items-from s at) ∙ rw h
+  run-done o h = ap (λ (l : List Placed). runItems profile s l st) (items-from s at) ∙ rw h
 
   -- the next place lies after this one and within the sheet
-  pub run-forward : (st' : State) → turnOf s (itemAt s at) st ≡ more st' → (at < itemAt s at .next .0) × (itemAt s at .next .0 ≤ length s)
-  run-forward st' h = let f = framed s at (turn-item s (itemAt s at) st st' h) in (f .after, f .within)
+  pub run-forward : (st' : State) → turnOf profile s (itemAt s at) st ≡ more st' → (at < itemAt s at .next .0) × (itemAt s at .next .0 ≤ length s)
+  run-forward st' h = let f = framed s at (turn-item profile s (itemAt s at) st st' h) in (f .after, f .within)
 
 -- THE LOOP, over the first values of a slice: before every turn, what is left of the items gives what the whole sheet gives
 
-pub record Left (s w₀ : List ℕ) (n₀ : ℕ) (w vals : List ℕ) (count n at : ℕ) : Type 0 where
+pub record Left (profile : ℕ) (s w₀ : List ℕ) (n₀ : ℕ) (w vals : List ℕ) (count n at : ℕ) : Type 0 where
   pub long : length w ≡ length w₀
   pub ready : Ready count vals n w
-  pub rest : runItems s (itemsFrom s at) (stateOf count vals n w) ≡ runItems s (itemsFrom s headerSize) (begun w₀ n₀)
+  pub rest : runItems profile s (itemsFrom s at) (stateOf count vals n w) ≡ runItems profile s (itemsFrom s headerSize) (begun w₀ n₀)
 
-pub left-start : (s w : List ℕ) (n : ℕ) (vals : List ℕ) → Sound w n → length vals ≡ most → Left s w n w vals 0 n headerSize
-left-start s w n vals h l =
+pub left-start : (profile : ℕ) (s w : List ℕ) (n : ℕ) (vals : List ℕ) → Sound w n → length vals ≡ most → Left profile s w n w vals 0 n headerSize
+left-start profile s w n vals h l =
     record {
       long = refl;
       ready = record { size = l; fits = omega arith; good = record { sound = h; under = λ i k. absurd (omega arith); high = omega arith } };
       rest = refl;
     }
 
-module _ (s w₀ : List ℕ) (n₀ : ℕ) (w vals : List ℕ) (count n at : ℕ) (l : Left s w₀ n₀ w vals count n at) (vals' : List ℕ) where
+module _ (profile : ℕ) (s w₀ : List ℕ) (n₀ : ℕ) (w vals : List ℕ) (count n at : ℕ) (l : Left profile s w₀ n₀ w vals count n at) (vals' : List ℕ) where
   abbrev st : State
   st = stateOf count vals n w
 
   -- after quick items
-  pub left-rushed : (r : Rushed) → Rushes s at count vals n w r vals' → Left s w₀ n₀ w vals' (r .count) n (r .at .0)
-  left-rushed r h = record { long = l .long; ready = h .ready; rest = h .rest ∙ l .rest }
+  pub left-rushed : (r : Rushed) → Rushes s at count vals n w r vals' → Left profile s w₀ n₀ w vals' (r .count) n (r .at .0)
+  left-rushed r h = record { long = l .long; ready = h .ready; rest = h .rest profile ∙ l .rest }
 
   module _ (w' : List ℕ) where
-    module _ (c u : ℕ) (p : Place) (t : Turns (turnOf s (itemAt s at) st) (itemAt s at .next .0) (turn.More c u p) vals' w') where
-      went-on : turnOf s (itemAt s at) st ≡ more (stateOf c vals' u w')
+    module _ (c u : ℕ) (p : Place) (t : Turns (turnOf profile s (itemAt s at) st) (itemAt s at .next .0) (turn.More c u p) vals' w') where
+      went-on : turnOf profile s (itemAt s at) st ≡ more (stateOf c vals' u w')
       unfolding turnBy
       went-on = sym (t .turned)
 
@@ -113,23 +115,23 @@ module _ (s w₀ : List ℕ) (n₀ : ℕ) (w vals : List ℕ) (count n at : ℕ)
       unfolding TurnCounted
       counted = t .counted
 
-      pub left-again : length vals' ≡ length vals → length w' ≡ length w → Left s w₀ n₀ w' vals' c u (p .0)
+      pub left-again : length vals' ≡ length vals → length w' ≡ length w → Left profile s w₀ n₀ w' vals' c u (p .0)
       left-again a b =
           record {
             long = b ∙ l .long;
-            ready = record { size = a ∙ l .ready .size; fits = counted .0; good = turn-kept s (itemAt s at) st (stateOf c vals' u w') went-on (l .ready .good) .0 };
-            rest = ap (λ (k : ℕ). runItems s (itemsFrom s k) (stateOf c vals' u w')) (counted .1) ∙ sym (run-more s at st (stateOf c vals' u w') went-on) ∙ l .rest;
+            ready = record { size = a ∙ l .ready .size; fits = counted .0; good = turn-kept profile s (itemAt s at) st (stateOf c vals' u w') went-on (l .ready .good) .0 };
+            rest = ap (λ (k : ℕ). runItems profile s (itemsFrom s k) (stateOf c vals' u w')) (counted .1) ∙ sym (run-more profile s at st (stateOf c vals' u w') went-on) ∙ l .rest;
           }
 
       pub left-less : (at < p .0) × (p .0 ≤ length s)
-      left-less = let f = run-forward s at st (stateOf c vals' u w') went-on in let e = counted .1 in (omega (arith, f .0, e), omega (arith, f .1, e))
+      left-less = let f = run-forward profile s at st (stateOf c vals' u w') went-on in let e = counted .1 in (omega (arith, f .0, e), omega (arith, f .1, e))
 
-    pub left-done : (a : Answer) → Turns (turnOf s (itemAt s at) st) (itemAt s at .next .0) (turn.Done a) vals' w'
-        → Gave (runItems s (itemsFrom s headerSize) (begun w₀ n₀)) a w'
+    pub left-done : (a : Answer) → Turns (turnOf profile s (itemAt s at) st) (itemAt s at .next .0) (turn.Done a) vals' w'
+        → Gave (runItems profile s (itemsFrom s headerSize) (begun w₀ n₀)) a w'
     unfolding turnBy
     left-done a t =
         let o : Outcome = record { answer = a; words = w' } in
-        let r = sym (run-done s at st o (sym (t .turned))) ∙ l .rest in
+        let r = sym (run-done profile s at st o (sym (t .turned))) ∙ l .rest in
         gave-whole r
 
 -- QUICK ITEMS: one more leaves the rest as it was
@@ -154,32 +156,37 @@ module _ (s : List ℕ) (from at : ℕ) (high count : ℕ) (vals₀ vals : List 
   abbrev now : State
   now = stateOf count vals used w
 
-  turns : turnOf s (itemAt s at) now ≡ more (stateOf c vals' used w)
+  turns : (profile : ℕ) → turnOf profile s (itemAt s at) now ≡ more (stateOf c vals' used w)
   unfolding turnOf after
-  turns = ap (λ (p : Place). after s (p .0) (itemAt s at .next .0) (effectOf (p .0) now s (itemAt s at .item))) (own-place s at) ∙ ap (after s at (itemAt s at .next .0)) (g .effect)
+  turns profile = ap (λ (p : Place). after s (p .0) (itemAt s at .next .0) (effectOf profile (p .0) now s (itemAt s at .item))) (own-place s at) ∙ ap (after s at (itemAt s at .next .0)) (g .effect profile)
 
   pub rush-on : length vals' ≡ length vals → Rushes s from high vals₀ used w (record { at = record { 0 = at + 3 }; count = c }) vals'
   rush-on a =
-      let k = turn-kept s (itemAt s at) now (stateOf c vals' used w) turns (h .ready .good) in
-      let m = run-more s at now (stateOf c vals' used w) turns in
+      let k = turn-kept 0 s (itemAt s at) now (stateOf c vals' used w) (turns 0) (h .ready .good) in
       let b = h .onward in
       record {
         ready = record { size = a ∙ h .ready .size; fits = g .high; good = k .0 };
-        rest = sym (ap (λ (n : ℕ). runItems s (itemsFrom s n) (stateOf c vals' used w)) (g .next)) ∙ sym m ∙ h .rest;
+        rest = λ profile.
+            sym (ap (λ (n : ℕ). runItems profile s (itemsFrom s n) (stateOf c vals' used w)) (g .next))
+            ∙ sym (run-more profile s at now (stateOf c vals' used w) (turns profile)) ∙ h .rest profile;
         onward = omega (arith, b);
       }
 
 -- A SHEET, test by test
 
-module _ (w : List ℕ) (n : ℕ) (s : List ℕ) where
-  pub sheet-unsound : soundb w n ≡ false → turnedDown Unsound 0 w n ≡ typeSheet w n s
+module _ (profile : ℕ) (w : List ℕ) (n : ℕ) (s : List ℕ) where
+  pub sheet-unsound : soundb w n ≡ false → turnedDown Unsound 0 w n ≡ typeSheet profile w n s
   unfolding typeSheet
   sheet-unsound h = sym (rw h)
 
-  pub sheet-unheaded : soundb w n ≡ true → headerOk version s ≡ false → turnedDown Framing 0 w n ≡ typeSheet w n s
+  pub sheet-unheaded : soundb w n ≡ true → headerOk version s ≡ false → turnedDown Framing 0 w n ≡ typeSheet profile w n s
   unfolding typeSheet
   sheet-unheaded h k = sym (rw (h, k))
 
-  pub sheet-runs : soundb w n ≡ true → headerOk version s ≡ true → runItems s (itemsFrom s headerSize) (begun w n) ≡ typeSheet w n s
+  pub sheet-unprofiled : soundb w n ≡ true → headerOk version s ≡ true → profiles ≤ profile → turnedDown Unknown 0 w n ≡ typeSheet profile w n s
   unfolding typeSheet
-  sheet-runs h k = sym (rw (h, k))
+  sheet-unprofiled h k p = sym (rw (h, k, le-ltb profile profiles p))
+
+  pub sheet-runs : soundb w n ≡ true → headerOk version s ≡ true → profile < profiles → runItems profile s (itemsFrom s headerSize) (begun w n) ≡ typeSheet profile w n s
+  unfolding typeSheet
+  sheet-runs h k p = sym (rw (h, k, lt-ltb profile profiles p))

@@ -73,14 +73,14 @@ module _ (size place next : ℕ) (vals : List ℕ) where
   turn-stops r = record { turned = λ s words l. refl; counted = tt }
 
 -- the turn at what stands at a place
-module _ (s : List ℕ) (at size : ℕ) (l : length s ≡ size) (st : State) (d : Did) (r : Turn) (vals w : List ℕ) where
-  turned : (x : Placed) → x .at ≡ atPlace at → Does (effectOf at st s (x .item)) d vals w → TurnsBy size at (x .next .0) d vals r → Turns (turnOf s x st) (x .next .0) r vals w
+module _ (profile : ℕ) (s : List ℕ) (at size : ℕ) (l : length s ≡ size) (st : State) (d : Did) (r : Turn) (vals w : List ℕ) where
+  turned : (x : Placed) → x .at ≡ atPlace at → Does (effectOf profile at st s (x .item)) d vals w → TurnsBy size at (x .next .0) d vals r → Turns (turnOf profile s x st) (x .next .0) r vals w
   unfolding turnOf
   turned x o k t = rw o (record { turned = t .turned s w l ∙ ap (after s at (x .next .0)) (k .effect); counted = t .counted })
 
-  pub turn-at : (x : Placed) → x ≡ itemAt s at → Does (effectOf at st s (x .item)) d vals w → TurnsBy size at (x .next .0) d vals r
-      → Turns (turnOf s (itemAt s at) st) (itemAt s at .next .0) r vals w
-  turn-at x e k t = subst (λ (y : Placed). Turns (turnOf s y st) (y .next .0) r vals w) e (turned x (ap (λ (y : Placed). y .at) e ∙ own-place s at) k t)
+  pub turn-at : (x : Placed) → x ≡ itemAt s at → Does (effectOf profile at st s (x .item)) d vals w → TurnsBy size at (x .next .0) d vals r
+      → Turns (turnOf profile s (itemAt s at) st) (itemAt s at .next .0) r vals w
+  turn-at x e k t = subst (λ (y : Placed). Turns (turnOf profile s y st) (y .next .0) r vals w) e (turned x (ap (λ (y : Placed). y .at) e ∙ own-place s at) k t)
 
 -- the memo after the turn is the one after the step
 module _ (size place next : ℕ) (vals memo w : List ℕ) where

@@ -14,31 +14,31 @@ unfoldable pub further : Turned → State → (State → State) → State
 further (more st') st go = go st'
 further (done o) st go = st
 
-unfoldable pub reached : List ℕ → List Placed → State → State
-reached s [] st = st
-reached s (x ∷ xs) st = further (turnOf s x st) st (reached s xs)
+unfoldable pub reached : ℕ → List ℕ → List Placed → State → State
+reached profile s [] st = st
+reached profile s (x ∷ xs) st = further (turnOf profile s x st) st (reached profile s xs)
 
 -- an accepted item of a run, the state before it and the state after it
-pub data Accepted (s : List ℕ) : List Placed → State → Placed → State → State → Type 0 where
-  first : {x : Placed} {xs : List Placed} {st st' : State} → turnOf s x st ≡ more st' → Accepted s (x ∷ xs) st x st st'
-  later : {x y : Placed} {xs : List Placed} {st st' a b : State} → turnOf s x st ≡ more st' → Accepted s xs st' y a b → Accepted s (x ∷ xs) st y a b
+pub data Accepted (profile : ℕ) (s : List ℕ) : List Placed → State → Placed → State → State → Type 0 where
+  first : {x : Placed} {xs : List Placed} {st st' : State} → turnOf profile s x st ≡ more st' → Accepted profile s (x ∷ xs) st x st st'
+  later : {x y : Placed} {xs : List Placed} {st st' a b : State} → turnOf profile s x st ≡ more st' → Accepted profile s xs st' y a b → Accepted profile s (x ∷ xs) st y a b
 
 -- entry i of the table that a run reached was added by an accepted item: it was missing before that item, and is the item's result or a part of it
-pub record AddedBy (s : List ℕ) (xs : List Placed) (st : State) (i : ℕ) : Type 0 where
+pub record AddedBy (profile : ℕ) (s : List ℕ) (xs : List Placed) (st : State) (i : ℕ) : Type 0 where
   pub item : Placed
   pub earlier : State
   pub later : State
-  pub accepted : Accepted s xs st item earlier later
+  pub accepted : Accepted profile s xs st item earlier later
   pub from : earlier .used ≤ i
   pub to : i < later .used
-  pub missing : Absent (earlier .words) (earlier .used) (typeAt (reached s xs st .words) i)
-  pub needed : Part (typeAt (reached s xs st .words) i) (resultOf later)
+  pub missing : Absent (earlier .words) (earlier .used) (typeAt (reached profile s xs st .words) i)
+  pub needed : Part (typeAt (reached profile s xs st .words) i) (resultOf later)
 
 -- what a run looks at: what stands first, and, after an item that is accepted, what it looks at of the rest
 unfoldable pub beyond : Turned → (State → List Placed) → List Placed
 beyond (more st') go = go st'
 beyond (done o) go = []
 
-unfoldable pub visited : List ℕ → List Placed → State → List Placed
-visited s [] st = []
-visited s (x ∷ xs) st = x ∷ beyond (turnOf s x st) (visited s xs)
+unfoldable pub visited : ℕ → List ℕ → List Placed → State → List Placed
+visited profile s [] st = []
+visited profile s (x ∷ xs) st = x ∷ beyond (turnOf profile s x st) (visited profile s xs)

@@ -1,18 +1,19 @@
--- Document 01, "The sheet" and "What is answered": a sheet typed item by item. Assumes nothing.
+-- Document 01, "The sheet" and "What is answered", and document 02, K1: a sheet typed item by item, in a profile. Assumes nothing.
 use Prim.Native.Nat.{ℕ}
 use mathlib.Core.Bool.{_&&_, cond}
 use mathlib.Core.List.{List, [], _∷_}
 use lib.ListN.{length, getD}
-use lib.Dec.{eqb}
+use lib.Dec.{eqb, ltb}
 use Rattle.answer.specs.Answer.{accept, refuse}
 use Rattle.table.specs.Table.{soundb}
 use Rattle.table.specs.Placing.{Outcome, turnedDown}
-use Rattle.answer.specs.declared.Reason.the-variants.{Unsound, Framing, Stack}
+use Rattle.answer.specs.declared.Reason.the-variants.{Unsound, Unknown, Framing, Stack}
 use Rattle.answer.specs.declared.Answer.{Answer}
 use Rattle.answer.specs.declared.Answer.the-variants.{NoValue, Refused}
 use Rattle.frame.specs.Frame.{version, headerSize, headerOk, itemsFrom}
 use Rattle.frame.specs.declared.Placed.{Placed}
 use Rattle.held.specs.Held.{numberOf}
+use Rattle.names.specs.Names.{profiles}
 use Rattle.step.specs.Effect.{State, height, Effect, goes, silent, ends, stops, effectOf}
 
 -- what a turn of the machine comes to: the state in which it goes on, or the sheet's outcome
@@ -36,25 +37,27 @@ after s place next (ends st) = done (record { answer = endAnswer (length s) (st 
 after s place next (stops r w) = done (record { answer = Refused r; words = w })
 
 -- the turn at what stands at a place
-unfoldable pub turnOf : List ℕ → Placed → State → Turned
-turnOf s x st = after s (x .at .0) (x .next .0) (effectOf (x .at .0) st s (x .item))
+unfoldable pub turnOf : ℕ → List ℕ → Placed → State → Turned
+turnOf profile s x st = after s (x .at .0) (x .next .0) (effectOf profile (x .at .0) st s (x .item))
 
 unfoldable pub onward : Turned → (State → Outcome) → Outcome
 onward (more st) go = go st
 onward (done o) go = o
 
 -- the items one after the other, to the first that is refused or to the end. A list of items always has its end, or bad framing, as its last
-unfoldable pub runItems : List ℕ → List Placed → State → Outcome
-runItems s [] st = record { answer = endAnswer (length s) (st .stack) (st .used); words = st .words }
-runItems s (x ∷ xs) st = onward (turnOf s x st) (runItems s xs)
+unfoldable pub runItems : ℕ → List ℕ → List Placed → State → Outcome
+runItems profile s [] st = record { answer = endAnswer (length s) (st .stack) (st .used); words = st .words }
+runItems profile s (x ∷ xs) st = onward (turnOf profile s x st) (runItems profile s xs)
 
 -- the machine starts with an empty stack
 abbrev pub begun : List ℕ → ℕ → State
 begun w n = record { stack = []; used = n; words = w }
 
--- "In a sheet: 1, header 10, then by item": both at place 0
-unfoldable pub typeSheet : List ℕ → ℕ → List ℕ → Outcome
-typeSheet w n s =
+-- "In a sheet: 1, header 10, then by item"; "4 for .. an unknown profile (a sheet's: after header 10, place 0)": all three at place 0
+unfoldable pub typeSheet : ℕ → List ℕ → ℕ → List ℕ → Outcome
+typeSheet profile w n s =
     cond (soundb w n)
-    (cond (headerOk version s) (runItems s (itemsFrom s headerSize) (begun w n)) (turnedDown Framing 0 w n))
+    (cond (headerOk version s)
+    (cond (ltb profile profiles) (runItems profile s (itemsFrom s headerSize) (begun w n)) (turnedDown Unknown 0 w n))
+    (turnedDown Framing 0 w n))
     (turnedDown Unsound 0 w n)

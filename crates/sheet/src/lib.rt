@@ -1,4 +1,4 @@
-// A sheet typed item by item. The header is judged once, and the part after it is handed on; the names, the stack and the memo belong to `run` and are lent inwards.
+// A sheet typed item by item, in a profile. The header is judged once, and the part after it is handed on; the names, the stack and the memo belong to `run` and are lent inwards.
 use frame::HEADER;
 use frame::SHORT_BYTES;
 use memo::SLOTS;
@@ -84,6 +84,7 @@ fn turn_by(d: Did, size: usize, at: Place, next: Place, stack: &[u32]) -> Turn
 fn one_turn(
     items: &[u8],
     rows: &[u8],
+    profile: u32,
     at: Place,
     stack: &mut [u32],
     count: usize,
@@ -92,11 +93,13 @@ fn one_turn(
     memo: &mut [u64],
 ) -> Turn
     requires { ⌜ Ready count (now stack) used (now table) × Recalls (now memo) (now table) used × (now rows ≡ nameTable) ⌝ }
-    ensures { λ r. ⌜ Turns (turnOf (sheetOf (now (items .entry))) (itemAt (sheetOf (now (items .entry))) (at .0)) (stateOf count (now (stack .entry)) used (now (table .entry)))) (itemAt (sheetOf (now (items .entry))) (at .0) .next .0) r (now (stack .exit)) (now (table .exit)) × AfterTurn r (now (memo .exit)) (now (table .exit)) ⌝ }
+    ensures { λ r. ⌜ Turns (turnOf profile (sheetOf (now (items .entry))) (itemAt (sheetOf (now (items .entry))) (at .0)) (stateOf count (now (stack .entry)) used (now (table .entry)))) (itemAt (sheetOf (now (items .entry))) (at .0) .next .0) r (now (stack .exit)) (now (table .exit)) × AfterTurn r (now (memo .exit)) (now (table .exit)) ⌝ }
 {
     let found = frame::item_in(items, at);
     let item = found.item;
-    let d = memo::noted_step(items, rows, item, at, stack, count, table, used, memo);
+    let d = memo::noted_step(
+        items, rows, profile, item, at, stack, count, table, used, memo,
+    );
     turn_by(d, HEADER + items.len(), at, found.next, stack)
 }
 
@@ -132,20 +135,21 @@ fn rush(
 fn run_on(
     items: &[u8],
     rows: &[u8],
+    profile: u32,
     table: &mut [u32],
     used: usize,
     stack: &mut [u32],
     memo: &mut [u64],
 ) -> Answer
     requires { ⌜ Sound (now table) used × (length (now stack) ≡ 64) × Recalls (now memo) (now table) used × (now rows ≡ nameTable) ⌝ }
-    ensures { λ r. ⌜ Gave (runItems (sheetOf (now (items .entry))) (itemsFrom (sheetOf (now (items .entry))) headerSize) (begun (now (table .entry)) used)) r (now (table .exit)) ⌝ }
+    ensures { λ r. ⌜ Gave (runItems profile (sheetOf (now (items .entry))) (itemsFrom (sheetOf (now (items .entry))) headerSize) (begun (now (table .entry)) used)) r (now (table .exit)) ⌝ }
 {
     let mut count: usize = 0;
     let mut used = used;
     let mut at = HEADER;
     loop {
         let r = rush(items, Place(at), stack, count, table, used, memo);
-        match one_turn(items, rows, r.at, stack, r.count, table, used, memo) {
+        match one_turn(items, rows, profile, r.at, stack, r.count, table, used, memo) {
             Turn::More {
                 count: c,
                 used: u,
@@ -163,19 +167,19 @@ fn run_on(
 }
 
 // The same over the names, a stack and a memo of its own.
-fn run(items: &[u8], table: &mut [u32], used: usize) -> Answer
+fn run(items: &[u8], profile: u32, table: &mut [u32], used: usize) -> Answer
     requires { ⌜ Sound (now table) used ⌝ }
-    ensures { λ r. ⌜ Gave (runItems (sheetOf (now (items .entry))) (itemsFrom (sheetOf (now (items .entry))) headerSize) (begun (now (table .entry)) used)) r (now (table .exit)) ⌝ }
+    ensures { λ r. ⌜ Gave (runItems profile (sheetOf (now (items .entry))) (itemsFrom (sheetOf (now (items .entry))) headerSize) (begun (now (table .entry)) used)) r (now (table .exit)) ⌝ }
 {
     let rows = names::name_table();
     let mut values = [0u32; VALUES];
     let mut results = [0u64; SLOTS];
-    run_on(items, &rows, table, used, &mut values, &mut results)
+    run_on(items, &rows, profile, table, used, &mut values, &mut results)
 }
 
-// For a host: the type of a whole sheet over a table of n entries.
-pub fn type_sheet(words: &mut [u32], n: usize, sheet: &[u8]) -> Answer
-    ensures { λ r. ⌜ Gave (typeSheet (now (words .entry)) n (now (sheet .entry))) r (now (words .exit)) ⌝ }
+// For a host: the type of a whole sheet over a table of n entries, in a profile.
+pub fn type_sheet(words: &mut [u32], n: usize, profile: u32, sheet: &[u8]) -> Answer
+    ensures { λ r. ⌜ Gave (typeSheet profile (now (words .entry)) n (now (sheet .entry))) r (now (words .exit)) ⌝ }
 {
     if !table::sound(words, n) {
         return table::refused(Reason::Unsound, Place(0), n);
@@ -183,5 +187,8 @@ pub fn type_sheet(words: &mut [u32], n: usize, sheet: &[u8]) -> Answer
     if !frame::header(sheet) {
         return table::refused(Reason::Framing, Place(0), n);
     }
-    run(&sheet[HEADER..], words, n)
+    if names::PROFILES <= profile {
+        return table::refused(Reason::Unknown, Place(0), n);
+    }
+    run(&sheet[HEADER..], profile, words, n)
 }

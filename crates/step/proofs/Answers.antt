@@ -1,54 +1,77 @@
--- What the answers of single calls keep, as a sheet needs it: a value is a number of the table, and a call without operands gives none.
+-- What the answers of single calls keep, as a sheet needs it: a value is a number of the table, and a call without operands enters nothing.
 -- Assumes nothing.
 use Prim.Native.Nat.{ℕ, _<_}
-use mathlib.Core.Path.{_≡_, refl, sym}
+use mathlib.Core.Path.{_≡_, refl, sym, ap}
 use mathlib.Core.Bool.{Bool, true, false, cond}
 use mathlib.Core.List.{List, []}
 use native.Mathlib.Omega.{arith}
 use lib.Dec.{eqb}
 use borrow.Author.Tests.{eqb-true}
 use Rattle.conv.specs.Types.{Ty}
+use Rattle.conv.specs.Types.Ty.{scalar}
 use Rattle.names.specs.Names.{Rule, Named, ruleOf}
 use Rattle.names.specs.Names.Named.{rule, unknown}
-use Rattle.table.specs.Placing.{Outcome}
+use Rattle.table.specs.Table.{Sound}
+use Rattle.table.specs.Placing.{Outcome, turnedDown}
+use Rattle.table.proofs.TypeLaws.{type-scalar}
+use Rattle.table.proofs.PlacingLaws.{standing-outcome}
+use Rattle.answer.specs.declared.Reason.{Reason}
+use Rattle.answer.specs.declared.Reason.the-variants.{Reference, Unknown, Template, Operands}
 use Rattle.answer.specs.declared.TypeNo.{TypeNo}
 use Rattle.answer.specs.declared.Answer.{Answer}
 use Rattle.answer.specs.declared.Answer.the-variants.{Value, NoValue, Refused}
-use Rattle.ruled.specs.Call.{anyReference}
+use Rattle.ruled.specs.Call.{anyReference, judgedOutcome}
 use Rattle.table.specs.Kept.{Kept}
-use Rattle.call_ty.specs.Calls.{templateRight, operandsOf, givenBy, givenOutcome, byRule, callOutcome}
-use Rattle.call_ty.specs.Calls.Given.{nothing}
-use Rattle.call_ty.proofs.Rules.{wants-none}
+use Rattle.call_ty.specs.Calls.{templateRight, operandsOf, Given, givenBy, givenOutcome, byRule, callOutcome}
+use Rattle.call_ty.proofs.Rules.{Bare, wants-none}
+use Rattle.call_ty.proofs.Rules.Bare.{silent, scalarly}
 use Rattle.step.specs.Effect.{most}
 use Rattle.step.specs.inner.Code.{Pushes}
 
--- A CALL WITHOUT OPERANDS: only a barrier wants none, and it gives no value
+-- A CALL WITHOUT OPERANDS: it enters nothing, since what it gives is a scalar, and in profile 0 it gives no value
 
 impossible : {P : Type 0} → _≡_ {A = ℕ} 0 1 → P
 impossible e = absurd (omega arith)
 
-module _ (place : ℕ) (w : List ℕ) (n : ℕ) (ts : List Ty) (t : TypeNo) (m : ℕ) where
-  -- the two sides of a test, neither of which gives a value
-  neither : (b : Bool) (x y : Outcome) → (b ≡ true → x .answer ≡ Value t m → ⊥) → (b ≡ false → y .answer ≡ Value t m → ⊥) → cond b x y .answer ≡ Value t m → ⊥
-  neither true x y f g = f refl
-  neither false x y f g = g refl
+module _ (place : ℕ) (w : List ℕ) (n : ℕ) (ts : List Ty) where
+  -- the two sides of a test
+  either : (P : Outcome → Type 0) (b : Bool) (x y : Outcome) → (b ≡ true → P x) → (b ≡ false → P y) → P (cond b x y)
+  either P true x y f g = f refl
+  either P false x y f g = g refl
 
-  given-none : (r : Rule) → givenBy r ts [] ≡ nothing → givenOutcome place w n (givenBy r ts []) .answer ≡ Value t m → ⊥
-  unfolding givenOutcome
-  given-none r e h = let q = rw e at h in impossible (cc)
-
-  rule-none : (named : Named) → ((r : Rule) → named ≡ rule r → operandsOf r ≡ 0 → givenBy r ts [] ≡ nothing) → byRule place w n named ts [] .answer ≡ Value t m → ⊥
+  -- what holds of every refusal and of what the rule gives holds of the call
+  by-rule : (P : Outcome → Type 0) → ((reason : Reason) → P (turnedDown reason place w n))
+      → (named : Named) → ((r : Rule) → named ≡ rule r → operandsOf r ≡ 0 → P (givenOutcome place w n (givenBy r ts []))) → P (byRule place w n named ts [])
   unfolding byRule
-  rule-none unknown f = λ h. impossible (cc)
-  rule-none (rule r) f =
-      neither (templateRight r ts) _ _
-      (λ _. neither (eqb 0 (operandsOf r)) _ _
-      (λ d. neither (anyReference []) _ _ (λ _ h. impossible (cc)) (λ _. given-none r (f r refl (sym (eqb-true 0 (operandsOf r) d)))))
-      (λ _ h. impossible (cc)))
-      (λ _ h. impossible (cc))
+  by-rule P refused unknown f = refused Unknown
+  by-rule P refused (rule r) f =
+      either P (templateRight r ts) _ _
+      (λ _. either P (eqb 0 (operandsOf r)) _ _
+      (λ d. either P (anyReference []) _ _ (λ _. refused Reference) (λ _. f r refl (sym (eqb-true 0 (operandsOf r) d))))
+      (λ _. refused Operands))
+      (λ _. refused Template)
 
-  pub no-operand : (name : List ℕ) → callOutcome place w n name ts [] .answer ≡ Value t m → ⊥
-  no-operand name = rule-none (ruleOf name) (λ r e o. wants-none name r e o ts [])
+  given-words : Sound w n → (profile : ℕ) (g : Given) → Bare profile g → givenOutcome place w n g .words ≡ w
+  unfolding givenOutcome judgedOutcome
+  given-words s profile g (silent e) = rw e
+  given-words s profile g (scalarly t l h e) =
+      rw e (ap (λ (o : Outcome). o .words) (standing-outcome place w n s t (scalar t) (let k = s .low in omega arith) (type-scalar w t l)))
+
+  pub bare-words : Sound w n → (profile : ℕ) (name : List ℕ) → callOutcome profile place w n name ts [] .words ≡ w
+  bare-words s profile name =
+      by-rule (λ (o : Outcome). o .words ≡ w) (λ reason. refl) (ruleOf profile name) (λ r e o. given-words s profile (givenBy r ts []) (wants-none profile name r e o ts))
+
+  -- no answer of profile 0 has a value
+
+  given-none : (g : Given) → Bare 0 g → (t : TypeNo) (m : ℕ) → givenOutcome place w n g .answer ≡ Value t m → ⊥
+  unfolding givenOutcome
+  given-none g (silent e) t m h = let q = rw e at h in impossible (cc)
+  given-none g (scalarly s l k e) t m h = omega arith
+
+  pub no-operand : (name : List ℕ) (t : TypeNo) (m : ℕ) → callOutcome 0 place w n name ts [] .answer ≡ Value t m → ⊥
+  no-operand name t m =
+      by-rule (λ (o : Outcome). o .answer ≡ Value t m → ⊥) (λ reason h. impossible (cc)) (ruleOf 0 name)
+      (λ r e o. given-none (givenBy r ts []) (wants-none 0 name r e o ts) t m)
 
 -- AN ANSWER CAN BE PUSHED where its value is a number of the table and the stack has room for it
 

@@ -2,7 +2,7 @@
 -- Assumes nothing.
 use Prim.Native.Nat.{ℕ, zero, suc, _+_, _-_, _<_, _≤_}
 use mathlib.Core.Path.{_≡_, refl, sym, _∙_, ap}
-use mathlib.Core.Bool.{true, false}
+use mathlib.Core.Bool.{true, false, _&&_}
 use mathlib.Core.List.{List, [], _∷_, map}
 use native.Mathlib.Omega.{arith}
 use lib.ListN.{length, getD, take, drop, set, length-drop, length-map}
@@ -26,7 +26,7 @@ use Rattle.call_ty.specs.Calls.{callOutcome}
 use Rattle.call_ty.proofs.Lists.{type-in}
 use Rattle.step.specs.declared.Did.{Did}
 use Rattle.step.specs.declared.Did.the-variants as did
-use Rattle.step.specs.Effect.{most, State, Effect, goes, stop, pushed, onto, pushEffect, unaryEffect, binaryEffect, calling, callEffect, templateEffect, takeEffect}
+use Rattle.step.specs.Effect.{most, State, Effect, goes, stop, pushed, onto, pushEffect, unaryEffect, binaryEffect, isValued, landing, calling, callEffect, templateEffect, takeEffect}
 use Rattle.step.specs.inner.Code.{stateOf, Arity, operatorOutcome, operatorEffect, Ready, turnedAway, effectBy, Counted, Does, Settles}
 use Rattle.step.proofs.StackLaws.{next-value, sized, below-them, operands-lent, value-in}
 
@@ -139,32 +139,40 @@ module _ (place : Place) (count : ℕ) (vals : List ℕ) (used : ℕ) (w : List 
         ∙ sym (rw (below-them count vals fits 2, operands-lent count vals fits 2 h, high, le-leb 2 count h))
     operator-goes (suc (suc (suc k))) op r h = absurd (omega (arith, r .1))
 
-    -- CALLS
+    -- CALLS, in a profile; k of them leave room for a value, but where there is no operand and the stack is full
 
-    pub calling-on : (name : List ℕ) (ts : List Ty) (k : ℕ) → k ≤ count
-        → onto (take (count - k) vals) (callOutcome (place .0) w used name ts (map (typeAt w) (take (count - (count - k)) (drop (count - k) vals))))
-        ≡ calling (place .0) st name ts k
-    calling-on name ts k h = sym (rw (below-them count vals fits k, operands-lent count vals fits k h))
+    module _ (profile : ℕ) where
+      pub calling-on : (name : List ℕ) (ts : List Ty) (k : ℕ) → k ≤ count
+          → landing (place .0) st k (callOutcome profile (place .0) w used name ts (map (typeAt w) (lent k))) ≡ calling profile (place .0) st name ts k
+      calling-on name ts k h = sym (rw (operands-lent count vals fits k h))
 
-    pub call-short : (name : List ℕ) (k : ℕ) → count < k → stop Stack (place .0) st ≡ callEffect (place .0) st name k
-    unfolding callEffect
-    call-short name k h = rw (high, lt-leb k count h)
+      pub call-short : (name : List ℕ) (k : ℕ) → count < k → stop Stack (place .0) st ≡ callEffect profile (place .0) st name k
+      unfolding callEffect
+      call-short name k h = rw (high, lt-leb k count h)
 
-    pub call-goes : (name : List ℕ) (k : ℕ) → k ≤ count → calling (place .0) st name [] k ≡ callEffect (place .0) st name k
-    unfolding callEffect
-    call-goes name k h = let b : leb k (length (take count vals)) ≡ true = rw high (le-leb k count h) in sym (rw b)
+      pub call-goes : (name : List ℕ) (k : ℕ) → k ≤ count → calling profile (place .0) st name [] k ≡ callEffect profile (place .0) st name k
+      unfolding callEffect
+      call-goes name k h = let b : leb k (length (take count vals)) ≡ true = rw high (le-leb k count h) in sym (rw b)
 
-    pub template-short : (name : List ℕ) (t k : ℕ) → count < k → stop Stack (place .0) st ≡ templateEffect (place .0) st name t k
-    unfolding templateEffect
-    template-short name t k h = rw (high, lt-leb k count h)
+      pub template-short : (name : List ℕ) (t k : ℕ) → count < k → stop Stack (place .0) st ≡ templateEffect profile (place .0) st name t k
+      unfolding templateEffect
+      template-short name t k h = rw (high, lt-leb k count h)
 
-    pub template-unknown : (name : List ℕ) (t k : ℕ) → k ≤ count → used ≤ t → stop NoSuchType (place .0) st ≡ templateEffect (place .0) st name t k
-    unfolding templateEffect
-    template-unknown name t k h g = rw (high, le-leb k count h, le-ltb t used g)
+      pub template-unknown : (name : List ℕ) (t k : ℕ) → k ≤ count → used ≤ t → stop NoSuchType (place .0) st ≡ templateEffect profile (place .0) st name t k
+      unfolding templateEffect
+      template-unknown name t k h g = rw (high, le-leb k count h, le-ltb t used g)
 
-    pub template-goes : (name : List ℕ) (t k : ℕ) → k ≤ count → t < used → calling (place .0) st name (typeAt w t ∷ []) k ≡ templateEffect (place .0) st name t k
-    unfolding templateEffect
-    template-goes name t k h g = let b : leb k (length (take count vals)) ≡ true = rw high (le-leb k count h) in sym (rw (b, lt-ltb t used g))
+      pub template-goes : (name : List ℕ) (t k : ℕ) → k ≤ count → t < used → calling profile (place .0) st name (typeAt w t ∷ []) k ≡ templateEffect profile (place .0) st name t k
+      unfolding templateEffect
+      template-goes name t k h g = let b : leb k (length (take count vals)) ≡ true = rw high (le-leb k count h) in sym (rw (b, lt-ltb t used g))
+
+    -- an outcome lands on the stack, or its value has no place there
+
+    pub landing-on : (k : ℕ) (o : Outcome) → (leb most (count - k) && isValued (o .answer)) ≡ false → onto (take (count - k) vals) o ≡ landing (place .0) st k o
+    landing-on k o h = sym (rw (below-them count vals fits k, high, h))
+
+    pub landing-full : (k : ℕ) (o : Outcome) → (leb most (count - k) && isValued (o .answer)) ≡ true → stop Stack (place .0) st ≡ landing (place .0) st k o
+    landing-full k o h = sym (rw (high, h))
 
     -- TAKE
 

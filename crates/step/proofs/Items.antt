@@ -1,13 +1,14 @@
 -- The item functions, each from the promises of the calls it makes: what a call answered can be pushed, and the stack afterwards is the item's effect.
 -- Assumes nothing.
 use Prim.Native.Nat.{ℕ, zero, suc, _+_, _-_, _<_, _≤_}
-use mathlib.Core.Path.{_≡_, refl, sym}
-use mathlib.Core.Bool.{Bool, true, false, cond}
+use mathlib.Core.Path.{_≡_, refl, sym, _∙_, ap}
+use mathlib.Core.Bool.{Bool, true, false, _&&_, cond}
 use mathlib.Core.List.{List, map}
 use native.Mathlib.Omega.{arith}
 use lib.ListN.{length, getD, take, drop}
-use lib.Dec.{eqb}
-use Rattle.conv.specs.Types.{Ty}
+use lib.Dec.{eqb, leb}
+use borrow.Author.Tests.{leb-true, leb-false}
+use Rattle.overload.proofs.Operands.{and-left}
 use Rattle.table.specs.Table.{Sound, allowedb}
 use Rattle.table.specs.Denote.{typeAt, tyOf}
 use Rattle.table.specs.Enter.{EnterDone, entryAnswer}
@@ -16,7 +17,7 @@ use Rattle.table.specs.Kept.{Kept}
 use Rattle.table.specs.declared.Entry.{Entry}
 use Rattle.table.specs.declared.Entered.{Entered}
 use Rattle.answer.specs.declared.Place.{Place}
-use Rattle.answer.specs.declared.TypeNo.{TypeNo}
+use Rattle.answer.specs.declared.Reason.the-variants.{Stack}
 use Rattle.answer.specs.declared.Answer.{Answer}
 use Rattle.answer.specs.declared.Answer.the-variants.{Value}
 use Rattle.table.proofs.FormedLaws.{allowed-type}
@@ -29,11 +30,11 @@ use Rattle.call_ty.proofs.Lists.{type-in}
 use Rattle.call_ty.specs.inner.Codes.{Under}
 use Rattle.call_ty.proofs.Demand1.{call-at-kept}
 use Rattle.step.specs.declared.Did.{Did}
-use Rattle.step.specs.Effect.{most, State, calling, takeEffect}
-use Rattle.step.specs.inner.Code.{stateOf, Arity, operatorOutcome, operatorEffect, Ready, Pushes, Does, Settles}
+use Rattle.step.specs.Effect.{most, State, isValued, calling, takeEffect}
+use Rattle.step.specs.inner.Code.{stateOf, Arity, operatorOutcome, operatorEffect, Ready, turnedAway, Pushes, Does, Settles}
 use Rattle.step.proofs.StackLaws.{operands-lent, under-drop}
-use Rattle.step.proofs.Answers.{no-operand, pushes}
-use Rattle.step.proofs.Effects.{does-as, settled, lent-many, operator-goes, calling-on, take-goes}
+use Rattle.step.proofs.Answers.{bare-words, pushes}
+use Rattle.step.proofs.Effects.{does-as, settled, refusing, lent-many, operator-goes, calling-on, landing-on, landing-full, take-goes}
 
 module _ (place : Place) (count : ℕ) (vals : List ℕ) (used : ℕ) (w : List ℕ) (ready : Ready count vals used w) where
   abbrev st : State
@@ -78,26 +79,47 @@ module _ (place : Place) (count : ℕ) (vals : List ℕ) (used : ℕ) (w : List 
         pub operator-does : {d : Did} {after : List ℕ} → Settles (count - k) vals a d after → Does (operatorEffect k (place .0) st op) d after v
         operator-does s = does-as (operator-goes place count vals used w ready k op r h) (settled s g)
 
-    -- calls: without operands there is no value; with one at least the stack has room for it
-    room : (name : List ℕ) (ts : List Ty) (t : TypeNo) (m : ℕ) → callOutcome (place .0) w used name ts (map (typeAt w) args) .answer ≡ Value t m → count - k < most
-    room name ts t m e = go k refl
-      where
-        go : (j : ℕ) → k ≡ j → count - k < most
-        go zero q =
-            let z : count - (count - k) ≡ 0 = omega arith in
-            absurd (no-operand (place .0) w used ts t m name (rw z at e))
-        go (suc j) q = omega (arith, ready .fits)
+    -- calls: a value that comes has a place, or is refused; then nothing was entered
+    module _ (profile : ℕ) (name tplt : List ℕ) (ut : Under used tplt) {a : Answer} {v : List ℕ}
+        (g : Gave (callOutcome profile (place .0) w used name (map (typeAt w) tplt) (map (typeAt w) args)) a v) where
+      abbrev outcome : Outcome
+      outcome = callOutcome profile (place .0) w used name (map (typeAt w) tplt) (map (typeAt w) args)
 
-    module _ (name tplt : List ℕ) (ut : Under used tplt) {a : Answer} {v : List ℕ}
-        (g : Gave (callOutcome (place .0) w used name (map (typeAt w) tplt) (map (typeAt w) args)) a v) where
-      pub call-pushes : Pushes (count - k) a
-      call-pushes =
-          pushes w used (callOutcome (place .0) w used name (map (typeAt w) tplt) (map (typeAt w) args))
-          (call-at-kept (place .0) w used sound name tplt args ut args-under) (count - k)
-          (room name (map (typeAt w) tplt)) a (g .reply)
+      same-test : (b : Bool) → (leb most (count - k) && isValued a) ≡ b → (leb most (count - k) && isValued (outcome .answer)) ≡ b
+      same-test b e = ap (λ (x : Answer). leb most (count - k) && isValued x) (sym (g .reply)) ∙ e
 
-      pub call-does : {r : Did} {after : List ℕ} → Settles (count - k) vals a r after → Does (calling (place .0) st name (map (typeAt w) tplt) k) r after v
-      call-does s = does-as (calling-on place count vals used w ready name (map (typeAt w) tplt) k h) (settled s g)
+      pub call-pushes : (leb most (count - k) && isValued a) ≡ false → Pushes (count - k) a
+      unfolding isValued
+      call-pushes e =
+          pushes w used outcome (call-at-kept profile (place .0) w used sound name tplt args ut args-under) (count - k)
+          (λ t m q. leb-false most (count - k) (and-true (leb most (count - k)) (ap (λ (x : Answer). leb most (count - k) && isValued x) (sym q) ∙ same-test false e))) a (g .reply)
+        where
+          and-true : (b : Bool) → (b && true) ≡ false → b ≡ false
+          and-true true h = h
+          and-true false h = refl
+
+      pub call-does : (leb most (count - k) && isValued a) ≡ false → {r : Did} {after : List ℕ} → Settles (count - k) vals a r after
+          → Does (calling profile (place .0) st name (map (typeAt w) tplt) k) r after v
+      call-does e s =
+          does-as (landing-on place count vals used w ready k outcome (same-test false e) ∙ calling-on place count vals used w ready profile name (map (typeAt w) tplt) k h) (settled s g)
+
+      pub call-full : (leb most (count - k) && isValued a) ≡ true → {r : Did} → r ≡ turnedAway Stack place used
+          → Does (calling profile (place .0) st name (map (typeAt w) tplt) k) r vals v
+      call-full e q =
+          rw (sym same-words)
+          (refusing place count vals used w Stack q
+          (landing-full place count vals used w ready k outcome (same-test true e) ∙ calling-on place count vals used w ready profile name (map (typeAt w) tplt) k h))
+        where
+          -- the stack is full, so there is no operand
+          none : count - (count - k) ≡ 0
+          none =
+              let l = leb-true most (count - k) (and-left (leb most (count - k)) _ e) in
+              omega (arith, ready .fits)
+
+          same-words : w ≡ v
+          same-words =
+              sym (g .words ∙ ap (λ (j : ℕ). callOutcome profile (place .0) w used name (map (typeAt w) tplt) (map (typeAt w) (take j (drop (count - k) vals))) .words) none
+              ∙ bare-words (place .0) w used (map (typeAt w) tplt) sound profile name)
 
   -- TAKE
   module _ (e : Entry) (ok : allowedb w used e ≡ true) (h : count < most) (x : Entered) (v : List ℕ) (d : EnterDone w used e x v)

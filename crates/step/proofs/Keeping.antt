@@ -2,13 +2,12 @@
 -- word and gives the count as it stands. Assumes nothing.
 use Prim.Native.Nat.{ℕ, zero, suc, _+_, _-_, _<_, _≤_}
 use mathlib.Core.Path.{_≡_, refl, sym, _∙_, ap, subst}
-use mathlib.Core.Bool.{Bool, true, false, cond}
+use mathlib.Core.Bool.{Bool, true, false, _&&_, cond}
 use mathlib.Core.List.{List, [], _∷_, map}
 use native.Mathlib.Omega.{arith}
 use lib.Dec.{ltb, leb}
-use lib.ListN.{length, getD, length-append, length-take, length-drop, drop-of-length-le}
-use borrow.Author.Tests.{ltb-true, leb-true}
-use Rattle.conv.specs.Types.{Ty}
+use lib.ListN.{length, getD, length-append, length-take, length-drop}
+use borrow.Author.Tests.{ltb-true, leb-true, leb-false}
 use Rattle.table.specs.Table.{allowedb}
 use Rattle.table.specs.Denote.{typeAt, tyOf}
 use Rattle.table.specs.Placing.{Outcome}
@@ -25,14 +24,12 @@ use Rattle.table.proofs.Keeping.{kept-entering}
 use Rattle.frame.specs.declared.Item.{Item}
 use Rattle.frame.specs.declared.Item.the-variants.{Push, Unary, Binary, Call, CallTemplate, Take, End, Bad}
 use Rattle.ops_ty.proofs.Demand1.{unary-at-kept, binary-at-kept}
-use Rattle.call_ty.specs.Calls.{callOutcome}
 use Rattle.call_ty.proofs.Demand1.{call-at-kept}
 use Rattle.call_ty.specs.inner.Codes.{Under}
-use Rattle.step.specs.Effect.{most, State, height, operands, below, Effect, goes, silent, ends, stops, stop, pushed, onto, having, holding, pushEffect, unaryEffect, binaryEffect, calling, callEffect, templateEffect, takeEffect, effectOf, entryOf, bytesOf}
+use Rattle.step.specs.Effect.{most, State, height, operands, below, Effect, goes, silent, ends, stops, stop, pushed, onto, having, holding, pushEffect, unaryEffect, binaryEffect, isValued, landing, calling, callEffect, templateEffect, takeEffect, effectOf, entryOf, bytesOf}
 use Rattle.step.specs.inner.Code.{Good}
 use Rattle.step.specs.Kept.{Grew, resultOf, Needed}
 use Rattle.step.proofs.StackLaws.{under-take, under-drop}
-use Rattle.step.proofs.Answers.{no-operand}
 
 -- what an effect keeps of the state before it
 abbrev pub EffectKept : State → Effect → Type 0
@@ -154,31 +151,38 @@ module _ (place : ℕ) (st : State) (good : Good st) where
       kept-onto (below 2 st) _ (below-under 2) (omega (arith, below-high 2, good .high)) (λ t m e. omega (arith, below-high 2, good .high))
       (binary-at-kept place w n (good .sound) op _ _))
 
-  -- a call without operands gives no value, so no 65th value comes of it
-  call-room : (name : List ℕ) (ts : List Ty) (k : ℕ) → k ≤ height st → (t : TypeNo) (m : ℕ)
-      → callOutcome place w n name ts (map (typeAt w) (operands k st)) .answer ≡ Value t m → length (below k st) < most
-  call-room name ts zero l t m e =
-      let none : operands 0 st ≡ [] = drop-of-length-le (st .stack) {i = height st - 0} (omega arith) in
-      absurd (no-operand place w n ts t m name (rw none at e))
-  call-room name ts (suc k) l t m e = omega (arith, below-high (suc k), good .high)
+  -- a call's outcome lands only where its value has a place
+  kept-landing : (k : ℕ) (o : Outcome) → Kept w n o → EffectKept st (landing place st k o)
+  unfolding isValued
+  kept-landing k o kept =
+      either (EffectKept st) (leb most (height st - k) && isValued (o .answer)) (λ b. kept-stop Stack)
+      (λ b. kept-onto (below k st) o (below-under k) (omega (arith, below-high k, good .high)) (λ t m e. room b t m e) kept)
+    where
+      and-true : (b : Bool) → (b && true) ≡ false → b ≡ false
+      and-true true h = h
+      and-true false h = refl
 
-  kept-calling : (name tplt : List ℕ) (k : ℕ) → Under n tplt → k ≤ height st → EffectKept st (calling place st name (map (typeAt w) tplt) k)
-  kept-calling name tplt k ut l =
-      kept-onto (below k st) _ (below-under k) (omega (arith, below-high k, good .high)) (call-room name (map (typeAt w) tplt) k l)
-      (call-at-kept place w n (good .sound) name tplt (operands k st) ut (under-drop n (height st - k) (st .stack) (good .under)))
+      room : (leb most (height st - k) && isValued (o .answer)) ≡ false → (t : TypeNo) (m : ℕ) → o .answer ≡ Value t m → length (below k st) < most
+      room b t m e =
+          let l = leb-false most (height st - k) (and-true (leb most (height st - k)) (ap (λ (x : Answer). leb most (height st - k) && isValued x) (sym e) ∙ b)) in
+          omega (arith, below-high k)
 
-  kept-call : (name : List ℕ) (k : ℕ) → EffectKept st (callEffect place st name k)
+  kept-calling : (profile : ℕ) (name tplt : List ℕ) (k : ℕ) → Under n tplt → k ≤ height st → EffectKept st (calling profile place st name (map (typeAt w) tplt) k)
+  kept-calling profile name tplt k ut l =
+      kept-landing k _ (call-at-kept profile place w n (good .sound) name tplt (operands k st) ut (under-drop n (height st - k) (st .stack) (good .under)))
+
+  kept-call : (profile : ℕ) (name : List ℕ) (k : ℕ) → EffectKept st (callEffect profile place st name k)
   unfolding callEffect
-  kept-call name k = kept-having k _ (λ l. kept-calling name [] k (λ i h. absurd (omega arith)) l)
+  kept-call profile name k = kept-having k _ (λ l. kept-calling profile name [] k (λ i h. absurd (omega arith)) l)
 
   one : (t : ℕ) → t < n → Under n (t ∷ [])
   one t h zero l = h
   one t h (suc i) l = absurd (omega arith)
 
-  kept-template : (name : List ℕ) (t k : ℕ) → EffectKept st (templateEffect place st name t k)
+  kept-template : (profile : ℕ) (name : List ℕ) (t k : ℕ) → EffectKept st (templateEffect profile place st name t k)
   unfolding templateEffect
-  kept-template name t k =
-      kept-having k _ (λ l. either (EffectKept st) (ltb t n) (λ b. kept-calling name (t ∷ []) k (one t (ltb-true t n b)) l) (λ b. kept-stop NoSuchType))
+  kept-template profile name t k =
+      kept-having k _ (λ l. either (EffectKept st) (ltb t n) (λ b. kept-calling profile name (t ∷ []) k (one t (ltb-true t n b)) l) (λ b. kept-stop NoSuchType))
 
   kept-take : (e : Entry) → EffectKept st (takeEffect place st e)
   unfolding takeEffect
@@ -189,13 +193,13 @@ module _ (place : ℕ) (st : State) (good : Good st) where
       (kept-entering w n (good .sound) place (tyOf w e) (allowed-type w n (good .sound) e b))))
       (λ b. kept-stop Template)
 
-  pub item-kept : (s : List ℕ) (i : Item) → EffectKept st (effectOf place st s i)
+  pub item-kept : (profile : ℕ) (s : List ℕ) (i : Item) → EffectKept st (effectOf profile place st s i)
   unfolding effectOf
-  item-kept s (Push t) = kept-push (t .0)
-  item-kept s (Unary op) = kept-unary op
-  item-kept s (Binary op) = kept-binary op
-  item-kept s (Call k name) = kept-call (bytesOf s name) k
-  item-kept s (CallTemplate t k name) = kept-template (bytesOf s name) (t .0) k
-  item-kept s (Take kind p q elem) = kept-take (entryOf kind p q elem)
-  item-kept s End = refl
-  item-kept s Bad = kept-stop Framing
+  item-kept profile s (Push t) = kept-push (t .0)
+  item-kept profile s (Unary op) = kept-unary op
+  item-kept profile s (Binary op) = kept-binary op
+  item-kept profile s (Call k name) = kept-call profile (bytesOf s name) k
+  item-kept profile s (CallTemplate t k name) = kept-template profile (bytesOf s name) (t .0) k
+  item-kept profile s (Take kind p q elem) = kept-take (entryOf kind p q elem)
+  item-kept profile s End = refl
+  item-kept profile s Bad = kept-stop Framing

@@ -1,18 +1,19 @@
--- Document 01, "The sheet" and "What is answered": what an item does. Its effect is that of the single call on the operands that the stack holds.
--- Assumes nothing.
+-- Document 01, "The sheet" and "What is answered", and document 02, K1: what an item does in a profile. Its effect is that of the single call on the operands that the
+-- stack holds. Assumes nothing.
 use Prim.Native.Nat.{ℕ, _-_}
-use mathlib.Core.Bool.{cond}
+use mathlib.Core.Bool.{Bool, true, false, _&&_, cond}
 use mathlib.Core.List.{List, [], _∷_, _++_, map}
 use lib.ListN.{length, getD, take, drop}
-use lib.Dec.{ltb, leb}
+use lib.Dec.{eqb, ltb, leb}
 use Rattle.held.specs.Held.{valueOf, numberOf}
 use Rattle.conv.specs.Types.{Ty}
 use Rattle.table.specs.Table.{allowedb}
 use Rattle.table.specs.Denote.{typeAt, tyOf}
 use Rattle.table.specs.Placing.{Outcome, entering}
 use Rattle.table.specs.declared.Entry.{Entry}
+use Rattle.answer.specs.Answer.{reasonNo}
 use Rattle.answer.specs.declared.Reason.{Reason}
-use Rattle.answer.specs.declared.Reason.the-variants.{NoSuchType, Template, Framing, Stack}
+use Rattle.answer.specs.declared.Reason.the-variants.{NoSuchType, Template, NoRoom, Framing, Stack}
 use Rattle.answer.specs.declared.Refusal.{Refusal}
 use Rattle.answer.specs.declared.Answer.{Answer}
 use Rattle.answer.specs.declared.Answer.the-variants.{Value, NoValue, Refused}
@@ -81,6 +82,12 @@ bytesOf s p = take (p .length) (drop (p .start .0) s)
 abbrev pub entryOf : ℕ → ℕ → ℕ → ℕ → Entry
 entryOf kind p q elem = record { kind = kind; p = p; q = q; elem = elem }
 
+-- an answer by which a value comes, or would come if the table had room for it
+unfoldable pub isValued : Answer → Bool
+isValued (Value t m) = true
+isValued (NoValue m) = false
+isValued (Refused r) = eqb (reasonNo (r .reason)) (reasonNo NoRoom)
+
 -- an item at a place of the sheet. "10, 11, then the call's order; push gives 2 before 11, take gives 5, 11, 9"
 
 module _ (place : ℕ) (st : State) where
@@ -106,17 +113,9 @@ module _ (place : ℕ) (st : State) where
       having 2
       (onto (below 2 st) (binaryOutcome place (st .words) (st .used) op (typeOf st (getD (operands 2 st) 0 0)) (typeOf st (getD (operands 2 st) 1 0))))
 
-  -- a call of k operands, with the types of its template list
-  abbrev pub calling : List ℕ → List Ty → ℕ → Effect
-  calling name ts k = onto (below k st) (callOutcome place (st .words) (st .used) name ts (map (typeOf st) (operands k st)))
-
-  unfoldable pub callEffect : List ℕ → ℕ → Effect
-  callEffect name k = having k (calling name [] k)
-
-  -- the template's number is the only one of a sheet's call that can be no type's
-  unfoldable pub templateEffect : List ℕ → ℕ → ℕ → Effect
-  templateEffect name t k =
-      having k (cond (ltb t (st .used)) (calling name (typeAt (st .words) t ∷ []) k) (stop NoSuchType place st))
+  -- a call's outcome in the place of its k operands; "11 for that 65th value, before 9"
+  abbrev pub landing : ℕ → Outcome → Effect
+  landing k o = cond (leb most (height st - k) && isValued (o .answer)) (stop Stack place st) (onto (below k st) o)
 
   -- 6 take: "enters the type and pushes it"
   unfoldable pub takeEffect : Entry → Effect
@@ -125,12 +124,27 @@ module _ (place : ℕ) (st : State) where
       (holding (onto (st .stack) (entering place (st .words) (st .used) (tyOf (st .words) e))))
       (stop Template place st)
 
+-- only calls of builtins look at the profile
+
+module _ (profile place : ℕ) (st : State) where
+  -- a call of k operands, with the types of its template list
+  abbrev pub calling : List ℕ → List Ty → ℕ → Effect
+  calling name ts k = landing place st k (callOutcome profile place (st .words) (st .used) name ts (map (typeOf st) (operands k st)))
+
+  unfoldable pub callEffect : List ℕ → ℕ → Effect
+  callEffect name k = having place st k (calling name [] k)
+
+  -- the template's number is the only one of a sheet's call that can be no type's
+  unfoldable pub templateEffect : List ℕ → ℕ → ℕ → Effect
+  templateEffect name t k =
+      having place st k (cond (ltb t (st .used)) (calling name (typeAt (st .words) t ∷ []) k) (stop NoSuchType place st))
+
   unfoldable pub effectOf : List ℕ → Item → Effect
-  effectOf s (Push t) = pushEffect (t .0)
-  effectOf s (Unary op) = unaryEffect op
-  effectOf s (Binary op) = binaryEffect op
+  effectOf s (Push t) = pushEffect place st (t .0)
+  effectOf s (Unary op) = unaryEffect place st op
+  effectOf s (Binary op) = binaryEffect place st op
   effectOf s (Call k name) = callEffect (bytesOf s name) k
   effectOf s (CallTemplate t k name) = templateEffect (bytesOf s name) (t .0) k
-  effectOf s (Take kind p q elem) = takeEffect (entryOf kind p q elem)
+  effectOf s (Take kind p q elem) = takeEffect place st (entryOf kind p q elem)
   effectOf s End = ends st
   effectOf s Bad = stop Framing place st

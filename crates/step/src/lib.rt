@@ -1,4 +1,4 @@
-// What one item does to the stack and the table. The stack is lent as a slice of which the first values count; an item is typed by the single call that it
+// What one item does to the stack and the table, in a profile. The stack is lent as a slice of which the first values count; an item is typed by the single call that it
 // stands for.
 use cast::wide;
 use cast::wide32;
@@ -20,7 +20,7 @@ ghost use Rattle.table.specs.Placing.{Gave};
 ghost use Rattle.frame.specs.inner.Items.{sheetOf, LiesIn, NameIn};
 ghost use Rattle.names.specs.inner.Table.{nameTable};
 ghost use Rattle.call_ty.specs.inner.Codes.{Under};
-ghost use Rattle.step.specs.Effect.{bytesOf, entryOf, pushEffect, calling, callEffect, templateEffect, takeEffect, effectOf};
+ghost use Rattle.step.specs.Effect.{bytesOf, entryOf, pushEffect, isValued, calling, callEffect, templateEffect, takeEffect, effectOf};
 ghost use Rattle.step.specs.inner.Code.{stateOf, turnedAway, Arity, operatorOutcome, operatorEffect, Ready, Pushes, Settles, Does};
 
 // How many values the stack holds.
@@ -30,6 +30,9 @@ pub const VALUES: usize = 64;
 const UNARY: usize = 1;
 
 const BINARY: usize = 2;
+
+// The number of the refusal where the table lacks room.
+const NO_ROOM: u8 = 9;
 
 // What an item did: it left so many values and entries; it was a call without value; the items ended; or it was refused.
 pub enum Did {
@@ -124,9 +127,24 @@ fn operator(
     settle(stack, base, r)
 }
 
-// A call on the last k values, with its template list; the table of names is lent as rows.
+// Whether a value comes of an answer, or would come if the table had room for it.
+fn is_valued(a: Answer) -> bool
+    ensures { λ r. ⌜ r ≡ isValued a ⌝ }
+{
+    match a {
+        Answer::Value(_, _) => true,
+        Answer::NoValue(_) => false,
+        Answer::Refused(r) => {
+            let reason = r.reason;
+            table::reason_no(reason) == NO_ROOM
+        }
+    }
+}
+
+// A call on the last k values, with its template list; the table of names is lent as rows. On a full stack it has no operand, and its value has no place.
 fn call_on(
     rows: &[u8],
+    profile: u32,
     name: &[u8],
     tplt: &[u32],
     k: usize,
@@ -137,16 +155,29 @@ fn call_on(
     used: usize,
 ) -> Did
     requires { ⌜ Ready count (now stack) used (now table) × Under used (now tplt) × (k ≤ count) × (now rows ≡ nameTable) ⌝ }
-    ensures { λ r. ⌜ Does (calling (at .0) (stateOf count (now (stack .entry)) used (now (table .entry))) (now (name .entry)) (map (typeAt (now (table .entry))) (now (tplt .entry))) k) r (now (stack .exit)) (now (table .exit)) ⌝ }
+    ensures { λ r. ⌜ Does (calling profile (at .0) (stateOf count (now (stack .entry)) used (now (table .entry))) (now (name .entry)) (map (typeAt (now (table .entry))) (now (tplt .entry))) k) r (now (stack .exit)) (now (table .exit)) ⌝ }
 {
     let base = count - k;
-    let r = call_ty::call_at(table, used, at, rows, name, tplt, &stack[base..count]);
+    let r = call_ty::call_at(
+        table,
+        used,
+        at,
+        rows,
+        profile,
+        name,
+        tplt,
+        &stack[base..count],
+    );
+    if (VALUES <= base) & is_valued(r) {
+        return stopped(Reason::Stack, at, used);
+    }
     settle(stack, base, r)
 }
 
 fn call(
     items: &[u8],
     rows: &[u8],
+    profile: u32,
     name: Part,
     k: u8,
     at: Place,
@@ -156,7 +187,7 @@ fn call(
     used: usize,
 ) -> Did
     requires { ⌜ Ready count (now stack) used (now table) × LiesIn (length (now items)) name × (now rows ≡ nameTable) ⌝ }
-    ensures { λ r. ⌜ Does (callEffect (at .0) (stateOf count (now (stack .entry)) used (now (table .entry))) (bytesOf (sheetOf (now (items .entry))) name) k) r (now (stack .exit)) (now (table .exit)) ⌝ }
+    ensures { λ r. ⌜ Does (callEffect profile (at .0) (stateOf count (now (stack .entry)) used (now (table .entry))) (bytesOf (sheetOf (now (items .entry))) name) k) r (now (stack .exit)) (now (table .exit)) ⌝ }
 {
     let k = wide(k);
     if count < k {
@@ -164,12 +195,13 @@ fn call(
     }
     let bytes = frame::name_in(items, name);
     let list: [u32; 0] = [];
-    call_on(rows, bytes, &list, k, at, stack, count, table, used)
+    call_on(rows, profile, bytes, &list, k, at, stack, count, table, used)
 }
 
 fn call_template(
     items: &[u8],
     rows: &[u8],
+    profile: u32,
     name: Part,
     t: TypeNo,
     k: u8,
@@ -180,7 +212,7 @@ fn call_template(
     used: usize,
 ) -> Did
     requires { ⌜ Ready count (now stack) used (now table) × LiesIn (length (now items)) name × (now rows ≡ nameTable) ⌝ }
-    ensures { λ r. ⌜ Does (templateEffect (at .0) (stateOf count (now (stack .entry)) used (now (table .entry))) (bytesOf (sheetOf (now (items .entry))) name) (t .0) k) r (now (stack .exit)) (now (table .exit)) ⌝ }
+    ensures { λ r. ⌜ Does (templateEffect profile (at .0) (stateOf count (now (stack .entry)) used (now (table .entry))) (bytesOf (sheetOf (now (items .entry))) name) (t .0) k) r (now (stack .exit)) (now (table .exit)) ⌝ }
 {
     let template = t.0;
     let wanted = wide(k);
@@ -193,7 +225,7 @@ fn call_template(
     let bytes = frame::name_in(items, name);
     let first = template as u32;
     let list = [first];
-    call_on(rows, bytes, &list, wanted, at, stack, count, table, used)
+    call_on(rows, profile, bytes, &list, wanted, at, stack, count, table, used)
 }
 
 // The type of an entry, entered where it is absent, as one value more.
@@ -231,10 +263,11 @@ fn entry(kind: u8, p: u32, q: u8, elem: u8) -> Entry
     }
 }
 
-// What stands at a place of the sheet, on the stack of `count` values and the table.
+// What stands at a place of the sheet, in a profile, on the stack of `count` values and the table.
 pub fn step(
     items: &[u8],
     rows: &[u8],
+    profile: u32,
     item: Item,
     at: Place,
     stack: &mut [u32],
@@ -243,13 +276,13 @@ pub fn step(
     used: usize,
 ) -> Did
     requires { ⌜ Ready count (now stack) used (now table) × NameIn (length (now items)) item × (now rows ≡ nameTable) ⌝ }
-    ensures { λ r. ⌜ Does (effectOf (at .0) (stateOf count (now (stack .entry)) used (now (table .entry))) (sheetOf (now (items .entry))) item) r (now (stack .exit)) (now (table .exit)) ⌝ }
+    ensures { λ r. ⌜ Does (effectOf profile (at .0) (stateOf count (now (stack .entry)) used (now (table .entry))) (sheetOf (now (items .entry))) item) r (now (stack .exit)) (now (table .exit)) ⌝ }
 {
     match item {
         Item::Push(t) => push(t, at, stack, count, table, used),
         Item::Unary(op) => operator(op, UNARY, at, stack, count, table, used),
         Item::Binary(op) => operator(op, BINARY, at, stack, count, table, used),
-        Item::Call { count: k, name } => call(items, rows, name, k, at, stack, count, table, used),
+        Item::Call { count: k, name } => call(items, rows, profile, name, k, at, stack, count, table, used),
         Item::CallTemplate {
             template,
             count: k,
@@ -257,6 +290,7 @@ pub fn step(
         } => call_template(
             items,
             rows,
+            profile,
             name,
             template,
             k,

@@ -52,8 +52,8 @@ module _ (w : List ℕ) (n : ℕ) (l : n < 2 ^ 32) (r : Answer) (v : List ℕ) w
   pub binary-fits : (op a b : ℕ) → Gave (typeBinaryOp w n op a b) r v → Fits r
   binary-fits op a b g = kept-fits w n _ l (binary-kept w n op a b) (type-binary-at w n op a b) r (g .reply)
 
-  pub call-fits : (name tplt args : List ℕ) → Gave (typeBuiltinFn w n name tplt args) r v → Fits r
-  call-fits name tplt args g = kept-fits w n _ l (call-kept w n name tplt args) (type-builtin-at w n name tplt args) r (g .reply)
+  pub call-fits : (profile : ℕ) (name tplt args : List ℕ) → Gave (typeBuiltinFn profile w n name tplt args) r v → Fits r
+  call-fits profile name tplt args g = kept-fits w n _ l (call-kept profile w n name tplt args) (type-builtin-at w n profile name tplt args) r (g .reply)
 
   pub template-fits : (head : List ℕ) (args : List ℤ) → Gave (templateOutcome w n head args) r v → Fits r
   template-fits head args g = kept-fits w n _ l (template-kept w n head args) (type-template-at w n head args) r (g .reply)

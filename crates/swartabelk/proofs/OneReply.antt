@@ -37,14 +37,15 @@ module _ (w : List ℕ) (n : ℕ) (r q : Reply) where
     pub binary-one : (op a b : ℕ) → Replied (typeBinaryOp w n op a b) r v → Replied (typeBinaryOp w n op a b) q u → (r ≡ q) × (v ≡ u)
     binary-one op a b = replied-one (typeBinaryOp w n op a b) r q v u
 
-    pub call-one : (name tplt args : List ℕ) → Replied (typeBuiltinFn w n name tplt args) r v → Replied (typeBuiltinFn w n name tplt args) q u → (r ≡ q) × (v ≡ u)
-    call-one name tplt args = replied-one (typeBuiltinFn w n name tplt args) r q v u
+    pub call-one : (profile : ℕ) (name tplt args : List ℕ) → Replied (typeBuiltinFn profile w n name tplt args) r v → Replied (typeBuiltinFn profile w n name tplt args) q u
+        → (r ≡ q) × (v ≡ u)
+    call-one profile name tplt args = replied-one (typeBuiltinFn profile w n name tplt args) r q v u
 
     pub template-one : (head : List ℕ) (args : List ℤ) → Replied (templateOutcome w n head args) r v → Replied (templateOutcome w n head args) q u → (r ≡ q) × (v ≡ u)
     template-one head args = replied-one (templateOutcome w n head args) r q v u
 
-    pub sheet-one : (s : List ℕ) → Replied (typeSheet w n s) r v → Replied (typeSheet w n s) q u → (r ≡ q) × (v ≡ u)
-    sheet-one s = replied-one (typeSheet w n s) r q v u
+    pub sheet-one : (profile : ℕ) (s : List ℕ) → Replied (typeSheet profile w n s) r v → Replied (typeSheet profile w n s) q u → (r ≡ q) × (v ≡ u)
+    sheet-one profile s = replied-one (typeSheet profile w n s) r q v u
 
 pub spell-one : (w : List ℕ) (n t : ℕ) (out : List ℕ) (r q : SpelledReply) (v u : List ℕ) → SpelledOut w n t out r v → SpelledOut w n t out q u → (r ≡ q) × (v ≡ u)
 spell-one w n t out r q v u a b = (a .reply ∙ sym (b .reply), a .bytes ∙ sym (b .bytes))

@@ -76,8 +76,8 @@ module _ (place : ℕ) (w : List ℕ) (n : ℕ) where
       (at-by (eqb (length us) (operandsOf r)) _ _ (at-by (anyReference us) _ _ (refl, refl) (given-at (givenBy r ts us))) (refl, refl))
       (refl, refl)
 
-  pub call-at : (name : List ℕ) (ts us : List Ty) → At place n (callOutcome place w n name ts us .answer)
-  call-at name ts us = rule-at (ruleOf name) ts us
+  pub call-at : (profile : ℕ) (name : List ℕ) (ts us : List Ty) → At place n (callOutcome profile place w n name ts us .answer)
+  call-at profile name ts us = rule-at (ruleOf profile name) ts us
 
 -- a single call is at place 0
 module _ (w : List ℕ) (n : ℕ) where
@@ -92,12 +92,12 @@ module _ (w : List ℕ) (n : ℕ) where
       (at-by 0 w n (ltb a n) _ _ (at-by 0 w n (ltb b n) _ _ (binary-at 0 w n op (typeAt w a) (typeAt w b)) (refl, refl)) (refl, refl))
       (refl, refl)
 
-  pub type-builtin-at : (name tplt args : List ℕ) → At 0 n (typeBuiltinFn w n name tplt args .answer)
+  pub type-builtin-at : (profile : ℕ) (name tplt args : List ℕ) → At 0 n (typeBuiltinFn profile w n name tplt args .answer)
   unfolding typeBuiltinFn
-  type-builtin-at name tplt args =
+  type-builtin-at profile name tplt args =
       at-by 0 w n (soundb w n) _ _
       (at-by 0 w n (allUnder n tplt) _ _
-      (at-by 0 w n (allUnder n args) _ _ (call-at 0 w n name (map (typeAt w) tplt) (map (typeAt w) args)) (refl, refl))
+      (at-by 0 w n (allUnder n args) _ _ (call-at 0 w n profile name (map (typeAt w) tplt) (map (typeAt w) args)) (refl, refl))
       (refl, refl))
       (refl, refl)
 

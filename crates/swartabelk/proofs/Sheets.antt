@@ -1,13 +1,13 @@
 -- The numbers of a sheet's answer fit: the place of an item lies within the sheet, which has at most 60,003 bytes, and the count is that of a sound
 -- table. Assumes nothing.
-use Prim.Native.Nat.{ℕ, zero, suc, _≤_, _<_, _^_}
+use Prim.Native.Nat.{ℕ, zero, suc, _-_, _≤_, _<_, _^_}
 use mathlib.Core.Path.{_≡_, refl, ap}
 use mathlib.Core.Bool.{Bool, true, false, _&&_, cond}
 use mathlib.Core.List.{List, [], _∷_, map}
 use native.Mathlib.Omega.{arith}
 use lib.Dec.{ltb, leb, eqb}
 use lib.ListN.{length, getD}
-use borrow.Author.Tests.{eqb-true}
+use borrow.Author.Tests.{eqb-true, ltb-true, ltb-false}
 use Rattle.conv.specs.Types.{Ty}
 use Rattle.answer.specs.Answer.{accept, refuse}
 use Rattle.table.specs.Table.{soundb, allowedb}
@@ -22,11 +22,12 @@ use Rattle.frame.specs.Frame.{version, headerSize, headerOk, itemAt, itemsWithi
 use Rattle.frame.specs.declared.Item.{Item}
 use Rattle.frame.specs.declared.Item.the-variants.{Push, Unary, Binary, Call, CallTemplate, Take, End, Bad}
 use Rattle.frame.proofs.FrameLaws.{framed, own-place, headed}
-use Rattle.step.specs.Effect.{State, height, operands, below, typeOf, Effect, goes, silent, ends, stops, onto, having, holding, calling, pushEffect, unaryEffect, binaryEffect, callEffect, templateEffect, takeEffect, effectOf, entryOf, bytesOf}
+use Rattle.names.specs.Names.{profiles}
+use Rattle.step.specs.Effect.{most, State, height, operands, below, typeOf, Effect, goes, silent, ends, stops, stop, onto, having, holding, isValued, landing, calling, pushEffect, unaryEffect, binaryEffect, callEffect, templateEffect, takeEffect, effectOf, entryOf, bytesOf}
 use Rattle.sheet.specs.Machine.{endAnswer, leftAnswer, after, Turned, more, done, turnOf, onward, runItems, begun, typeSheet}
 use Rattle.step.specs.inner.Code.{Good}
 use Rattle.step.proofs.Keeping.{EffectKept, item-kept}
-use Rattle.sheet.proofs.Running.{turn-item, turn-kept, sheet-unsound, sheet-unheaded, sheet-runs}
+use Rattle.sheet.proofs.Running.{turn-item, turn-kept, sheet-unsound, sheet-unheaded, sheet-unprofiled, sheet-runs}
 use Rattle.swartabelk.specs.inner.Code.{Fits}
 use Rattle.swartabelk.proofs.Places.{At, entering-at, unary-at, binary-at, call-at}
 
@@ -52,8 +53,12 @@ module _ (place : ℕ) (st : State) where
       go (NoValue m) e = rw e tt
       go (Refused r) e = let z = rw e at at in rw e (z .0)
 
-  calling-at : (name : List ℕ) (ts : List Ty) (k : ℕ) → EffectAt place (calling place st name ts k)
-  calling-at name ts k = onto-at (below k st) (st .used) _ (call-at place (st .words) (st .used) name ts (map (typeOf st) (operands k st)))
+  landing-at : (k : ℕ) (o : Outcome) → EffectAt place (onto (below k st) o) → EffectAt place (landing place st k o)
+  landing-at k o p = either (leb most (height st - k) && isValued (o .answer)) (stop Stack place st) (onto (below k st) o) refl p
+
+  calling-at : (profile : ℕ) (name : List ℕ) (ts : List Ty) (k : ℕ) → EffectAt place (calling profile place st name ts k)
+  calling-at profile name ts k =
+      landing-at k _ (onto-at (below k st) (st .used) _ (call-at place (st .words) (st .used) profile name ts (map (typeOf st) (operands k st))))
 
   having-at : (k : ℕ) (e : Effect) → EffectAt place e → EffectAt place (having place st k e)
   having-at k e p = either (leb k (height st)) e _ p refl
@@ -61,21 +66,21 @@ module _ (place : ℕ) (st : State) where
   holding-at : (e : Effect) → EffectAt place e → EffectAt place (holding place st e)
   holding-at e p = either (ltb (height st) 64) e _ p refl
 
-  item-at : (s : List ℕ) (i : Item) → EffectAt place (effectOf place st s i)
+  item-at : (profile : ℕ) (s : List ℕ) (i : Item) → EffectAt place (effectOf profile place st s i)
   unfolding effectOf pushEffect unaryEffect binaryEffect callEffect templateEffect takeEffect
-  item-at s (Push t) = either (ltb (t .0) (st .used)) _ _ (holding-at _ tt) refl
-  item-at s (Unary op) = having-at 1 _ (onto-at (below 1 st) (st .used) _ (unary-at place (st .words) (st .used) op (typeOf st (getD (operands 1 st) 0 0))))
-  item-at s (Binary op) =
+  item-at profile s (Push t) = either (ltb (t .0) (st .used)) _ _ (holding-at _ tt) refl
+  item-at profile s (Unary op) = having-at 1 _ (onto-at (below 1 st) (st .used) _ (unary-at place (st .words) (st .used) op (typeOf st (getD (operands 1 st) 0 0))))
+  item-at profile s (Binary op) =
       having-at 2 _
       (onto-at (below 2 st) (st .used) _ (binary-at place (st .words) (st .used) op (typeOf st (getD (operands 2 st) 0 0)) (typeOf st (getD (operands 2 st) 1 0))))
-  item-at s (Call k name) = having-at k _ (calling-at (bytesOf s name) [] k)
-  item-at s (CallTemplate t k name) =
-      having-at k _ (either (ltb (t .0) (st .used)) _ _ (calling-at (bytesOf s name) (typeAt (st .words) (t .0) ∷ []) k) refl)
-  item-at s (Take kind p q elem) =
+  item-at profile s (Call k name) = having-at k _ (calling-at profile (bytesOf s name) [] k)
+  item-at profile s (CallTemplate t k name) =
+      having-at k _ (either (ltb (t .0) (st .used)) _ _ (calling-at profile (bytesOf s name) (typeAt (st .words) (t .0) ∷ []) k) refl)
+  item-at profile s (Take kind p q elem) =
       either (allowedb (st .words) (st .used) (entryOf kind p q elem)) _ _
       (holding-at _ (onto-at (st .stack) (st .used) _ (entering-at place (st .words) (st .used) (tyOf (st .words) (entryOf kind p q elem))))) refl
-  item-at s End = tt
-  item-at s Bad = refl
+  item-at profile s End = tt
+  item-at profile s Bad = refl
 
 -- AN ANSWER of a run over a sheet of so many bytes
 
@@ -116,30 +121,30 @@ after-told s place next st g p (silent st') k at = left-told (length s) place ne
 after-told s place next st g p (ends st') k at = end-told (length s) st' (rw k g)
 after-told s place next st g p (stops r w) k at = (omega arith, omega (arith, k .1, g .sound .high))
 
-turn-told : (s : List ℕ) (at : ℕ) (st : State) → Good st → at ≤ length s → Over (length s) (turnOf s (itemAt s at) st)
+turn-told : (profile : ℕ) (s : List ℕ) (at : ℕ) (st : State) → Good st → at ≤ length s → Over (length s) (turnOf profile s (itemAt s at) st)
 unfolding turnOf
-turn-told s at st g p =
+turn-told profile s at st g p =
     let x = itemAt s at in
     let own : x .at .0 ≡ at = ap (λ (q : _). q .0) (own-place s at) in
-    after-told s (x .at .0) (x .next .0) st g (omega arith) (effectOf (x .at .0) st s (x .item)) (item-kept (x .at .0) st g s (x .item)) (item-at (x .at .0) st s (x .item))
+    after-told s (x .at .0) (x .next .0) st g (omega arith) (effectOf profile (x .at .0) st s (x .item)) (item-kept (x .at .0) st g profile s (x .item)) (item-at (x .at .0) st profile s (x .item))
 
 -- A RUN, in so many steps and no more
 
-run-told : (n : ℕ) (s : List ℕ) (at : ℕ) (st : State) → Good st → at ≤ length s → Told (length s) (runItems s (itemsWithin n s at) st .answer)
+run-told : (profile n : ℕ) (s : List ℕ) (at : ℕ) (st : State) → Good st → at ≤ length s → Told (length s) (runItems profile s (itemsWithin n s at) st .answer)
 unfolding runItems itemsWithin onward
-run-told zero s at st g p = go (turnOf s (itemAt s at) st) refl (turn-told s at st g p)
+run-told profile zero s at st g p = go (turnOf profile s (itemAt s at) st) refl (turn-told profile s at st g p)
   where
-    go : (t : Turned) → turnOf s (itemAt s at) st ≡ t → Over (length s) t → Told (length s) (onward (turnOf s (itemAt s at) st) (runItems s []) .answer)
-    go (more st') e k = rw e (end-told (length s) st' (turn-kept s (itemAt s at) st st' e g .0))
+    go : (t : Turned) → turnOf profile s (itemAt s at) st ≡ t → Over (length s) t → Told (length s) (onward (turnOf profile s (itemAt s at) st) (runItems profile s []) .answer)
+    go (more st') e k = rw e (end-told (length s) st' (turn-kept profile s (itemAt s at) st st' e g .0))
     go (done o) e k = rw e k
-run-told (suc n) s at st g p = go (turnOf s (itemAt s at) st) refl (turn-told s at st g p) (λ at' st' h l. run-told n s at' st' h l)
+run-told profile (suc n) s at st g p = go (turnOf profile s (itemAt s at) st) refl (turn-told profile s at st g p) (λ at' st' h l. run-told profile n s at' st' h l)
   where
-    go : (t : Turned) → turnOf s (itemAt s at) st ≡ t → Over (length s) t
-        → ((at' : ℕ) (st' : State) → Good st' → at' ≤ length s → Told (length s) (runItems s (itemsWithin n s at') st' .answer))
-        → Told (length s) (runItems s (itemsWithin (suc n) s at) st .answer)
+    go : (t : Turned) → turnOf profile s (itemAt s at) st ≡ t → Over (length s) t
+        → ((at' : ℕ) (st' : State) → Good st' → at' ≤ length s → Told (length s) (runItems profile s (itemsWithin n s at') st' .answer))
+        → Told (length s) (runItems profile s (itemsWithin (suc n) s at) st .answer)
     go (more st') e k ih =
-        let i = turn-item s (itemAt s at) st st' e in
-        rw (e, i) (ih (itemAt s at .next .0) st' (turn-kept s (itemAt s at) st st' e g .0) (framed s at i .within))
+        let i = turn-item profile s (itemAt s at) st st' e in
+        rw (e, i) (ih (itemAt s at .next .0) st' (turn-kept profile s (itemAt s at) st st' e g .0) (framed s at i .within))
     go (done o) e k ih = rw e k
 
 -- A SHEET
@@ -147,19 +152,22 @@ run-told (suc n) s at st g p = go (turnOf s (itemAt s at) st) refl (turn-told s 
 begun-good : (w : List ℕ) (n : ℕ) → soundb w n ≡ true → Good (begun w n)
 begun-good w n h = record { sound = sound-of w n h; under = λ i k. absurd (omega arith); high = omega arith }
 
-from-told : (s : List ℕ) (st : State) → Good st → headerSize ≤ length s → Told (length s) (runItems s (itemsFrom s headerSize) st .answer)
+from-told : (profile : ℕ) (s : List ℕ) (st : State) → Good st → headerSize ≤ length s → Told (length s) (runItems profile s (itemsFrom s headerSize) st .answer)
 unfolding itemsFrom
-from-told s st g h = run-told (length s) s headerSize st g h
+from-told profile s st g h = run-told profile (length s) s headerSize st g h
 
-pub sheet-fits : (w : List ℕ) (n : ℕ) (s : List ℕ) → n < 2 ^ 32 → (a : Answer) (v : List ℕ) → Gave (typeSheet w n s) a v → Fits a
+pub sheet-fits : (profile : ℕ) (w : List ℕ) (n : ℕ) (s : List ℕ) → n < 2 ^ 32 → (a : Answer) (v : List ℕ) → Gave (typeSheet profile w n s) a v → Fits a
 unfolding Fits
-sheet-fits w n s l a v g =
+sheet-fits profile w n s l a v g =
     rw (g .reply)
     (split (soundb w n)
     (λ h.
     split (headerOk version s)
     (λ k.
     let z = headed version s k in
-    rw (← sheet-runs w n s h k) (told-fits (length s) (omega (arith, z .whole, z .short)) (runItems s (itemsFrom s headerSize) (begun w n) .answer) (from-told s (begun w n) (begun-good w n h) (omega (arith, z .whole)))))
-    (λ k. rw (← sheet-unheaded w n s h k) (omega arith, l)))
-    (λ h. rw (← sheet-unsound w n s h) (omega arith, l)))
+    split (ltb profile profiles)
+    (λ b.
+    rw (← sheet-runs profile w n s h k (ltb-true profile profiles b)) (told-fits (length s) (omega (arith, z .whole, z .short)) (runItems profile s (itemsFrom s headerSize) (begun w n) .answer) (from-told profile s (begun w n) (begun-good w n h) (omega (arith, z .whole)))))
+    (λ b. rw (← sheet-unprofiled profile w n s h k (ltb-false profile profiles b)) (omega arith, l)))
+    (λ k. rw (← sheet-unheaded profile w n s h k) (omega arith, l)))
+    (λ h. rw (← sheet-unsound profile w n s h) (omega arith, l)))

@@ -147,19 +147,20 @@ pub extern "C" fn swartabelk_binary(words: &mut [u32], used: u32, op: u32, a: u3
     reply_of(answer)
 }
 
-// The type of a call of the builtin with that name, on those operands; the template list is empty where there is none.
+// The type of a call of the builtin with that name in that profile, on those operands; the template list is empty where there is none.
 #[no_mangle]
 pub extern "C" fn swartabelk_call(
     words: &mut [u32],
     used: u32,
+    profile: u32,
     name: &[u8],
     tplt: &[u32],
     args: &[u32],
 ) -> Reply
-    ensures { λ r. ⌜ Replied (typeBuiltinFn (now (words .entry)) used (now (name .entry)) (now (tplt .entry)) (now (args .entry))) r (now (words .exit)) ⌝ }
+    ensures { λ r. ⌜ Replied (typeBuiltinFn profile (now (words .entry)) used (now (name .entry)) (now (tplt .entry)) (now (args .entry))) r (now (words .exit)) ⌝ }
 {
     let n = cast::word(used);
-    let answer = call_ty::type_builtin_fn(words, n, name, tplt, args);
+    let answer = call_ty::type_builtin_fn(words, n, profile, name, tplt, args);
     reply_of(answer)
 }
 
@@ -178,13 +179,18 @@ pub extern "C" fn swartabelk_template(
     reply_of(answer)
 }
 
-// The type of a whole sheet.
+// The type of a whole sheet, in that profile.
 #[no_mangle]
-pub extern "C" fn swartabelk_sheet(words: &mut [u32], used: u32, sheet: &[u8]) -> Reply
-    ensures { λ r. ⌜ Replied (typeSheet (now (words .entry)) used (now (sheet .entry))) r (now (words .exit)) ⌝ }
+pub extern "C" fn swartabelk_sheet(
+    words: &mut [u32],
+    used: u32,
+    profile: u32,
+    sheet: &[u8],
+) -> Reply
+    ensures { λ r. ⌜ Replied (typeSheet profile (now (words .entry)) used (now (sheet .entry))) r (now (words .exit)) ⌝ }
 {
     let n = cast::word(used);
-    let answer = sheet::type_sheet(words, n, sheet);
+    let answer = sheet::type_sheet(words, n, profile, sheet);
     reply_of(answer)
 }
 

@@ -32,7 +32,7 @@ returns : tie.Need-returns
 returns c = let a = c .before .before .before .before .before .before .before .before .before .before .before .before .before .args in
     let w = a .words .now in
     gave-as
-    (ap (λ (k : Named). byRule (a .place .0) w (a .n) k (types w (a .tplt .now)) (types w (a .args .now))) (sym (said-rule (a .name .now) _ (sym (c .before .before .before .before .before .before .before .rule-of .ensures) ∙ c .before .before .before .before .before .rule .given .1))))
+    (ap (λ (k : Named). byRule (a .place .0) w (a .n) k (types w (a .tplt .now)) (types w (a .args .now))) (sym (said-rule (a .profile) (a .name .now) _ (sym (c .before .before .before .before .before .before .before .rule-of .ensures) ∙ c .before .before .before .before .before .rule .given .1))))
     (c .before .before .by-rule .ensures)
 
 returns-2 : tie.Need-returns-2
@@ -40,7 +40,7 @@ returns-2 c = let a = c .before .before .before .before .before .before .before 
     let w = a .words .now in
     gave-as
     (by-unknown (a .place .0) w (a .n) (types w (a .tplt .now)) (types w (a .args .now))
-    ∙ ap (λ (k : Named). byRule (a .place .0) w (a .n) k (types w (a .tplt .now)) (types w (a .args .now))) (sym (said-unknown (a .name .now) (sym (c .before .before .before .rule-of .ensures) ∙ c .before .enum-told .given .1))))
+    ∙ ap (λ (k : Named). byRule (a .place .0) w (a .n) k (types w (a .tplt .now)) (types w (a .args .now))) (sym (said-unknown (a .profile) (a .name .now) (sym (c .before .before .before .rule-of .ensures) ∙ c .before .enum-told .given .1))))
     (gave-refused _ _ w (a .n) (c .refused .ensures))
 
 pub call-at-spec : {M : Type 1} → statement M

@@ -20,7 +20,7 @@ same-length c = search needs
 
 returns : tie.Need-returns
 returns c = let a = c .before .before .before .before .before .before .before .before .args in
-    gave-as (single-unsound (a .words .now) (a .n) (a .name .now) (a .tplt .now) (a .args .now) (sym (c .before .before .sound .ensures) ∙ not-true _ (c .before .if1 .taken))) (gave-refused _ _ (a .words .now) (a .n) (c .refused .ensures))
+    gave-as (single-unsound (a .profile) (a .words .now) (a .n) (a .name .now) (a .tplt .now) (a .args .now) (sym (c .before .before .sound .ensures) ∙ not-true _ (c .before .if1 .taken))) (gave-refused _ _ (a .words .now) (a .n) (c .refused .ensures))
 
 all-under-requires : tie.Need-all-under-requires
 all-under-requires c κs = search needs
@@ -34,7 +34,7 @@ same-length-2 c = search needs
 returns-2 : tie.Need-returns-2
 returns-2 c = let a = c .before .before .before .before .before .before .before .before .before .before .args in
     gave-as
-    (single-template (a .words .now) (a .n) (a .name .now) (a .tplt .now) (a .args .now) (sym (c .before .before .before .before .sound .ensures) ∙ not-false _ (c .before .before .before .if1 .left)) (sym (c .before .before .all-under .ensures) ∙ not-true _ (c .before .if2 .taken)))
+    (single-template (a .profile) (a .words .now) (a .n) (a .name .now) (a .tplt .now) (a .args .now) (sym (c .before .before .before .before .sound .ensures) ∙ not-false _ (c .before .before .before .if1 .left)) (sym (c .before .before .all-under .ensures) ∙ not-true _ (c .before .if2 .taken)))
     (gave-refused _ _ (a .words .now) (a .n) (c .refused2 .ensures))
 
 all-under-requires-2 : tie.Need-all-under-requires-2
@@ -49,7 +49,7 @@ same-length-3 c = search needs
 returns-3 : tie.Need-returns-3
 returns-3 c = let a = c .before .before .before .before .before .before .before .before .before .before .before .before .args in
     gave-as
-    (single-operand (a .words .now) (a .n) (a .name .now) (a .tplt .now) (a .args .now) (sym (c .before .before .before .before .before .before .sound .ensures) ∙ not-false _ (c .before .before .before .before .before .if1 .left)) (sym (c .before .before .before .before .all-under .ensures) ∙ not-false _ (c .before .before .before .if2 .left)) (sym (c .before .before .all-under2 .ensures) ∙ not-true _ (c .before .if3 .taken)))
+    (single-operand (a .profile) (a .words .now) (a .n) (a .name .now) (a .tplt .now) (a .args .now) (sym (c .before .before .before .before .before .before .sound .ensures) ∙ not-false _ (c .before .before .before .before .before .if1 .left)) (sym (c .before .before .before .before .all-under .ensures) ∙ not-false _ (c .before .before .before .if2 .left)) (sym (c .before .before .all-under2 .ensures) ∙ not-true _ (c .before .if3 .taken)))
     (gave-refused _ _ (a .words .now) (a .n) (c .refused3 .ensures))
 
 name-table-requires : tie.Need-name-table-requires
@@ -72,7 +72,7 @@ same-length-4 c = search needs
 returns-4 : tie.Need-returns-4
 returns-4 c = let a = c .before .before .before .before .before .before .before .before .before .before .before .before .before .before .before .before .before .args in
     gave-as
-    (single-call (a .words .now) (a .n) (a .name .now) (a .tplt .now) (a .args .now) (sym (c .before .before .before .before .before .before .before .before .before .before .before .sound .ensures) ∙ not-false _ (c .before .before .before .before .before .before .before .before .before .before .if1 .left)) (sym (c .before .before .before .before .before .before .before .before .before .all-under .ensures) ∙ not-false _ (c .before .before .before .before .before .before .before .before .if2 .left)) (sym (c .before .before .before .before .before .before .before .all-under2 .ensures) ∙ not-false _ (c .before .before .before .before .before .before .if3 .left)))
+    (single-call (a .profile) (a .words .now) (a .n) (a .name .now) (a .tplt .now) (a .args .now) (sym (c .before .before .before .before .before .before .before .before .before .before .before .sound .ensures) ∙ not-false _ (c .before .before .before .before .before .before .before .before .before .before .if1 .left)) (sym (c .before .before .before .before .before .before .before .before .before .all-under .ensures) ∙ not-false _ (c .before .before .before .before .before .before .before .before .if2 .left)) (sym (c .before .before .before .before .before .before .before .all-under2 .ensures) ∙ not-false _ (c .before .before .before .before .before .before .if3 .left)))
     (c .before .before .call-at .ensures)
 
 pub type-builtin-fn-spec : {M : Type 1} → statement M

@@ -21,8 +21,9 @@ slice-aggregate-write c = search needs
 write-requires : tie.Need-write-requires
 write-requires c κs =
     let s = c .before .before .before .before .before .before .before .before .args .bytes .now in
-    let g : Gave (outcome s) (c .before .before .before .type-sheet .result) (c .before .before .before .type-sheet .last .0) = rw (c .before .before .before .before .before .scalars .ensures) at (c .before .before .before .type-sheet .ensures) in
-    rw (g .reply, g .words) (spellable s)
+    let p = c .before .before .before .before .before .before .before .before .args .profile in
+    let g : Gave (outcome p s) (c .before .before .before .type-sheet .result) (c .before .before .before .type-sheet .last .0) = rw (c .before .before .before .before .before .scalars .ensures) at (c .before .before .before .type-sheet .ensures) in
+    rw (g .reply, g .words) (spellable p s)
 
 same-length : tie.Need-same-length
 same-length c = search needs
@@ -31,7 +32,8 @@ returns : tie.Need-returns
 unfolding report
 returns c =
     let s = c .before .before .before .before .before .before .before .before .before .before .before .args .bytes .now in
-    let g : Gave (outcome s) (c .before .before .before .before .before .before .type-sheet .result) (c .before .before .before .before .before .before .type-sheet .last .0) = rw (c .before .before .before .before .before .before .before .before .scalars .ensures) at (c .before .before .before .before .before .before .type-sheet .ensures) in
+    let p = c .before .before .before .before .before .before .before .before .before .before .before .args .profile in
+    let g : Gave (outcome p s) (c .before .before .before .before .before .before .type-sheet .result) (c .before .before .before .before .before .before .type-sheet .last .0) = rw (c .before .before .before .before .before .before .before .before .scalars .ensures) at (c .before .before .before .before .before .before .type-sheet .ensures) in
     (rw (g .reply, g .words) at (c .before .before .write .ensures .0), c .before .before .write .ensures .1)
 
 pub answer-sheet-spec : {M : Type 1} → statement M

@@ -26,10 +26,10 @@ asked-call-requires : tie.Need-asked-call-requires
 asked-call-requires c κs = (rw (c .before .item3 .given .1) at (c .before .before .before .before .before .pre .0), c .before .before .before .before .before .pre .1)
 
 returns : tie.Need-returns
-returns c = let g = c .before .before .item .given in rw (g .1) (asks-unary (sheetOf (c .before .before .before .before .before .before .args .items .now)) (g .0 .0) (c .asked-short .result .code) (c .asked-short .result .operands) (c .asked-short .ensures))
+returns c = let g = c .before .before .item .given in rw (g .1) (asks-unary (c .before .before .before .before .before .before .args .profile) (sheetOf (c .before .before .before .before .before .before .args .items .now)) (g .0 .0) (c .asked-short .result .code) (c .asked-short .result .operands) (c .asked-short .ensures))
 
 returns-2 : tie.Need-returns-2
-returns-2 c = let g = c .before .before .item2 .given in rw (g .1) (asks-binary (sheetOf (c .before .before .before .before .before .before .args .items .now)) (g .0 .0) (c .asked-short2 .result .code) (c .asked-short2 .result .operands) (c .asked-short2 .ensures))
+returns-2 c = let g = c .before .before .item2 .given in rw (g .1) (asks-binary (c .before .before .before .before .before .before .args .profile) (sheetOf (c .before .before .before .before .before .before .args .items .now)) (g .0 .0) (c .asked-short2 .result .code) (c .asked-short2 .result .operands) (c .asked-short2 .ensures))
 
 returns-3 : tie.Need-returns-3
 returns-3 c = rw (c .before .before .item3 .given .1) (c .asked-call .ensures)

@@ -46,8 +46,8 @@ returns-3 : tie.Need-returns-3
 returns-3 c = let a = c .before .before .before .before .before .before .before .before .before .before .before .before .args in
     let n = neither _ _ (c .before .before .before .before .before .before .before .before .before .if1 .left) in
     let g = c .before .before .before .before .before .rule .given in
-    let e = ap ruleOf (sym (name-bytes (a .items .now) (a .name) (c .before .before .before .before .before .before .before .before .before .before .before .before .pre .0 .0) (c .before .before .before .before .before .before .before .before .name-in .ensures .bytes))) ∙ said-rule _ _ (sym (c .before .before .before .before .before .before .before .rule-of .ensures) ∙ g .1) in
-    call-asked (sheetOf (a .items .now)) (a .name) (a .k) (g .0 .0) (c .before .word64 .result) (c .wide .result) (ltb-false _ _ (n .0)) (ltb-false _ _ (n .1)) (c .before .before .before .if2 .left) e (c .before .word64 .ensures ∙ ap (λ (x : ℕ). 24 + x) (c .before .before .wide32 .ensures)) (c .wide .ensures)
+    let e = ap (ruleOf (a .profile)) (sym (name-bytes (a .items .now) (a .name) (c .before .before .before .before .before .before .before .before .before .before .before .before .pre .0 .0) (c .before .before .before .before .before .before .before .before .name-in .ensures .bytes))) ∙ said-rule (a .profile) _ _ (sym (c .before .before .before .before .before .before .before .rule-of .ensures) ∙ g .1) in
+    call-asked (a .profile) (sheetOf (a .items .now)) (a .name) (a .k) (g .0 .0) (c .before .word64 .result) (c .wide .result) (ltb-false _ _ (n .0)) (ltb-false _ _ (n .1)) (c .before .before .before .if2 .left) e (c .before .word64 .ensures ∙ ap (λ (x : ℕ). 24 + x) (c .before .before .wide32 .ensures)) (c .wide .ensures)
 
 returns-4 : tie.Need-returns-4
 returns-4 c = record { asks = inl refl }

@@ -14,7 +14,7 @@ asked-requires c κs = search needs
 keyed-requires : tie.Need-keyed-requires
 keyed-requires c κs = let a = c .before .before .before .before .before .before .before .args in
     let q = c .before .asked in
-    (ready-small (a .count) (a .stack .now) (a .used) (a .table .now) (c .before .before .before .before .before .before .before .pre .0), asks-coded (sheetOf (a .items .now)) (a .item) (q .result .code) (q .result .operands) (q .ensures))
+    (ready-small (a .count) (a .stack .now) (a .used) (a .table .now) (c .before .before .before .before .before .before .before .pre .0), asks-coded (a .profile) (sheetOf (a .items .now)) (a .item) (q .result .code) (q .result .operands) (q .ensures))
 
 step-requires : tie.Need-step-requires
 step-requires c κs = search needs
@@ -28,32 +28,32 @@ same-length-2 c = search needs
 returns : tie.Need-returns
 returns c = let a = c .before .before .before .before .before .before .before .before .before .before .before .before .before .before .before .before .before .args in
     let d = c .before .before .before .before .step in
-    (d .ensures, recalls-step (a .count) (a .stack .now) (a .used) (a .table .now) (c .before .before .before .before .before .before .before .before .before .before .before .before .before .before .before .before .before .pre .0) (sheetOf (a .items .now)) (a .item) (a .at .0) (d .result) _ _ (a .memo .now) (d .ensures) (c .before .before .before .before .before .before .before .before .before .before .before .before .before .before .before .before .before .pre .2))
+    (d .ensures, recalls-step (a .profile) (a .count) (a .stack .now) (a .used) (a .table .now) (c .before .before .before .before .before .before .before .before .before .before .before .before .before .before .before .before .before .pre .0) (sheetOf (a .items .now)) (a .item) (a .at .0) (d .result) _ _ (a .memo .now) (d .ensures) (c .before .before .before .before .before .before .before .before .before .before .before .before .before .before .before .before .before .pre .2))
 
 recall-requires : tie.Need-recall-requires
 recall-requires c κs = let a = c .before .before .before .before .before .before .before .before .before .before .before .args in
     let q = c .before .before .before .before .before .asked in
     let k = c .before .before .before .keyed in
-    (c .before .before .before .before .before .before .before .before .before .before .before .pre .2 .size, key-small (a .count) (a .stack .now) (a .used) (a .table .now) (c .before .before .before .before .before .before .before .before .before .before .before .pre .0) (sheetOf (a .items .now)) (a .item) (q .result .code) (q .result .operands) (k .result .number) (k .result .base) (q .ensures) (k .ensures) (c .before .if1 .left))
+    (c .before .before .before .before .before .before .before .before .before .before .before .pre .2 .size, key-small (a .profile) (a .count) (a .stack .now) (a .used) (a .table .now) (c .before .before .before .before .before .before .before .before .before .before .before .pre .0) (sheetOf (a .items .now)) (a .item) (q .result .code) (q .result .operands) (k .result .number) (k .result .base) (q .ensures) (k .ensures) (c .before .if1 .left))
 
 mul-stack : tie.Need-mul-stack
 mul-stack c = let a = c .before .before .before .before .before .before .before .before .before .before .before .before .before .args in
     let q = c .before .before .before .before .before .before .before .asked in
     let k = c .before .before .before .before .before .keyed in
-    let r = base-room (a .count) (a .stack .now) (a .used) (a .table .now) (c .before .before .before .before .before .before .before .before .before .before .before .before .before .pre .0) (sheetOf (a .items .now)) (a .item) (q .result .code) (q .result .operands) (k .result .number) (k .result .base) (q .ensures) (k .ensures) (c .before .before .before .if1 .left) in
+    let r = base-room (a .profile) (a .count) (a .stack .now) (a .used) (a .table .now) (c .before .before .before .before .before .before .before .before .before .before .before .before .before .pre .0) (sheetOf (a .items .now)) (a .item) (q .result .code) (q .result .operands) (k .result .number) (k .result .base) (q .ensures) (k .ensures) (c .before .before .before .if1 .left) in
     omega (arith, r .0)
 
 slice-write-stack : tie.Need-slice-write-stack
 slice-write-stack c = let a = c .before .before .before .before .before .before .before .before .before .before .before .before .before .args in
     let q = c .before .before .before .before .before .before .before .asked in
     let k = c .before .before .before .before .before .keyed in
-    base-room (a .count) (a .stack .now) (a .used) (a .table .now) (c .before .before .before .before .before .before .before .before .before .before .before .before .before .pre .0) (sheetOf (a .items .now)) (a .item) (q .result .code) (q .result .operands) (k .result .number) (k .result .base) (q .ensures) (k .ensures) (c .before .before .before .if1 .left) .1
+    base-room (a .profile) (a .count) (a .stack .now) (a .used) (a .table .now) (c .before .before .before .before .before .before .before .before .before .before .before .before .before .pre .0) (sheetOf (a .items .now)) (a .item) (q .result .code) (q .result .operands) (k .result .number) (k .result .base) (q .ensures) (k .ensures) (c .before .before .before .if1 .left) .1
 
-add-t24 : tie.Need-add-t24
-add-t24 c = let a = c .before .before .before .before .before .before .before .before .before .before .before .before .before .args in
+add-t25 : tie.Need-add-t25
+add-t25 c = let a = c .before .before .before .before .before .before .before .before .before .before .before .before .before .args in
     let q = c .before .before .before .before .before .before .before .asked in
     let k = c .before .before .before .before .before .keyed in
-    let r = base-room (a .count) (a .stack .now) (a .used) (a .table .now) (c .before .before .before .before .before .before .before .before .before .before .before .before .before .pre .0) (sheetOf (a .items .now)) (a .item) (q .result .code) (q .result .operands) (k .result .number) (k .result .base) (q .ensures) (k .ensures) (c .before .before .before .if1 .left) in
+    let r = base-room (a .profile) (a .count) (a .stack .now) (a .used) (a .table .now) (c .before .before .before .before .before .before .before .before .before .before .before .before .before .pre .0) (sheetOf (a .items .now)) (a .item) (q .result .code) (q .result .operands) (k .result .number) (k .result .base) (q .ensures) (k .ensures) (c .before .before .before .if1 .left) in
     omega (arith, r .0)
 
 same-length-3 : tie.Need-same-length-3
@@ -68,7 +68,7 @@ returns-2 c = let a = c .before .before .before .before .before .before .before 
     let q = c .before .before .before .before .before .before .before .asked in
     let k = c .before .before .before .before .before .keyed in
     let t = c .before .recall in
-    (recalled-does (a .count) (a .stack .now) (a .used) (a .table .now) (c .before .before .before .before .before .before .before .before .before .before .before .before .before .pre .0) (sheetOf (a .items .now)) (a .item) (q .result .code) (q .result .operands) (k .result .number) (k .result .base) (q .ensures) (k .ensures) (c .before .before .before .if1 .left) (a .memo .now) (c .before .before .before .before .before .before .before .before .before .before .before .before .before .pre .2) (t .result) (t .ensures) (c .if2 .taken) (a .at .0), c .before .before .before .before .before .before .before .before .before .before .before .before .before .pre .2)
+    (recalled-does (a .profile) (a .count) (a .stack .now) (a .used) (a .table .now) (c .before .before .before .before .before .before .before .before .before .before .before .before .before .pre .0) (sheetOf (a .items .now)) (a .item) (q .result .code) (q .result .operands) (k .result .number) (k .result .base) (q .ensures) (k .ensures) (c .before .before .before .if1 .left) (a .memo .now) (c .before .before .before .before .before .before .before .before .before .before .before .before .before .pre .2) (t .result) (t .ensures) (c .if2 .taken) (a .at .0), c .before .before .before .before .before .before .before .before .before .before .before .before .before .pre .2)
 
 step-requires-2 : tie.Need-step-requires-2
 step-requires-2 c κs = search needs
@@ -79,7 +79,7 @@ note-did-requires c κs = let a = c .before .before .before .before .before .bef
     let q = c .before .before .before .before .before .before .before .before .before .before .before .before .before .before .before .before .asked in
     let k = c .before .before .before .before .before .before .before .before .before .before .before .before .before .before .keyed in
     let d = c .before .before .before .before .before .before .step2 in
-    (p .2 .size, key-small (a .count) (a .stack .now) (a .used) (a .table .now) (p .0) (sheetOf (a .items .now)) (a .item) (q .result .code) (q .result .operands) (k .result .number) (k .result .base) (q .ensures) (k .ensures) (c .before .before .before .before .before .before .before .before .before .before .before .before .if1 .left), step-leaves (a .count) (a .stack .now) (a .used) (a .table .now) (p .0) (sheetOf (a .items .now)) (a .item) (q .result .code) (q .result .operands) (k .result .number) (k .result .base) (q .ensures) (k .ensures) (c .before .before .before .before .before .before .before .before .before .before .before .before .if1 .left) (a .at .0) _ _ (d .kept .1 .1 .1 .1 .0 ∙ p .0 .size) (d .result) (d .ensures))
+    (p .2 .size, key-small (a .profile) (a .count) (a .stack .now) (a .used) (a .table .now) (p .0) (sheetOf (a .items .now)) (a .item) (q .result .code) (q .result .operands) (k .result .number) (k .result .base) (q .ensures) (k .ensures) (c .before .before .before .before .before .before .before .before .before .before .before .before .if1 .left), step-leaves (a .profile) (a .count) (a .stack .now) (a .used) (a .table .now) (p .0) (sheetOf (a .items .now)) (a .item) (q .result .code) (q .result .operands) (k .result .number) (k .result .base) (q .ensures) (k .ensures) (c .before .before .before .before .before .before .before .before .before .before .before .before .if1 .left) (a .at .0) _ _ (d .kept .1 .1 .1 .1 .1 .0 ∙ p .0 .size) (d .result) (d .ensures))
 
 same-length-5 : tie.Need-same-length-5
 same-length-5 c = search needs
@@ -96,7 +96,7 @@ returns-3 c = let a = c .before .before .before .before .before .before .before 
     let q = c .before .before .before .before .before .before .before .before .before .before .before .before .before .before .before .before .before .before .before .asked in
     let k = c .before .before .before .before .before .before .before .before .before .before .before .before .before .before .before .before .before .keyed in
     let d = c .before .before .before .before .before .before .before .before .before .step2 in
-    (d .ensures, step-noted (a .count) (a .stack .now) (a .used) (a .table .now) (p .0) (sheetOf (a .items .now)) (a .item) (q .result .code) (q .result .operands) (k .result .number) (k .result .base) (q .ensures) (k .ensures) (c .before .before .before .before .before .before .before .before .before .before .before .before .before .before .before .if1 .left) (a .at .0) _ _ (d .kept .1 .1 .1 .1 .0 ∙ p .0 .size) (a .memo .now) _ (p .2) (d .result) (d .ensures) (c .before .before .note-did .ensures))
+    (d .ensures, step-noted (a .profile) (a .count) (a .stack .now) (a .used) (a .table .now) (p .0) (sheetOf (a .items .now)) (a .item) (q .result .code) (q .result .operands) (k .result .number) (k .result .base) (q .ensures) (k .ensures) (c .before .before .before .before .before .before .before .before .before .before .before .before .before .before .before .if1 .left) (a .at .0) _ _ (d .kept .1 .1 .1 .1 .1 .0 ∙ p .0 .size) (a .memo .now) _ (p .2) (d .result) (d .ensures) (c .before .before .note-did .ensures))
 
 pub noted-step-spec : {M : Type 1} → statement M
 noted-step-spec =
@@ -111,7 +111,7 @@ noted-step-spec =
     recall-requires
     mul-stack
     slice-write-stack
-    add-t24
+    add-t25
     same-length-3
     same-length-4
     returns-2

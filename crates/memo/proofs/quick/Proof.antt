@@ -25,7 +25,7 @@ asked-short-requires c κs = search needs
 keyed-requires : tie.Need-keyed-requires
 keyed-requires c κs = let a = c .before .before .before .before .before .before .before .args in
     let q = c .before .asked-short in
-    (ready-small (a .count) (a .stack .now) (a .used) (a .table .now) (c .before .before .before .before .before .before .before .pre .0), asks-coded [] (itemOf (a .x)) (q .result .code) (q .result .operands) (q .ensures .asks []))
+    (ready-small (a .count) (a .stack .now) (a .used) (a .table .now) (c .before .before .before .before .before .before .before .pre .0), asks-coded 0 [] (itemOf (a .x)) (q .result .code) (q .result .operands) (q .ensures .asks 0 []))
 
 same-length-2 : tie.Need-same-length-2
 same-length-2 c = search needs
@@ -37,7 +37,7 @@ recall-requires : tie.Need-recall-requires
 recall-requires c κs = let a = c .before .before .before .before .before .before .before .before .before .before .args in
     let q = c .before .before .before .before .asked-short in
     let k = c .before .before .keyed in
-    (c .before .before .before .before .before .before .before .before .before .before .pre .1 .size, key-small (a .count) (a .stack .now) (a .used) (a .table .now) (c .before .before .before .before .before .before .before .before .before .before .pre .0) [] (itemOf (a .x)) (q .result .code) (q .result .operands) (k .result .number) (k .result .base) (q .ensures .asks []) (k .ensures) (c .if2 .left))
+    (c .before .before .before .before .before .before .before .before .before .before .pre .1 .size, key-small 0 (a .count) (a .stack .now) (a .used) (a .table .now) (c .before .before .before .before .before .before .before .before .before .before .pre .0) [] (itemOf (a .x)) (q .result .code) (q .result .operands) (k .result .number) (k .result .base) (q .ensures .asks 0 []) (k .ensures) (c .if2 .left))
 
 same-length-3 : tie.Need-same-length-3
 same-length-3 c = search needs
@@ -49,20 +49,20 @@ mul-stack : tie.Need-mul-stack
 mul-stack c = let a = c .before .before .before .before .before .before .before .before .before .before .before .before .args in
     let q = c .before .before .before .before .before .before .asked-short in
     let k = c .before .before .before .before .keyed in
-    let r = base-room (a .count) (a .stack .now) (a .used) (a .table .now) (c .before .before .before .before .before .before .before .before .before .before .before .before .pre .0) [] (itemOf (a .x)) (q .result .code) (q .result .operands) (k .result .number) (k .result .base) (q .ensures .asks []) (k .ensures) (c .before .before .if2 .left) in
+    let r = base-room 0 (a .count) (a .stack .now) (a .used) (a .table .now) (c .before .before .before .before .before .before .before .before .before .before .before .before .pre .0) [] (itemOf (a .x)) (q .result .code) (q .result .operands) (k .result .number) (k .result .base) (q .ensures .asks 0 []) (k .ensures) (c .before .before .if2 .left) in
     omega (arith, r .0)
 
 slice-write-stack : tie.Need-slice-write-stack
 slice-write-stack c = let a = c .before .before .before .before .before .before .before .before .before .before .before .before .args in
     let q = c .before .before .before .before .before .before .asked-short in
     let k = c .before .before .before .before .keyed in
-    base-room (a .count) (a .stack .now) (a .used) (a .table .now) (c .before .before .before .before .before .before .before .before .before .before .before .before .pre .0) [] (itemOf (a .x)) (q .result .code) (q .result .operands) (k .result .number) (k .result .base) (q .ensures .asks []) (k .ensures) (c .before .before .if2 .left) .1
+    base-room 0 (a .count) (a .stack .now) (a .used) (a .table .now) (c .before .before .before .before .before .before .before .before .before .before .before .before .pre .0) [] (itemOf (a .x)) (q .result .code) (q .result .operands) (k .result .number) (k .result .base) (q .ensures .asks 0 []) (k .ensures) (c .before .before .if2 .left) .1
 
 add-result : tie.Need-add-result
 add-result c = let a = c .before .before .before .before .before .before .before .before .before .before .before .before .args in
     let q = c .before .before .before .before .before .before .asked-short in
     let k = c .before .before .before .before .keyed in
-    let r = base-room (a .count) (a .stack .now) (a .used) (a .table .now) (c .before .before .before .before .before .before .before .before .before .before .before .before .pre .0) [] (itemOf (a .x)) (q .result .code) (q .result .operands) (k .result .number) (k .result .base) (q .ensures .asks []) (k .ensures) (c .before .before .if2 .left) in
+    let r = base-room 0 (a .count) (a .stack .now) (a .used) (a .table .now) (c .before .before .before .before .before .before .before .before .before .before .before .before .pre .0) [] (itemOf (a .x)) (q .result .code) (q .result .operands) (k .result .number) (k .result .base) (q .ensures .asks 0 []) (k .ensures) (c .before .before .if2 .left) in
     omega (arith, r .0)
 
 same-length-4 : tie.Need-same-length-4

@@ -18,16 +18,16 @@ pub record Small (count : ℕ) (vals : List ℕ) : Type 0 where
 pub record Coded (code k : ℕ) : Type 0 where
   pub coded : (code ≡ 0) ⊎ ((code < 256) × (1 ≤ k) × (k ≤ 3))
 
--- an item asks by a code: its effect is what typing gives, in the place of its operands
-pub record AskedBy (s : List ℕ) (i : Item) (code k : ℕ) : Type 0 where
+-- an item asks by a code: its effect in a profile is what typing gives, in the place of its operands
+pub record AskedBy (profile : ℕ) (s : List ℕ) (i : Item) (code k : ℕ) : Type 0 where
   pub question : Question
   pub on : On question k
   pub number : code ≡ codeOf question
-  pub effect : (place : ℕ) (st : State) → k ≤ height st
-      → effectOf place st s i ≡ onto (below k st) (typed place (st .words) (st .used) question (map (typeOf st) (operands k st)))
+  pub effect : (place : ℕ) (st : State) → k ≤ height st → height st ≤ most
+      → effectOf profile place st s i ≡ onto (below k st) (typed place (st .words) (st .used) question (map (typeOf st) (operands k st)))
 
-pub record Asks (s : List ℕ) (i : Item) (code k : ℕ) : Type 0 where
-  pub asks : (code ≡ 0) ⊎ AskedBy s i code k
+pub record Asks (profile : ℕ) (s : List ℕ) (i : Item) (code k : ℕ) : Type 0 where
+  pub asks : (code ≡ 0) ⊎ AskedBy profile s i code k
 
 -- the last k of `count` values, and their key under a code
 abbrev pub lastOf : ℕ → ℕ → List ℕ → List ℕ

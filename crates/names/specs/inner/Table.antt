@@ -39,13 +39,13 @@ unfoldable pub replied : Named → RuleNo
 replied (rule r) = Is (ruleNumber r)
 replied unknown = Unknown
 
--- A LINE: 32 letters, the name filled up with blanks; then the number of its rule
+-- A LINE: 32 letters, the name filled up with blanks; then the number of its rule and its profile
 
 abbrev pub nameWidth : ℕ
 nameWidth = 32
 
 abbrev pub lineWidth : ℕ
-lineWidth = 33
+lineWidth = 34
 
 abbrev pub blank : ℕ
 blank = 32
@@ -56,7 +56,7 @@ filled (suc k) [] = blank ∷ filled k []
 filled (suc k) (c ∷ cs) = c ∷ filled k cs
 
 unfoldable pub line : Name → List ℕ
-line r = filled nameWidth (r .text) ++ (ruleNumber (r .rule) ∷ [])
+line r = filled nameWidth (r .text) ++ (ruleNumber (r .rule) ∷ r .profile ∷ [])
 
 unfoldable pub linesOf : List Name → List ℕ
 linesOf [] = []

@@ -12,7 +12,7 @@ use Rattle.conv.specs.Rank.{pick, both, none, rankOf, Shape, formOf, columnsOf,
 use Rattle.conv.specs.Rank.Shape.{one, vector, matrix, other}
 use Rattle.overload.specs.Overload.{or, fits, Judged}
 use Rattle.overload.specs.Overload.Judged.{gives, noneFits, nonePreferred}
-use Rattle.overload.specs.Rows.{Size, size, scalars, width, vectors, wides, matrices, matricesByRows, squares, products, Form, Component, Pattern, Wrap, Family, formAt, componentAt, patternTy, float, integer, numeric, signed, bits, only, N, Row, rows, rowAt, operandCount}
+use Rattle.overload.specs.Rows.{Size, size, scalars, width, vectors, wides, matrices, matricesByRows, squares, products, Form, Component, Pattern, Wrap, Family, formAt, componentAt, patternTy, float, integer, numeric, signed, bits, concrete, only, N, Row, rows, rowAt, operandCount}
 use Rattle.overload.specs.Rows.Form.{sized, single, vecC, vecR, left, right, turned}
 use Rattle.overload.specs.Rows.Component.{ofT, ofI, expT, just}
 use Rattle.overload.specs.Rows.Wrap.{bare, inFrexp, inModf}
@@ -124,7 +124,7 @@ member t (u ∷ us) = or (eqb t u) (member t us)
 
 -- the sets that families have, by number
 abbrev pub sets : List (List ℕ)
-sets = only bool ∷ signed ∷ integer ∷ numeric ∷ float ∷ (bool ∷ numeric) ∷ bits ∷ only f32 ∷ only i32 ∷ only u32 ∷ []
+sets = only bool ∷ signed ∷ integer ∷ numeric ∷ float ∷ (bool ∷ numeric) ∷ bits ∷ only f32 ∷ only i32 ∷ only u32 ∷ concrete ∷ []
 
 abbrev pub setOf : ℕ → List ℕ
 setOf k = getD sets k []

@@ -34,7 +34,7 @@ returns c = let a = c .before .before .before .before .before .before .before .b
     let x = c .before .before .before .before .before .before .before .before .before .before .before .before .item-in in
     let s = sheetOf (a .items .now) in
     let n = whole-length (a .items .now) in
-    (turn-at s (a .at .0) _ n (stateOf (a .count) (a .stack .now) (a .used) (a .table .now)) (d .result) (c .turn-by .result) _ _ (x .result) (x .ensures) (d .ensures .0) (c .turn-by .ensures), after-turn _ _ _ _ _ _ s n (d .result) (c .turn-by .result) (c .turn-by .ensures) (d .ensures .1))
+    (turn-at (a .profile) s (a .at .0) _ n (stateOf (a .count) (a .stack .now) (a .used) (a .table .now)) (d .result) (c .turn-by .result) _ _ (x .result) (x .ensures) (d .ensures .0) (c .turn-by .ensures), after-turn _ _ _ _ _ _ s n (d .result) (c .turn-by .result) (c .turn-by .ensures) (d .ensures .1))
 
 pub one-turn-spec : {M : Type 1} → statement M
 one-turn-spec =

@@ -19,7 +19,7 @@ abbrev μ-loop : tie.MeasureT-loop
 μ-loop items stack₀ high table used memo at₀ count₀ stack at count = length (sheetOf items) - at
 
 loop-holds : tie.Need-loop-holds Inv-loop μ-loop
-loop-holds c = record { ready = c .before .before .before .before .pre .0; rest = refl; onward = omega arith }
+loop-holds c = record { ready = c .before .before .before .before .pre .0; rest = λ profile. refl; onward = omega arith }
 
 quick-at-requires : tie.Need-quick-at-requires Inv-loop μ-loop
 quick-at-requires c κs = (c .before .loop .inv .ready, c .before .before .before .before .before .before .pre .1)

@@ -17,7 +17,7 @@ stopped-requires c κs = search needs
 returns : tie.Need-returns
 returns c = let a = c .before .before .before .before .before .before .before .args in
     let l = rw (c .before .before .wide .ensures) at (c .before .if1 .taken) in
-    refusing (a .at) (a .count) (a .stack .now) (a .used) (a .table .now) Stack (c .stopped .ensures) (call-short (a .at) (a .count) (a .stack .now) (a .used) (a .table .now) (c .before .before .before .before .before .before .before .pre .0) (bytesOf (sheetOf (a .items .now)) (a .name)) (a .k) l)
+    refusing (a .at) (a .count) (a .stack .now) (a .used) (a .table .now) Stack (c .stopped .ensures) (call-short (a .at) (a .count) (a .stack .now) (a .used) (a .table .now) (c .before .before .before .before .before .before .before .pre .0) (a .profile) (bytesOf (sheetOf (a .items .now)) (a .name)) (a .k) l)
 
 name-in-requires : tie.Need-name-in-requires
 name-in-requires c κs = search needs
@@ -37,7 +37,7 @@ same-length-2 c = search needs
 returns-2 : tie.Need-returns-2
 returns-2 c = let a = c .before .before .before .before .before .before .before .before .before .before .before .before .before .before .before .args in
     let l = rw (c .before .before .before .before .before .before .before .before .before .before .wide .ensures) at (c .before .before .before .before .before .before .before .before .before .if1 .left) in
-    does-as (call-goes (a .at) (a .count) (a .stack .now) (a .used) (a .table .now) (c .before .before .before .before .before .before .before .before .before .before .before .before .before .before .before .pre .0) (bytesOf (sheetOf (a .items .now)) (a .name)) (a .k) l) (rw (c .before .before .before .before .before .before .before .before .before .before .wide .ensures, name-bytes (a .items .now) (a .name) (c .before .before .before .before .before .before .before .before .before .before .before .before .before .before .before .pre .1 .0) (c .before .before .before .before .before .before .before .before .name-in .ensures .bytes)) at (c .before .before .before .before .call-on .ensures))
+    does-as (call-goes (a .at) (a .count) (a .stack .now) (a .used) (a .table .now) (c .before .before .before .before .before .before .before .before .before .before .before .before .before .before .before .pre .0) (a .profile) (bytesOf (sheetOf (a .items .now)) (a .name)) (a .k) l) (rw (c .before .before .before .before .before .before .before .before .before .before .wide .ensures, name-bytes (a .items .now) (a .name) (c .before .before .before .before .before .before .before .before .before .before .before .before .before .before .before .pre .1 .0) (c .before .before .before .before .before .before .before .before .name-in .ensures .bytes)) at (c .before .before .before .before .call-on .ensures))
 
 pub call-spec : {M : Type 1} → statement M
 call-spec =

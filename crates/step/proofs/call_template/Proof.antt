@@ -26,7 +26,7 @@ stopped-requires c κs = search needs
 returns : tie.Need-returns
 returns c = let a = c .before .before .before .before .before .before .before .args in
     let l : a .count < a .k = omega (arith, c .before .before .wide .ensures, c .before .if1 .taken) in
-    refusing (a .at) (a .count) (a .stack .now) (a .used) (a .table .now) Stack (c .stopped .ensures) (template-short (a .at) (a .count) (a .stack .now) (a .used) (a .table .now) (c .before .before .before .before .before .before .before .pre .0) (bytesOf (sheetOf (a .items .now)) (a .name)) (a .t .0) (a .k) l)
+    refusing (a .at) (a .count) (a .stack .now) (a .used) (a .table .now) Stack (c .stopped .ensures) (template-short (a .at) (a .count) (a .stack .now) (a .used) (a .table .now) (c .before .before .before .before .before .before .before .pre .0) (a .profile) (bytesOf (sheetOf (a .items .now)) (a .name)) (a .t .0) (a .k) l)
 
 stopped-requires-2 : tie.Need-stopped-requires-2
 stopped-requires-2 c κs = search needs
@@ -34,7 +34,7 @@ stopped-requires-2 c κs = search needs
 returns-2 : tie.Need-returns-2
 returns-2 c = let a = c .before .before .before .before .before .before .before .before .args in
     let l : a .k ≤ a .count = omega (arith, c .before .before .before .wide .ensures, c .before .before .if1 .left) in
-    refusing (a .at) (a .count) (a .stack .now) (a .used) (a .table .now) NoSuchType (c .stopped2 .ensures) (template-unknown (a .at) (a .count) (a .stack .now) (a .used) (a .table .now) (c .before .before .before .before .before .before .before .before .pre .0) (bytesOf (sheetOf (a .items .now)) (a .name)) (a .t .0) (a .k) l (c .before .if2 .taken))
+    refusing (a .at) (a .count) (a .stack .now) (a .used) (a .table .now) NoSuchType (c .stopped2 .ensures) (template-unknown (a .at) (a .count) (a .stack .now) (a .used) (a .table .now) (c .before .before .before .before .before .before .before .before .pre .0) (a .profile) (bytesOf (sheetOf (a .items .now)) (a .name)) (a .t .0) (a .k) l (c .before .if2 .taken))
 
 name-in-requires : tie.Need-name-in-requires
 name-in-requires c κs = search needs
@@ -57,7 +57,7 @@ same-length-2 c = search needs
 returns-3 : tie.Need-returns-3
 returns-3 c = let a = c .before .before .before .before .before .before .before .before .before .before .before .before .before .before .before .before .args in
     let l : a .k ≤ a .count = omega (arith, c .before .before .before .before .before .before .before .before .before .before .before .wide .ensures, c .before .before .before .before .before .before .before .before .before .before .if1 .left) in
-    does-as (template-goes (a .at) (a .count) (a .stack .now) (a .used) (a .table .now) (c .before .before .before .before .before .before .before .before .before .before .before .before .before .before .before .before .pre .0) (bytesOf (sheetOf (a .items .now)) (a .name)) (a .t .0) (a .k) l (c .before .before .before .before .before .before .before .before .before .if2 .left)) (rw (c .before .before .before .before .before .before .before .before .before .before .before .wide .ensures, name-bytes (a .items .now) (a .name) (c .before .before .before .before .before .before .before .before .before .before .before .before .before .before .before .before .pre .1 .0) (c .before .before .before .before .before .before .before .before .name-in .ensures .bytes)) at (c .before .before .before .before .call-on .ensures))
+    does-as (template-goes (a .at) (a .count) (a .stack .now) (a .used) (a .table .now) (c .before .before .before .before .before .before .before .before .before .before .before .before .before .before .before .before .pre .0) (a .profile) (bytesOf (sheetOf (a .items .now)) (a .name)) (a .t .0) (a .k) l (c .before .before .before .before .before .before .before .before .before .if2 .left)) (rw (c .before .before .before .before .before .before .before .before .before .before .before .wide .ensures, name-bytes (a .items .now) (a .name) (c .before .before .before .before .before .before .before .before .before .before .before .before .before .before .before .before .pre .1 .0) (c .before .before .before .before .before .before .before .before .name-in .ensures .bytes)) at (c .before .before .before .before .call-on .ensures))
 
 pub call-template-spec : {M : Type 1} → statement M
 call-template-spec =

@@ -13,14 +13,14 @@ type-builtin-fn-requires : tie.Need-type-builtin-fn-requires
 type-builtin-fn-requires c κs = search needs
 
 reply-of-requires : tie.Need-reply-of-requires
-reply-of-requires c κs = call-fits _ (c .before .before .before .before .word .result) (omega (arith, c .before .before .before .before .word .ensures, c .before .before .before .before .before .before .before .before .before .fits .used)) _ _ _ _ _ (c .before .before .type-builtin-fn .ensures)
+reply-of-requires c κs = call-fits _ (c .before .before .before .before .word .result) (omega (arith, c .before .before .before .before .word .ensures, c .before .before .before .before .before .before .before .before .before .fits .used)) _ _ _ _ _ _ (c .before .before .type-builtin-fn .ensures)
 
 same-length : tie.Need-same-length
 same-length c = search needs
 
 returns : tie.Need-returns
 returns c = let a = c .before .before .before .before .before .before .before .before .before .before .args in
-    replied (λ i. typeBuiltinFn (a .words .now) (c .before .before .before .before .before .word .ensures i) (a .name .now) (a .tplt .now) (a .args .now)) (c .before .before .before .type-builtin-fn .ensures) (c .reply-of .ensures)
+    replied (λ i. typeBuiltinFn (a .profile) (a .words .now) (c .before .before .before .before .before .word .ensures i) (a .name .now) (a .tplt .now) (a .args .now)) (c .before .before .before .type-builtin-fn .ensures) (c .reply-of .ensures)
 
 pub swartabelk-call-spec : {M : Type 1} → statement M
 swartabelk-call-spec =

@@ -14,13 +14,13 @@ type-sheet-requires : tie.Need-type-sheet-requires
 type-sheet-requires c κs = search needs
 
 reply-of-requires : tie.Need-reply-of-requires
-reply-of-requires c κs = sheet-fits _ (c .before .before .before .before .word .result) _ (omega (arith, c .before .before .before .before .word .ensures, c .before .before .before .before .before .before .before .fits .used)) _ _ (c .before .before .type-sheet .ensures)
+reply-of-requires c κs = sheet-fits _ _ (c .before .before .before .before .word .result) _ (omega (arith, c .before .before .before .before .word .ensures, c .before .before .before .before .before .before .before .fits .used)) _ _ (c .before .before .type-sheet .ensures)
 
 same-length : tie.Need-same-length
 same-length c = search needs
 
 returns : tie.Need-returns
-returns c = let a = c .before .before .before .before .before .before .before .before .args in replied (λ i. typeSheet (a .words .now) (c .before .before .before .before .before .word .ensures i) (a .sheet .now)) (c .before .before .before .type-sheet .ensures) (c .reply-of .ensures)
+returns c = let a = c .before .before .before .before .before .before .before .before .args in replied (λ i. typeSheet (a .profile) (a .words .now) (c .before .before .before .before .before .word .ensures i) (a .sheet .now)) (c .before .before .before .type-sheet .ensures) (c .reply-of .ensures)
 
 pub swartabelk-sheet-spec : {M : Type 1} → statement M
 swartabelk-sheet-spec =
