@@ -21,17 +21,23 @@
 extern "C" {
 #endif
 
-#define SWARTABELK_VERSION 1
+#define SWARTABELK_VERSION 2
 
 /* The type of a reply that has no value or is a refusal. */
 #define SWARTABELK_NO_VALUE 0xFFFFFFFFu
+
+/* The profile of a call or of a sheet says which builtins there are: 0 has those without subgroups and quads, 1 has the subgroup and quad builtins too. A name
+ * that is in both has the same replies in both. Any other number is an unknown profile: its calls are refused with 4, after 1 and 2, and its sheets with 4 at
+ * place 0, after 1 and a wrong header. Operators, template types and spellings have no profile. */
+#define SWARTABELK_PROFILE_BASE 0u
+#define SWARTABELK_PROFILE_SUBGROUPS 1u
 
 /* Why a call is refused:
  *
  *    1  the table is not sound, or the slice is shorter than 4 times `used`
  *    2  a type number not below `used`
  *    3  a reference offered, but to unary &
- *    4  an unknown operator, builtin or head
+ *    4  an unknown operator, builtin or head; a name outside the profile, or an unknown profile
  *    5  a template list or an entry that is wrong, missing or not wanted
  *    6  an array's count
  *    7  a wrong number of operands
@@ -44,7 +50,7 @@ extern "C" {
  */
 
 /* The reply of a call. refusal: 0 where it is accepted, else why not. type: the type's number, or SWARTABELK_NO_VALUE where there is no value or the call is
- * refused. place: of a refused sheet the item's length byte, 0 for 1 and a wrong header, the length of the sheet for a wrong end; else 0.
+ * refused. place: of a refused sheet the item's length byte, 0 for 1, a wrong header and an unknown profile, the length of the sheet for a wrong end; else 0.
  * used: the count of entries afterwards; with refusal 1 the one that was given. */
 typedef struct {
     uint32_t refusal, type, place, used;
@@ -69,8 +75,9 @@ swartabelk_reply swartabelk_unary(uint32_t *words, size_t words_len, uint32_t us
 /* The type of a binary operator on the types a and b. Operators 0 to 17: || && + - * / % == != < <= > >= | & ^ << >> */
 swartabelk_reply swartabelk_binary(uint32_t *words, size_t words_len, uint32_t used, uint32_t op, uint32_t a, uint32_t b);
 
-/* The type of a call of the builtin with that name on the types of `args`. `tplt` is its template list: one type for bitcast, none for every other. */
-swartabelk_reply swartabelk_call(uint32_t *words, size_t words_len, uint32_t used, const uint8_t *name, size_t name_len,
+/* The type of a call of the builtin that has that name in the profile, on the types of `args`. `tplt` is its template list: one type for bitcast, none for every
+ * other. */
+swartabelk_reply swartabelk_call(uint32_t *words, size_t words_len, uint32_t used, uint32_t profile, const uint8_t *name, size_t name_len,
                                  const uint32_t *tplt, size_t tplt_len, const uint32_t *args, size_t args_len);
 
 /* The type of a head with template arguments, entered if absent. head: vec2 to vec4, mat2x2 to mat4x4, atomic, array. args: pairs (tag, value); tag 0 a type
@@ -79,8 +86,8 @@ swartabelk_reply swartabelk_call(uint32_t *words, size_t words_len, uint32_t use
 swartabelk_reply swartabelk_template(uint32_t *words, size_t words_len, uint32_t used, const uint8_t *head, size_t head_len,
                                      const int64_t *args, size_t args_len);
 
-/* The type of a whole sheet. */
-swartabelk_reply swartabelk_sheet(uint32_t *words, size_t words_len, uint32_t used, const uint8_t *sheet, size_t sheet_len);
+/* The type of a whole sheet, whose calls are those of the profile. */
+swartabelk_reply swartabelk_sheet(uint32_t *words, size_t words_len, uint32_t used, uint32_t profile, const uint8_t *sheet, size_t sheet_len);
 
 /* Writes the spelling of a type to the front of `out`. Later bytes stay unchanged, and all of them where it is refused. */
 swartabelk_spelled swartabelk_spell(const uint32_t *words, size_t words_len, uint32_t used, uint32_t type, uint8_t *out, size_t out_len);

@@ -12,6 +12,13 @@ pub const BINARY: [&str; 18] = [
     ">>",
 ];
 
+/// Document 02's profiles: the builtins without those of subgroups and quads, and with them. The crate has no profile; every question is put in that which has
+/// all names.
+pub mod profile {
+    pub const BASE: u32 = 0;
+    pub const SUBGROUPS: u32 = 1;
+}
+
 /// What is asked for.
 #[derive(Clone, Copy, Debug, PartialEq, Eq, PartialOrd, Ord, Hash)]
 pub enum Operation {

@@ -27,7 +27,7 @@ pub struct Class {
 
 /// Every class.
 #[rustfmt::skip]
-pub const CLASSES: [Class; 31] = [
+pub const CLASSES: [Class; 32] = [
     Class {
         name: "not-any-vector", smallest: "!vec2<i32>",
         standard: "refused", rust: "vec2 i32: any vector", ours: "refused 8", holds: holds::not_any_vector,
@@ -140,6 +140,11 @@ pub const CLASSES: [Class; 31] = [
         standard: "refused", rust: "vec2 i32: it does not compare the widths", ours: "refused 8", holds: holds::select_width,
     },
     Class {
+        name: "shuffle-by-i32", smallest: "subgroupShuffleUp(i32, i32)",
+        standard: "refused", rust: "i32: subgroupShuffleDown, Up and Xor take any integer scalar as their second operand, which is u32", ours: "refused 8",
+        holds: holds::shuffle_by_i32,
+    },
+    Class {
         name: "matrix-of-abstract", smallest: "mat2x2<AbstractFloat>",
         standard: "refused", rust: "mat2x2 AbstractFloat: any float", ours: "refused 5", holds: holds::matrix_of_abstract,
     },
@@ -153,19 +158,14 @@ pub const CLASSES: [Class; 31] = [
         holds: holds::array_element,
     },
     Class {
-        name: "left-out-name", smallest: "subgroupElect()",
-        standard: "bool", rust: "bool", ours: "refused 4: the subgroup and quad names and workgroupUniformLoad are left out", holds: holds::left_out_name,
+        name: "left-out-name", smallest: "workgroupUniformLoad(ptr<workgroup,i32,read>)",
+        standard: "i32, where the access is read_write", rust: "i32: any pointer in space workgroup",
+        ours: "refused 4: workgroupUniformLoad is left out", holds: holds::left_out_name,
     },
 ];
 
-/// Names of the crate that document 01 leaves out and that take operands of the domain, or none.
-#[rustfmt::skip]
-pub const LEFT_OUT: [&str; 26] = [
-    "quadBroadcast", "quadSwapDiagonal", "quadSwapX", "quadSwapY", "subgroupAdd", "subgroupAll", "subgroupAnd", "subgroupAny", "subgroupBallot",
-    "subgroupBroadcast", "subgroupBroadcastFirst", "subgroupElect", "subgroupExclusiveAdd", "subgroupExclusiveMul", "subgroupInclusiveAdd",
-    "subgroupInclusiveMul", "subgroupMax", "subgroupMin", "subgroupMul", "subgroupOr", "subgroupShuffle", "subgroupShuffleDown",
-    "subgroupShuffleUp", "subgroupShuffleXor", "subgroupXor", "workgroupUniformLoad",
-];
+/// Names of the crate that are in no profile and that take operands of the domain.
+pub const LEFT_OUT: [&str; 1] = ["workgroupUniformLoad"];
 
 /// A row of the list in docs/DIFFERENCES.md, but for its counts.
 fn as_row(class: &Class) -> String {

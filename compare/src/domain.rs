@@ -59,8 +59,8 @@ pub fn small() -> Vec<WType> {
     with(
         &[Some(4), None],
         &[
-            (Space::Function, Access::ReadWrite),
-            (Space::Storage, Access::Read),
+            (Space::Workgroup, Access::Read),
+            (Space::Storage, Access::ReadWrite),
         ],
     )
 }

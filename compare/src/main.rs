@@ -1,4 +1,4 @@
-//! `compare quick`, `compare full`, `compare sample`, `compare classes`, `compare vectors FILE..`; README.md says what each does.
+//! `compare quick`, `compare full`, `compare sample`, `compare classes`, `compare vectors FILE..`, `compare listed FILE..`; README.md says what each does.
 
 use compare::{classes, oracle, parts, sample, vectors};
 use std::process::ExitCode;
@@ -12,6 +12,7 @@ fn main() -> ExitCode {
     let seed = || words.get(1).map_or(Ok(SEED), |word| word.parse::<u64>());
     let passed = match (words.first().map(String::as_str), seed()) {
         (Some("vectors"), _) if words.len() > 1 => vectors::check(&words[1..]),
+        (Some("listed"), _) if words.len() > 1 => vectors::check_listed(&words[1..]),
         (Some("quick"), Ok(seed)) => parts::quick(seed),
         (Some("full"), Ok(seed)) => parts::full(seed),
         (Some("classes"), _) => {
@@ -24,7 +25,7 @@ fn main() -> ExitCode {
         }
         _ => {
             eprintln!(
-                "compare quick|full|sample [SEED], or compare classes, or compare vectors FILE.."
+                "compare quick|full|sample [SEED], or compare classes, or compare vectors|listed FILE.."
             );
             return ExitCode::from(2);
         }

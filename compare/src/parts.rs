@@ -7,7 +7,7 @@ use crate::oracle::{argument_to_rust, to_rust};
 use crate::ours;
 use crate::random::Random;
 use crate::run::Run;
-use crate::standard::{NAMES, SIZED_HEADS};
+use crate::standard::{SIZED_HEADS, names};
 use crate::tplt::TpltParam;
 use crate::ty::Type;
 use crate::types::{SCALARS, Scalar, WType};
@@ -97,8 +97,8 @@ impl Run {
     }
 
     /// Some names over all triples of the plain types.
-    fn triples(&mut self, types: &[WType], names: &[&'static str]) {
-        let calls: Vec<Operation> = names.iter().copied().map(Operation::Call).collect();
+    fn triples(&mut self, types: &[WType], called: &[&'static str]) {
+        let calls: Vec<Operation> = called.iter().copied().map(Operation::Call).collect();
         let plains = &types[..PLAINS];
         for a in plains {
             for b in plains {
@@ -109,7 +109,7 @@ impl Run {
         }
         self.end(&format!(
             "{} names on all triples of the plain types",
-            names.len()
+            called.len()
         ));
     }
 
@@ -135,6 +135,7 @@ impl Run {
     /// Lists of three and four by a seed: so many over the whole domain, and as many over types that are likely to fit together.
     fn sampled(&mut self, types: &[WType], lists: usize, random: &mut Random) {
         let three: Vec<Operation> = THREE.map(Operation::Call).to_vec();
+        let every: Vec<&'static str> = names().collect();
         self.sampling = true;
         for near in [false, true] {
             for index in 0..lists {
@@ -153,7 +154,7 @@ impl Run {
                     self.ask_all(&[Operation::Call(FOUR)], &operands, &rust);
                 }
                 // A name of any operand count.
-                let any = Operation::Call(NAMES[random.below(NAMES.len())]);
+                let any = Operation::Call(*random.pick(&every));
                 self.ask_all(&[any], &operands, &rust);
             }
             let from = if near {
@@ -179,7 +180,7 @@ impl Run {
             self.ask_fresh(bitcast, &[of(ty)], &[&f32, &f32]);
             self.ask_fresh(bitcast, &[of(ty), of(&f32)], &[&f32]);
         }
-        for name in NAMES.into_iter().filter(|name| *name != "bitcast") {
+        for name in names().filter(|name| *name != "bitcast") {
             for count in 0..4 {
                 self.ask_fresh(Operation::Call(name), &[of(&f32)], &vec![&f32; count]);
             }
@@ -217,9 +218,9 @@ impl Run {
     }
 }
 
-/// The 94 names and those that are left out.
+/// The 119 names of profile 1 and that which is left out.
 fn every_name() -> impl Iterator<Item = &'static str> {
-    NAMES.into_iter().chain(LEFT_OUT)
+    names().chain(LEFT_OUT)
 }
 
 /// A scalar or a vector of a width; now and then any type.
@@ -283,7 +284,7 @@ pub fn full(seed: u64) -> bool {
     run.two(&types);
     run.call_templates(&types);
     run.template_types(&types);
-    run.triples(&types, &NAMES);
+    run.triples(&types, &names().collect::<Vec<_>>());
     run.fours(&types, &types[..PLAINS]);
     run.sampled(&types, 1_000_000, &mut Random::new(seed));
     run.verdict()

@@ -4,7 +4,7 @@ use crate::case::{Answer, Case, Operation};
 use crate::classes::{CLASSES, Seen};
 use crate::oracle::{oracle_binary, oracle_call, oracle_template, oracle_unary};
 use crate::ours;
-use crate::standard::{NAMES, Standard};
+use crate::standard::{Standard, names};
 use crate::tplt::TpltParam;
 use crate::ty::Type;
 use std::time::Instant;
@@ -179,7 +179,9 @@ impl Run {
 fn sign_number(case: &Case) -> usize {
     match case.operation {
         Operation::Unary(op) | Operation::Binary(op) => op,
-        Operation::Call(name) => NAMES.iter().position(|other| *other == name).unwrap_or(94),
+        Operation::Call(name) => names()
+            .position(|other| other == name)
+            .unwrap_or(usize::MAX),
         Operation::Template(_) => 0,
     }
 }

@@ -1,4 +1,5 @@
-//! Document 01 read as plainly as can be: every overload of every row is listed, and a call is judged by a search through them all.
+//! Document 01, and of document 02 the subgroup and quad calls, read as plainly as can be: every overload of every row is listed, and a call is judged by a search
+//! through them all. A call is one of profile 1, which has every name.
 //!
 //! It shares no line with the crate's files, with their stand-ins or with Swartabelk. It is slow, and a third opinion.
 
@@ -22,7 +23,7 @@ pub mod refusal {
     pub const NONE_PREFERRED: u32 = 13;
 }
 
-/// The 94 builtin names, sorted by their bytes.
+/// The 94 builtin names of profile 0, sorted by their bytes.
 #[rustfmt::skip]
 pub const NAMES: [&str; 94] = [
     "abs", "acos", "acosh", "all", "any", "arrayLength", "asin", "asinh", "atan", "atan2", "atanh", "bitcast", "ceil", "clamp", "cos", "cosh",
@@ -35,6 +36,25 @@ pub const NAMES: [&str; 94] = [
     "tanh", "textureBarrier", "transpose", "trunc", "unpack2x16float", "unpack2x16snorm", "unpack2x16unorm", "unpack4x8snorm",
     "unpack4x8unorm", "unpack4xI8", "unpack4xU8", "workgroupBarrier",
 ];
+
+/// The 25 that profile 1 adds, sorted likewise.
+#[rustfmt::skip]
+pub const SUBGROUP_NAMES: [&str; 25] = [
+    "quadBroadcast", "quadSwapDiagonal", "quadSwapX", "quadSwapY", "subgroupAdd", "subgroupAll", "subgroupAnd", "subgroupAny", "subgroupBallot",
+    "subgroupBroadcast", "subgroupBroadcastFirst", "subgroupElect", "subgroupExclusiveAdd", "subgroupExclusiveMul", "subgroupInclusiveAdd",
+    "subgroupInclusiveMul", "subgroupMax", "subgroupMin", "subgroupMul", "subgroupOr", "subgroupShuffle", "subgroupShuffleDown",
+    "subgroupShuffleUp", "subgroupShuffleXor", "subgroupXor",
+];
+
+/// Every name of profile 1: the 94, then the 25.
+pub fn names() -> impl Iterator<Item = &'static str> {
+    NAMES.into_iter().chain(SUBGROUP_NAMES)
+}
+
+/// Whether profile 0 has a name.
+pub fn in_base(name: &str) -> bool {
+    NAMES.binary_search(&name).is_ok()
+}
 
 /// One overload: the parameters and the result.
 #[derive(Clone, Debug)]
@@ -132,7 +152,7 @@ impl Default for Standard {
         Standard {
             unary: (0..3).map(unary).collect(),
             binary: (0..18).map(binary).collect(),
-            calls: NAMES.map(|name| (name, ruled(name))).into_iter().collect(),
+            calls: names().map(|name| (name, ruled(name))).collect(),
         }
     }
 }
@@ -325,15 +345,37 @@ mod tests {
     }
 
     #[test]
+    fn subgroup_calls() {
+        let call = |name, operands, answer| check(Operation::Call(name), operands, answer);
+        call("subgroupElect", &[], "bool");
+        call("subgroupElect", &["bool"], "refused 7");
+        call("subgroupAdd", &["vec3<AbstractInt>"], "vec3<i32>");
+        call("quadSwapX", &["AbstractFloat"], "f32");
+        call("subgroupMax", &["bool"], "refused 8");
+        call("subgroupXor", &["vec2<u32>"], "vec2<u32>");
+        call("subgroupXor", &["AbstractFloat"], "refused 8");
+        call("subgroupAll", &["vec2<bool>"], "refused 8");
+        call("subgroupBallot", &["bool"], "vec4<u32>");
+        call("subgroupBallot", &[], "refused 7");
+        call("subgroupBroadcast", &["AbstractInt", "AbstractInt"], "i32");
+        call("quadBroadcast", &["vec4<f16>", "i32"], "vec4<f16>");
+        call("subgroupShuffleUp", &["f16", "AbstractInt"], "f16");
+        call("subgroupShuffleUp", &["f16", "i32"], "refused 8");
+    }
+
+    #[test]
     fn names_are_sorted_and_all_but_six_are_ruled() {
-        assert!(NAMES.is_sorted_by(|a, b| a.as_bytes() < b.as_bytes()));
-        let ruled_names = NAMES.iter().filter(|name| !ruled(name).is_empty());
-        assert_eq!(ruled_names.count(), 88);
+        for list in [&NAMES[..], &SUBGROUP_NAMES] {
+            assert!(list.is_sorted_by(|a, b| a.as_bytes() < b.as_bytes()));
+        }
+        assert!(SUBGROUP_NAMES.iter().all(|name| !in_base(name)));
+        let ruled_names = names().filter(|name| !ruled(name).is_empty());
+        assert_eq!(ruled_names.count(), 88 + 25);
     }
 
     #[test]
     fn no_overload_is_listed_twice() {
-        for list in NAMES.map(ruled).into_iter().chain((0..18).map(binary)) {
+        for list in names().map(ruled).chain((0..18).map(binary)) {
             for (i, a) in list.iter().enumerate() {
                 assert!(list[..i].iter().all(|b| a.parameters != b.parameters));
             }

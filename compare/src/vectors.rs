@@ -4,7 +4,8 @@ use crate::case::{Answer, BINARY, Case, Operation, UNARY};
 use crate::domain::{PLAINS, simples};
 use crate::ours;
 use crate::parts::{THREE, TWO};
-use crate::standard::{NAMES, Standard};
+use crate::standard::refusal::{NONE_FITS, OPERANDS};
+use crate::standard::{NAMES, Standard, names};
 use crate::types::WType;
 use std::collections::{BTreeSet, HashMap};
 
@@ -18,17 +19,26 @@ const NOT_RULED: [&str; 6] = [
     "workgroupBarrier",
 ];
 
-/// Holds every row of the files' domain to them. A row that no file lists was refused. True where all agree.
-pub fn check(files: &[String]) -> bool {
-    let mut listed: HashMap<(String, String), String> = HashMap::new();
+/// The rows of the files.
+fn rows(files: &[String]) -> Vec<[String; 3]> {
+    let mut rows = Vec::new();
     for file in files {
         let text = std::fs::read_to_string(file).unwrap_or_else(|why| panic!("{file}: {why}"));
         for line in text.lines().filter(|line| !line.starts_with('#')) {
             let [sign, operands, result] = line.split('\t').collect::<Vec<_>>()[..] else {
                 panic!("{file}: no three columns: {line}");
             };
-            listed.insert((sign.to_string(), operands.to_string()), result.to_string());
+            rows.push([sign, operands, result].map(str::to_string));
         }
+    }
+    rows
+}
+
+/// Holds every row of the files' domain to them. A row that no file lists was refused. True where all agree.
+pub fn check(files: &[String]) -> bool {
+    let mut listed: HashMap<(String, String), String> = HashMap::new();
+    for [sign, operands, result] in rows(files) {
+        listed.insert((sign, operands), result);
     }
     // The names of three operands for which rows are at hand; only these were asked for.
     let three: BTreeSet<&str> = listed
@@ -67,6 +77,42 @@ pub fn check(files: &[String]) -> bool {
     held.wrong == 0 && unread == 0
 }
 
+/// Holds every row of the files to them, all of calls: refused ones are listed as `refused`. A `*` behind an operand, which marks one that is known only when
+/// running, is left out. True where all agree.
+pub fn check_listed(files: &[String]) -> bool {
+    let types = simples();
+    let mut held = Held {
+        standard: Standard::default(),
+        rows: 0,
+        accepted: 0,
+        wrong: 0,
+        listed: HashMap::new(),
+    };
+    for [sign, operands, result] in rows(files) {
+        let name = names()
+            .find(|name| *name == sign)
+            .unwrap_or_else(|| panic!("no builtin: {sign}"));
+        let operand = |spelled: &str| {
+            let spelled = spelled.trim_end_matches('*');
+            let found = types.iter().find(|ty| ty.to_string() == spelled);
+            found.unwrap_or_else(|| panic!("no type: {spelled}"))
+        };
+        let operands: Vec<&WType> = operands.split_whitespace().map(operand).collect();
+        let expected = Some(result).filter(|result| result != "refused");
+        held.hold(
+            Operation::Call(name),
+            &operands,
+            expected,
+            &[OPERANDS, NONE_FITS],
+        );
+    }
+    println!(
+        "{} rows, {} accepted, {} wrong",
+        held.rows, held.accepted, held.wrong
+    );
+    held.wrong == 0
+}
+
 struct Held {
     standard: Standard,
     rows: u64,
@@ -79,6 +125,17 @@ impl Held {
     fn ask(&mut self, operation: Operation, sign: &str, operands: &[&WType]) {
         let spelled: Vec<String> = operands.iter().map(|ty| ty.to_string()).collect();
         let expected = self.listed.remove(&(sign.to_string(), spelled.join(" ")));
+        self.hold(operation, operands, expected, &[NONE_FITS]);
+    }
+
+    /// Holds the answers to the type that is listed, or to one of some refusals where there is none.
+    fn hold(
+        &mut self,
+        operation: Operation,
+        operands: &[&WType],
+        expected: Option<String>,
+        refusals: &[u32],
+    ) {
         let case = Case {
             operation,
             template: &[],
@@ -89,7 +146,7 @@ impl Held {
         let mut hold = |whose: &str, answer: Answer| {
             let as_listed = match (&answer, &expected) {
                 (Answer::Type(ty), Some(listed)) => ty.to_string() == *listed,
-                (Answer::Refused(8), None) => true,
+                (Answer::Refused(number), None) => refusals.contains(number),
                 _ => false,
             };
             if !as_listed {

@@ -43,11 +43,11 @@ static void put(uint8_t kind, const char *payload, size_t n) {
     length += n + 2;
 }
 
-static void operators(void) { swartabelk_sheet(words, 1024, used, sheet, 3 + length); }
+static void operators(void) { swartabelk_sheet(words, 1024, used, SWARTABELK_PROFILE_BASE, sheet, 3 + length); }
 static void binary(void) { swartabelk_binary(words, 1024, used, 2, 5, 5); }
 static void call(void) {
     uint32_t args[3] = {1, 2, 6};
-    swartabelk_call(words, 1024, used, (const uint8_t *)"clamp", 5, args, 0, args, 3);
+    swartabelk_call(words, 1024, used, SWARTABELK_PROFILE_BASE, (const uint8_t *)"clamp", 5, args, 0, args, 3);
 }
 static void template(void) {
     int64_t args[4] = {0, 5, 1, 4};

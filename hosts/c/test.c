@@ -1,34 +1,31 @@
 /* Calls every function of include/swartabelk.h and holds each reply to document 01: its worked sheets, its sixteen cases, and the refusals 1 to 12. */
-#include "swartabelk.h"
+#include "test.h"
 
 #include <stdio.h>
 #include <string.h>
 
-#define NONE SWARTABELK_NO_VALUE
-
-enum { BOOL, ABSTRACT_INT, ABSTRACT_FLOAT, I32, U32, F32, F16, SCALARS };
-enum { VEC = 7, MAT, ARRAY, RUNTIME, ATOMIC, PTR, REF, FREXP, MODF };
 enum { NOT, NEGATE, COMPLEMENT, ADDRESS_OF, INDIRECTION };
 enum { OR, AND, PLUS, MINUS, TIMES, OVER, REMAINDER, EQUAL, UNEQUAL, LESS, LESS_EQUAL, GREATER, GREATER_EQUAL, BIT_OR, BIT_AND, BIT_XOR, LEFT, RIGHT };
 
 static unsigned failed, held;
+const char *about = "";
 
-/* A table, its count, and room for 256 entries or fewer. */
-static uint32_t words[1024];
-static size_t room;
-static uint32_t used;
+uint32_t words[1024];
+size_t room;
+uint32_t used, profile;
+const uint32_t no_types[1];
 
-static void start(void) {
+void start(void) {
     memset(words, 0, sizeof words);
     for (uint32_t i = 0; i < SCALARS; i++) {
         words[4 * i] = i;
     }
     room = 1024;
     used = SCALARS;
+    profile = SWARTABELK_PROFILE_BASE;
 }
 
-/* One entry more; its number. */
-static uint32_t entry(uint32_t kind, uint32_t p, uint32_t q, uint32_t elem) {
+uint32_t entry(uint32_t kind, uint32_t p, uint32_t q, uint32_t elem) {
     uint32_t *e = words + 4 * used;
     e[0] = kind;
     e[1] = p;
@@ -37,21 +34,19 @@ static uint32_t entry(uint32_t kind, uint32_t p, uint32_t q, uint32_t elem) {
     return used++;
 }
 
-static void holds(int line, int right) {
+void holds(const char *file, int line, int right) {
     held++;
     if (!right) {
         failed++;
-        printf("hosts/c/test.c:%d: another reply\n", line);
+        printf("%s:%d: another reply %s\n", file, line, about);
     }
 }
 
-#define HOLDS(right) holds(__LINE__, (right))
-
-static int is(swartabelk_reply r, uint32_t refusal, uint32_t type, uint32_t place, uint32_t count) {
+int is(swartabelk_reply r, uint32_t refusal, uint32_t type, uint32_t place, uint32_t count) {
     return r.refusal == refusal && r.type == type && r.place == place && r.used == count;
 }
 
-static int is_entry(uint32_t i, uint32_t kind, uint32_t p, uint32_t q, uint32_t elem) {
+int is_entry(uint32_t i, uint32_t kind, uint32_t p, uint32_t q, uint32_t elem) {
     const uint32_t *e = words + 4 * i;
     return e[0] == kind && e[1] == p && e[2] == q && e[3] == elem;
 }
@@ -62,26 +57,23 @@ static swartabelk_reply unary(uint32_t op, uint32_t a) { return swartabelk_unary
 
 static swartabelk_reply binary(uint32_t op, uint32_t a, uint32_t b) { return swartabelk_binary(words, room, used, op, a, b); }
 
-static swartabelk_reply call(const char *name, size_t tplt_len, const uint32_t *tplt, size_t args_len, const uint32_t *args) {
-    return swartabelk_call(words, room, used, (const uint8_t *)name, strlen(name), tplt, tplt_len, args, args_len);
+swartabelk_reply call(const char *name, size_t tplt_len, const uint32_t *tplt, size_t args_len, const uint32_t *args) {
+    return swartabelk_call(words, room, used, profile, (const uint8_t *)name, strlen(name), tplt, tplt_len, args, args_len);
 }
 
-static const uint32_t no_types[1];
-
-static swartabelk_reply call1(const char *name, uint32_t a) { return call(name, 0, no_types, 1, (uint32_t[]){a}); }
+swartabelk_reply call1(const char *name, uint32_t a) { return call(name, 0, no_types, 1, (uint32_t[]){a}); }
 
 static swartabelk_reply template(const char *head, size_t args_len, const int64_t *args) {
     return swartabelk_template(words, room, used, (const uint8_t *)head, strlen(head), args, args_len);
 }
 
-static swartabelk_reply sheet(size_t len, const uint8_t *bytes) { return swartabelk_sheet(words, room, used, bytes, len); }
+swartabelk_reply sheet(size_t len, const uint8_t *bytes) { return swartabelk_sheet(words, room, used, profile, bytes, len); }
 
-/* The words at some time, and whether they are the same now. */
 static uint32_t before[1024];
 
-static void keep(void) { memcpy(before, words, sizeof words); }
+void keep(void) { memcpy(before, words, sizeof words); }
 
-static int unchanged(void) { return memcmp(before, words, sizeof words) == 0; }
+int unchanged(void) { return memcmp(before, words, sizeof words) == 0; }
 
 static void checks(void) {
     start();
@@ -197,7 +189,7 @@ static void calls(void) {
     HOLDS(is(call("bitcast", 0, no_types, 1, (uint32_t[]){F32}), 5, NONE, 0, 7));
     HOLDS(is(call("bitcast", 1, (uint32_t[]){9}, 1, (uint32_t[]){F32}), 2, NONE, 0, 7));
     HOLDS(is(call("storageBarrier", 0, no_types, 0, no_types), 0, NONE, 0, 7));
-    HOLDS(is(swartabelk_call(words, room, 6, (const uint8_t *)"sqrt", 4, no_types, 0, no_types, 0), 1, NONE, 0, 6));
+    HOLDS(is(swartabelk_call(words, room, 6, profile, (const uint8_t *)"sqrt", 4, no_types, 0, no_types, 0), 1, NONE, 0, 6));
     uint32_t r = entry(REF, 0, 2, F32);
     HOLDS(is(call1("sqrt", r), 3, NONE, 0, 8));
     start();
@@ -243,9 +235,6 @@ static void templates(void) {
     HOLDS(unchanged());
 }
 
-/* The bytes of a sheet, by its items. */
-#define SHEET(...) sheet(sizeof((uint8_t[]){__VA_ARGS__}), (uint8_t[]){__VA_ARGS__})
-
 static void sheets(void) {
     start();
     keep();
@@ -273,7 +262,7 @@ static void sheets(void) {
     HOLDS(is(SHEET(1, 0, 13, 2, 1, 5, 2, 1, 5, 6, 4, 2, 's', 'q', 'r', 't'), 7, NONE, 9, 7));
     HOLDS(is(SHEET(1, 0, 13, 2, 1, 5, 9, 5, 4, 1, 's', 'q', 'r', 't', '.', '.'), 4, NONE, 6, 7));
     HOLDS(is(SHEET(1, 0, 11, 2, 1, 5, 7, 5, 4, 1, 's', 'q', 'r', 't'), 5, NONE, 6, 7));
-    HOLDS(is(swartabelk_sheet(words, room, 6, (const uint8_t *)"", 0), 1, NONE, 0, 6));
+    HOLDS(is(swartabelk_sheet(words, room, 6, profile, (const uint8_t *)"", 0), 1, NONE, 0, 6));
     HOLDS(unchanged());
     /* Take vec3<f32>; then an item that is refused: what was entered stays. */
     HOLDS(is(SHEET(1, 0, 12, 8, 6, 7, 0, 0, 0, 3, 0, 5, 2, 2, 0), 8, NONE, 12, 8) && is_entry(7, VEC, 3, 0, F32));
@@ -364,8 +353,9 @@ int main(void) {
     calls();
     templates();
     sheets();
+    profiles();
     spellings();
     names();
-    printf("%u of %u replies as document 01 has them\n", held - failed, held);
+    printf("%u of %u replies as documents 01 and 02 have them\n", held - failed, held);
     return failed != 0;
 }

@@ -138,6 +138,7 @@ fn rust_call(operation: Operation, operands: &[Type]) -> Option<Type> {
 mod side {
     //! Swartabelk's side.
     use super::*;
+    use compare::case::profile::BASE;
     use compare::ours::linked;
 
     pub const IS: bool = true;
@@ -145,7 +146,7 @@ mod side {
     pub fn call(table: &mut Table, operation: Operation, numbers: &[u32]) -> u32 {
         let reply = match operation {
             Operation::Binary(op) => linked::binary(table, op as u32, numbers[0], numbers[1]),
-            Operation::Call(name) => linked::call(table, name, &[], numbers),
+            Operation::Call(name) => linked::call(table, BASE, name, &[], numbers),
             _ => unreachable!("no other operation is measured"),
         };
         assert_eq!(reply.refusal, 0);
@@ -154,7 +155,7 @@ mod side {
 
     #[inline(never)]
     pub fn sheet(table: &mut Table, sheet: &[u8]) -> (u32, u32) {
-        let reply = linked::sheet(table, sheet);
+        let reply = linked::sheet(table, BASE, sheet);
         assert_eq!(reply.refusal, 0, "{reply:?}");
         (reply.ty, reply.used)
     }

@@ -339,6 +339,23 @@ pub fn select_width(seen: &Seen) -> bool {
     }
 }
 
+pub fn shuffle_by_i32(seen: &Seen) -> bool {
+    match (seen.case.operation, two_wide(seen.case.operands)) {
+        (
+            Call("subgroupShuffleDown" | "subgroupShuffleUp" | "subgroupShuffleXor"),
+            Some([(n, of), (1, I32)]),
+        ) => {
+            let concrete = match of {
+                AbstractInt => I32,
+                AbstractFloat => F32,
+                of => of,
+            };
+            of != Bool && gave(seen.rust, WType::wide(n, concrete)) && unfit(seen.ours)
+        }
+        _ => false,
+    }
+}
+
 pub fn matrix_of_abstract(seen: &Seen) -> bool {
     match (seen.case.operation, seen.case.template) {
         (Template(head), [Argument::Type(WType::Scalar(AbstractFloat))]) => {

@@ -1,13 +1,14 @@
 //! The calls themselves.
 
-use crate::case::{Answer, Argument, Case, Operation};
+use crate::case::{Answer, Argument, Case, Operation, profile};
 use crate::ours::table::{ENTRIES, Table};
+use crate::standard::{in_base, refusal};
 
 pub const NO_VALUE: u32 = 0xFFFF_FFFF;
 
 /// `swartabelk_reply` of the header.
 #[repr(C)]
-#[derive(Clone, Copy, Debug)]
+#[derive(Clone, Copy, Debug, PartialEq, Eq)]
 pub struct Reply {
     pub refusal: u32,
     pub ty: u32,
@@ -41,6 +42,7 @@ unsafe extern "C" {
         words: *mut u32,
         words_len: usize,
         used: u32,
+        profile: u32,
         name: *const u8,
         name_len: usize,
         tplt: *const u32,
@@ -61,6 +63,7 @@ unsafe extern "C" {
         words: *mut u32,
         words_len: usize,
         used: u32,
+        profile: u32,
         sheet: *const u8,
         sheet_len: usize,
     ) -> Reply;
@@ -86,7 +89,7 @@ pub fn binary(table: &mut Table, op: u32, a: u32, b: u32) -> Reply {
     unsafe { swartabelk_binary(words, len, table.used, op, a, b) }
 }
 
-pub fn call(table: &mut Table, name: &str, tplt: &[u32], args: &[u32]) -> Reply {
+pub fn call(table: &mut Table, profile: u32, name: &str, tplt: &[u32], args: &[u32]) -> Reply {
     let (words, len) = (table.words.as_mut_ptr(), table.words.len());
     // SAFETY: words, name and lists are lent for the call, each with its length.
     unsafe {
@@ -94,6 +97,7 @@ pub fn call(table: &mut Table, name: &str, tplt: &[u32], args: &[u32]) -> Reply 
             words,
             len,
             table.used,
+            profile,
             name.as_ptr(),
             name.len(),
             tplt.as_ptr(),
@@ -120,10 +124,10 @@ pub fn template(table: &mut Table, head: &str, args: &[i64]) -> Reply {
     }
 }
 
-pub fn sheet(table: &mut Table, sheet: &[u8]) -> Reply {
+pub fn sheet(table: &mut Table, profile: u32, sheet: &[u8]) -> Reply {
     let (words, len) = (table.words.as_mut_ptr(), table.words.len());
     // SAFETY: words and sheet are lent for the call, each with its length.
-    unsafe { swartabelk_sheet(words, len, table.used, sheet.as_ptr(), sheet.len()) }
+    unsafe { swartabelk_sheet(words, len, table.used, profile, sheet.as_ptr(), sheet.len()) }
 }
 
 /// The spelling of a number, by the library.
@@ -139,7 +143,7 @@ pub fn spell(table: &Table, number: u32) -> Result<String, u32> {
     }
 }
 
-/// A case asked over a table that holds its types and nothing else beside the scalars.
+/// A case asked over a table that holds its types and nothing else beside the scalars. A call is one of profile 1, held to what the other profiles reply.
 pub fn answer(case: &Case) -> Result<Answer, String> {
     let mut table = Table::new(ENTRIES);
     let operands: Vec<u32> = case.operands.iter().map(|ty| table.number(ty)).collect();
@@ -161,11 +165,47 @@ pub fn answer(case: &Case) -> Result<Answer, String> {
         Operation::Binary(op) => binary(&mut table, op as u32, operands[0], operands[1]),
         Operation::Call(name) => {
             let types: Vec<u32> = list.chunks(2).map(|pair| pair[1] as u32).collect();
-            call(&mut table, name, &types, &operands)
+            let reply = call(&mut table, profile::SUBGROUPS, name, &types, &operands);
+            other_profiles(&before, &table, reply, name, &types, &operands)?;
+            reply
         }
         Operation::Template(head) => template(&mut table, head, &list),
     };
     read(&before, &mut table, reply)
+}
+
+/// Holds what profile 1 replied and left to profile 0, which does the same for the names that it has and refuses all others, and, where there is one operand or
+/// none, to an unknown profile, which refuses all.
+fn other_profiles(
+    before: &Table,
+    after: &Table,
+    reply: Reply,
+    name: &str,
+    types: &[u32],
+    operands: &[u32],
+) -> Result<(), String> {
+    /// Profile 0 and an unknown one.
+    const OTHERS: [u32; 2] = [profile::BASE, 2];
+    let asked = if operands.len() < 2 { 2 } else { 1 };
+    let unknown_name = Reply {
+        refusal: refusal::UNKNOWN,
+        ty: NO_VALUE,
+        place: 0,
+        used: before.used,
+    };
+    for profile in OTHERS.into_iter().take(asked) {
+        let mut table = before.clone();
+        let other = call(&mut table, profile, name, types, operands);
+        let (wanted, left) = if profile == profile::BASE && in_base(name) {
+            (reply, after)
+        } else {
+            (unknown_name, before)
+        };
+        if other != wanted || table.words != left.words {
+            return Err(format!("profile {profile}: {other:?}, wanted {wanted:?}"));
+        }
+    }
+    Ok(())
 }
 
 /// The answer of a reply, once the words are as the header promises.

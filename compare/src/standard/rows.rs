@@ -1,4 +1,4 @@
-//! The overloads of every row, in the order of document 01: each choice of T, width and shape is one, listed once.
+//! The overloads of every row, in the order of document 01, then of document 02: each choice of T, width and shape is one, listed once.
 
 use super::{Overload, overload};
 use crate::types::Scalar::{self, *};
@@ -26,6 +26,16 @@ const BIT_ONE: [&str; 6] = [
     "reverseBits",
 ];
 
+/// Subgroup and quad calls of one operand, of any concrete number or vector of such, which they give.
+#[rustfmt::skip]
+const SUBGROUP_ONE: [&str; 12] = [
+    "quadSwapDiagonal", "quadSwapX", "quadSwapY", "subgroupAdd", "subgroupBroadcastFirst", "subgroupExclusiveAdd", "subgroupExclusiveMul",
+    "subgroupInclusiveAdd", "subgroupInclusiveMul", "subgroupMax", "subgroupMin", "subgroupMul",
+];
+
+/// The concrete numbers.
+const CONCRETES: [Scalar; 4] = [I32, U32, F32, F16];
+
 /// Scalar and vectors of each of a set.
 fn wide(set: &[Scalar]) -> Vec<(u8, Scalar, WType)> {
     let mut out = Vec::new();
@@ -47,6 +57,18 @@ fn vectors(set: &[Scalar]) -> Vec<(u8, Scalar, WType)> {
 fn same(types: Vec<(u8, Scalar, WType)>, count: usize) -> Vec<Overload> {
     let one = |(_, _, ty): (u8, Scalar, WType)| overload(&vec![ty.clone(); count], ty);
     types.into_iter().map(one).collect()
+}
+
+/// A concrete number or a vector of such, which is the result, and beside it a scalar of each of a set.
+fn with_lane(set: &[Scalar]) -> Vec<Overload> {
+    let mut list = Vec::new();
+    for (_, _, ty) in wide(&CONCRETES) {
+        list.extend(
+            set.iter()
+                .map(|&lane| overload(&[ty.clone(), scalar(lane)], ty.clone())),
+        );
+    }
+    list
 }
 
 pub fn scalar(of: Scalar) -> WType {
@@ -234,6 +256,13 @@ pub fn ruled(name: &str) -> Vec<Overload> {
             }
             list
         }
+        name if SUBGROUP_ONE.contains(&name) => same(wide(&CONCRETES), 1),
+        "subgroupAnd" | "subgroupOr" | "subgroupXor" => same(wide(&[I32, U32]), 1),
+        "subgroupAll" | "subgroupAny" => to(scalar(Bool), scalar(Bool)),
+        "subgroupBallot" => to(scalar(Bool), WType::Vector(4, U32)),
+        "subgroupElect" => vec![overload(&[], scalar(Bool))],
+        "subgroupBroadcast" | "subgroupShuffle" | "quadBroadcast" => with_lane(&[I32, U32]),
+        "subgroupShuffleDown" | "subgroupShuffleUp" | "subgroupShuffleXor" => with_lane(&[U32]),
         _ => Vec::new(),
     }
 }

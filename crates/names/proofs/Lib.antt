@@ -4,5 +4,6 @@ pub mod Lines
 pub mod Found
 pub mod Rules
 pub mod Document
+pub mod Profiles
 pub mod Six
 pub mod OneReply

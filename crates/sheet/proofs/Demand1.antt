@@ -174,7 +174,7 @@ module _ (profile : ℕ) (w : List ℕ) (n : ℕ) (s : List ℕ) where
   abbrev pub last : State
   last = reached profile s (itemsFrom s headerSize) (begun w n)
 
-  begun-good : Sound w n → Good (begun w n)
+  pub begun-good : Sound w n → Good (begun w n)
   begun-good h = record { sound = h; under = λ i k. absurd (omega arith); high = omega arith }
 
   -- over a sound table, under a right header and in a known profile, the words and the count afterwards are those of the accepted items, whatever is answered

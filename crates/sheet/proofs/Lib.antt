@@ -6,4 +6,5 @@ pub mod Moving
 pub mod Demand2
 pub mod Visiting
 pub mod Ends
+pub mod Profiles
 pub mod OneReply

@@ -15,8 +15,9 @@ use Rattle.table.specs.Table.{Sound}
 use Rattle.table.specs.Placing.{Outcome, turnedDown}
 use Rattle.table.proofs.TypeLaws.{type-scalar}
 use Rattle.table.proofs.PlacingLaws.{standing-outcome}
+use Rattle.answer.specs.Answer.{reasonNo}
 use Rattle.answer.specs.declared.Reason.{Reason}
-use Rattle.answer.specs.declared.Reason.the-variants.{Reference, Unknown, Template, Operands}
+use Rattle.answer.specs.declared.Reason.the-variants.{Reference, Unknown, Template, Operands, NoRoom}
 use Rattle.answer.specs.declared.TypeNo.{TypeNo}
 use Rattle.answer.specs.declared.Answer.{Answer}
 use Rattle.answer.specs.declared.Answer.the-variants.{Value, NoValue, Refused}
@@ -25,13 +26,10 @@ use Rattle.table.specs.Kept.{Kept}
 use Rattle.call_ty.specs.Calls.{templateRight, operandsOf, Given, givenBy, givenOutcome, byRule, callOutcome}
 use Rattle.call_ty.proofs.Rules.{Bare, wants-none}
 use Rattle.call_ty.proofs.Rules.Bare.{silent, scalarly}
-use Rattle.step.specs.Effect.{most}
+use Rattle.step.specs.Effect.{most, isValued}
 use Rattle.step.specs.inner.Code.{Pushes}
 
 -- A CALL WITHOUT OPERANDS: it enters nothing, since what it gives is a scalar, and in profile 0 it gives no value
-
-impossible : {P : Type 0} → _≡_ {A = ℕ} 0 1 → P
-impossible e = absurd (omega arith)
 
 module _ (place : ℕ) (w : List ℕ) (n : ℕ) (ts : List Ty) where
   -- the two sides of a test
@@ -39,17 +37,17 @@ module _ (place : ℕ) (w : List ℕ) (n : ℕ) (ts : List Ty) where
   either P true x y f g = f refl
   either P false x y f g = g refl
 
-  -- what holds of every refusal and of what the rule gives holds of the call
-  by-rule : (P : Outcome → Type 0) → ((reason : Reason) → P (turnedDown reason place w n))
+  -- what holds of every refusal but that for want of room, and of what the rule gives, holds of the call
+  by-rule : (P : Outcome → Type 0) → ((reason : Reason) → eqb (reasonNo reason) (reasonNo NoRoom) ≡ false → P (turnedDown reason place w n))
       → (named : Named) → ((r : Rule) → named ≡ rule r → operandsOf r ≡ 0 → P (givenOutcome place w n (givenBy r ts []))) → P (byRule place w n named ts [])
   unfolding byRule
-  by-rule P refused unknown f = refused Unknown
+  by-rule P refused unknown f = refused Unknown refl
   by-rule P refused (rule r) f =
       either P (templateRight r ts) _ _
       (λ _. either P (eqb 0 (operandsOf r)) _ _
-      (λ d. either P (anyReference []) _ _ (λ _. refused Reference) (λ _. f r refl (sym (eqb-true 0 (operandsOf r) d))))
-      (λ _. refused Operands))
-      (λ _. refused Template)
+      (λ d. either P (anyReference []) _ _ (λ _. refused Reference refl) (λ _. f r refl (sym (eqb-true 0 (operandsOf r) d))))
+      (λ _. refused Operands refl))
+      (λ _. refused Template refl)
 
   given-words : Sound w n → (profile : ℕ) (g : Given) → Bare profile g → givenOutcome place w n g .words ≡ w
   unfolding givenOutcome judgedOutcome
@@ -59,19 +57,20 @@ module _ (place : ℕ) (w : List ℕ) (n : ℕ) (ts : List Ty) where
 
   pub bare-words : Sound w n → (profile : ℕ) (name : List ℕ) → callOutcome profile place w n name ts [] .words ≡ w
   bare-words s profile name =
-      by-rule (λ (o : Outcome). o .words ≡ w) (λ reason. refl) (ruleOf profile name) (λ r e o. given-words s profile (givenBy r ts []) (wants-none profile name r e o ts))
+      by-rule (λ (o : Outcome). o .words ≡ w) (λ reason _. refl) (ruleOf profile name) (λ r e o. given-words s profile (givenBy r ts []) (wants-none profile name r e o ts))
 
-  -- no answer of profile 0 has a value
+  -- no answer of profile 0 has a value, or lacks the room for one
 
-  given-none : (g : Given) → Bare 0 g → (t : TypeNo) (m : ℕ) → givenOutcome place w n g .answer ≡ Value t m → ⊥
-  unfolding givenOutcome
-  given-none g (silent e) t m h = let q = rw e at h in impossible (cc)
-  given-none g (scalarly s l k e) t m h = omega arith
+  given-unvalued : (g : Given) → Bare 0 g → isValued (givenOutcome place w n g .answer) ≡ false
+  unfolding givenOutcome isValued
+  given-unvalued g (silent e) = rw e
+  given-unvalued g (scalarly s l k e) = absurd (omega arith)
 
-  pub no-operand : (name : List ℕ) (t : TypeNo) (m : ℕ) → callOutcome 0 place w n name ts [] .answer ≡ Value t m → ⊥
-  no-operand name t m =
-      by-rule (λ (o : Outcome). o .answer ≡ Value t m → ⊥) (λ reason h. impossible (cc)) (ruleOf 0 name)
-      (λ r e o. given-none (givenBy r ts []) (wants-none 0 name r e o ts) t m)
+  pub bare-unvalued : (name : List ℕ) → isValued (callOutcome 0 place w n name ts [] .answer) ≡ false
+  unfolding isValued
+  bare-unvalued name =
+      by-rule (λ (o : Outcome). isValued (o .answer) ≡ false) (λ reason h. h) (ruleOf 0 name)
+      (λ r e o. given-unvalued (givenBy r ts []) (wants-none 0 name r e o ts))
 
 -- AN ANSWER CAN BE PUSHED where its value is a number of the table and the stack has room for it
 

@@ -81,6 +81,27 @@ pub enum BinaryOp {
     ShiftRight = 17,
 }
 
+/// The profile of a call or of a sheet, by its number: which builtins there are. Any number but those of the two constants is an unknown profile, in which
+/// every call is refused with [`Reason::Unknown`], and so is every sheet, at place 0.
+///
+/// ```
+/// use swartabelk::{call, Answer, Profile, Reason, Refusal, SCALARS};
+///
+/// let mut words = SCALARS;
+/// assert_eq!(call(&mut words, 7, Profile::SUBGROUPS, b"subgroupElect", &[], &[]), Answer::Type { number: 0, used: 7 });
+/// let unknown = Answer::Refused(Refusal { reason: Reason::Unknown, place: 0, used: 7 });
+/// assert_eq!(call(&mut words, 7, Profile::BASE, b"subgroupElect", &[], &[]), unknown);
+/// ```
+#[derive(Clone, Copy, Debug, PartialEq, Eq)]
+pub struct Profile(pub u32);
+
+impl Profile {
+    /// The builtins without those of subgroups and quads.
+    pub const BASE: Profile = Profile(0);
+    /// These, and the subgroup and quad builtins.
+    pub const SUBGROUPS: Profile = Profile(1);
+}
+
 /// Why a call is refused, by its number.
 #[derive(Clone, Copy, Debug, PartialEq, Eq)]
 #[repr(u32)]
@@ -91,7 +112,7 @@ pub enum Reason {
     NoSuchType = 2,
     /// A reference offered, but to unary `&`.
     Reference = 3,
-    /// An unknown operator, builtin or head.
+    /// An unknown operator, builtin or head; a name outside the profile, or an unknown profile.
     Unknown = 4,
     /// A template list or an entry that is wrong, missing or not wanted.
     Template = 5,
@@ -140,7 +161,7 @@ impl Reason {
 pub struct Refusal {
     /// Why.
     pub reason: Reason,
-    /// The item's length byte; 0 for a single call, for [`Reason::Unsound`] and for a wrong header; the sheet's length for a wrong end.
+    /// The item's length byte; 0 for a single call, for [`Reason::Unsound`], for a wrong header and for an unknown profile; the sheet's length for a wrong end.
     pub place: u32,
     /// The count of entries; for [`Reason::Unsound`] the one that was given.
     pub used: u32,
@@ -243,14 +264,23 @@ pub fn binary(words: &mut [u32], used: u32, op: u32, a: u32, b: u32) -> Answer {
     answer(unsafe { raw::swartabelk_binary(words.as_mut_ptr(), words.len(), used, op, a, b) })
 }
 
-/// The type of a call of the builtin `name` on the types `args`. `tplt` is its template list: one type for `bitcast`, none for every other.
-pub fn call(words: &mut [u32], used: u32, name: &[u8], tplt: &[u32], args: &[u32]) -> Answer {
+/// The type of a call of the builtin that has this name in the profile, on the types `args`. `tplt` is its template list: one type for `bitcast`, none for every
+/// other.
+pub fn call(
+    words: &mut [u32],
+    used: u32,
+    profile: Profile,
+    name: &[u8],
+    tplt: &[u32],
+    args: &[u32],
+) -> Answer {
     // SAFETY: as above; what is lent for writing lies apart from the rest.
     answer(unsafe {
         raw::swartabelk_call(
             words.as_mut_ptr(),
             words.len(),
             used,
+            profile.0,
             name.as_ptr(),
             name.len(),
             tplt.as_ptr(),
@@ -277,14 +307,15 @@ pub fn template(words: &mut [u32], used: u32, head: &[u8], args: &[i64]) -> Answ
     })
 }
 
-/// The type of a whole sheet. What its accepted items entered stays, also where a later item is refused.
-pub fn sheet(words: &mut [u32], used: u32, sheet: &[u8]) -> Answer {
+/// The type of a whole sheet, whose calls are those of the profile. What its accepted items entered stays, also where a later item is refused.
+pub fn sheet(words: &mut [u32], used: u32, profile: Profile, sheet: &[u8]) -> Answer {
     // SAFETY: as above.
     answer(unsafe {
         raw::swartabelk_sheet(
             words.as_mut_ptr(),
             words.len(),
             used,
+            profile.0,
             sheet.as_ptr(),
             sheet.len(),
         )

@@ -44,6 +44,7 @@ extern "C" {
         words: *mut u32,
         words_len: usize,
         used: u32,
+        profile: u32,
         name: *const u8,
         name_len: usize,
         tplt: *const u32,
@@ -64,6 +65,7 @@ extern "C" {
         words: *mut u32,
         words_len: usize,
         used: u32,
+        profile: u32,
         sheet: *const u8,
         sheet_len: usize,
     ) -> Reply;

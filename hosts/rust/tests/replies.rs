@@ -1,7 +1,7 @@
 //! Every function, held to document 01: its worked sheets, its sixteen cases, and the refusals 1 to 12.
 use swartabelk::{
     binary, call, call_name, check, sheet, spell, template, unary, Answer, Argument, BinaryOp,
-    Reason, Refusal, UnaryOp, SCALARS,
+    Profile, Reason, Refusal, UnaryOp, SCALARS,
 };
 
 const BOOL: u32 = 0;
@@ -54,14 +54,14 @@ fn op(entries: &[[u32; 4]], op: BinaryOp, a: u32, b: u32) -> (Answer, [u32; 4]) 
 
 fn builtin(name: &str, args: &[u32]) -> Answer {
     let (mut words, used) = table(&[]);
-    call(&mut words, used, name.as_bytes(), &[], args)
+    call(&mut words, used, Profile::BASE, name.as_bytes(), &[], args)
 }
 
 fn run(items: &[u8]) -> Answer {
     let (mut words, used) = table(&[]);
     let mut bytes = vec![1, (items.len() / 256) as u8, (items.len() % 256) as u8];
     bytes.extend_from_slice(items);
-    sheet(&mut words, used, &bytes)
+    sheet(&mut words, used, Profile::BASE, &bytes)
 }
 
 #[test]
@@ -129,7 +129,10 @@ fn sixteen_cases() {
     assert_eq!(builtin("sqrt", &[ABSTRACT_INT]), is(ABSTRACT_FLOAT, 7));
     assert_eq!(builtin("reverseBits", &[ABSTRACT_INT]), is(I32, 7));
     let (mut words, used) = table(&[[VEC, 2, 0, ABSTRACT_FLOAT]]);
-    assert_eq!(call(&mut words, used, b"frexp", &[], &[7]), is(8, 9));
+    assert_eq!(
+        call(&mut words, used, Profile::BASE, b"frexp", &[], &[7]),
+        is(8, 9)
+    );
     assert_eq!(words[32..36], [FREXP, 0, 0, 7]);
     assert_eq!(
         builtin("clamp", &[ABSTRACT_INT, ABSTRACT_FLOAT, F16]),
@@ -203,43 +206,43 @@ fn operators_are_refused() {
 fn calls() {
     let (mut words, used) = table(&[[REF, 0, 2, F32], [VEC, 2, 0, F32]]);
     assert_eq!(
-        call(&mut words, used, b"bitcast", &[U32], &[F32]),
+        call(&mut words, used, Profile::BASE, b"bitcast", &[U32], &[F32]),
         is(U32, 9)
     );
     assert_eq!(
-        call(&mut words, used, b"storageBarrier", &[], &[]),
+        call(&mut words, used, Profile::BASE, b"storageBarrier", &[], &[]),
         Answer::NoValue { used: 9 }
     );
     assert_eq!(
-        call(&mut words, 6, b"sqrt", &[], &[F32]),
+        call(&mut words, 6, Profile::BASE, b"sqrt", &[], &[F32]),
         refused(Reason::Unsound, 0, 6)
     );
     assert_eq!(
-        call(&mut words, used, b"sqrt", &[], &[9]),
+        call(&mut words, used, Profile::BASE, b"sqrt", &[], &[9]),
         refused(Reason::NoSuchType, 0, 9)
     );
     assert_eq!(
-        call(&mut words, used, b"sqrt", &[], &[7]),
+        call(&mut words, used, Profile::BASE, b"sqrt", &[], &[7]),
         refused(Reason::Reference, 0, 9)
     );
     assert_eq!(
-        call(&mut words, used, b"nosuch", &[], &[F32]),
+        call(&mut words, used, Profile::BASE, b"nosuch", &[], &[F32]),
         refused(Reason::Unknown, 0, 9)
     );
     assert_eq!(
-        call(&mut words, used, b"bitcast", &[], &[F32]),
+        call(&mut words, used, Profile::BASE, b"bitcast", &[], &[F32]),
         refused(Reason::Template, 0, 9)
     );
     assert_eq!(
-        call(&mut words, used, b"sqrt", &[], &[F32, F32]),
+        call(&mut words, used, Profile::BASE, b"sqrt", &[], &[F32, F32]),
         refused(Reason::Operands, 0, 9)
     );
     assert_eq!(
-        call(&mut words, used, b"sqrt", &[], &[BOOL]),
+        call(&mut words, used, Profile::BASE, b"sqrt", &[], &[BOOL]),
         refused(Reason::NoOverload, 0, 9)
     );
     assert_eq!(
-        call(&mut words[..36], used, b"modf", &[], &[8]),
+        call(&mut words[..36], used, Profile::BASE, b"modf", &[], &[8]),
         refused(Reason::NoRoom, 0, 9)
     );
 }
@@ -350,15 +353,20 @@ fn sheets() {
 
     let (mut words, used) = table(&[[REF, 0, 2, F32]]);
     assert_eq!(
-        sheet(&mut words, used, &[1, 0]),
+        sheet(&mut words, used, Profile::BASE, &[1, 0]),
         refused(Reason::Framing, 0, 8)
     );
     assert_eq!(
-        sheet(&mut words, 6, &[1, 0, 0]),
+        sheet(&mut words, 6, Profile::BASE, &[1, 0, 0]),
         refused(Reason::Unsound, 0, 6)
     );
     assert_eq!(
-        sheet(&mut words, used, &[1, 0, 6, 2, 1, 7, 2, 2, 1]),
+        sheet(
+            &mut words,
+            used,
+            Profile::BASE,
+            &[1, 0, 6, 2, 1, 7, 2, 2, 1]
+        ),
         refused(Reason::Reference, 6, 8)
     );
     // What an accepted item entered stays where the next is refused.
@@ -366,13 +374,19 @@ fn sheets() {
         sheet(
             &mut words,
             used,
+            Profile::BASE,
             &[1, 0, 12, 8, 6, 7, 0, 0, 0, 3, 0, 5, 2, 2, 0]
         ),
         refused(Reason::NoOverload, 12, 9)
     );
     assert_eq!(words[32..36], [VEC, 3, 0, F32]);
     assert_eq!(
-        sheet(&mut words[..36], 9, &[1, 0, 9, 8, 6, 7, 0, 0, 0, 4, 0, 5]),
+        sheet(
+            &mut words[..36],
+            9,
+            Profile::BASE,
+            &[1, 0, 9, 8, 6, 7, 0, 0, 0, 4, 0, 5]
+        ),
         refused(Reason::NoRoom, 3, 9)
     );
 }

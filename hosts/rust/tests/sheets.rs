@@ -1,12 +1,15 @@
-//! A sheet does what the single calls do, item by item: made-up sheets of pushes, operators and calls, of which many meet the same operands again.
-use swartabelk::{binary, call, sheet, unary, Answer, Reason, Refusal, SCALARS};
+//! A sheet does what the single calls do, item by item: made-up sheets of pushes, operators and calls, of which many meet the same operands again. And what it does in
+//! profile 0 it does in profile 1 too, but where profile 0 lacks a name.
+use swartabelk::{
+    binary, call, call_name, sheet, unary, Answer, Profile, Reason, Refusal, SCALARS,
+};
 
 /// The stack's values, and the bytes that a sheet may have after its header.
 const VALUES: usize = 64;
 const LONGEST: usize = 60_000;
 
-/// What is called, and on how many operands. One name is no builtin's.
-const CALLS: [(&str, usize); 27] = [
+/// What is called, and on how many operands. One name is no builtin's, and nine are those of profile 1 alone.
+const CALLS: [(&str, usize); 36] = [
     ("abs", 1),
     ("all", 1),
     ("any", 1),
@@ -27,12 +30,21 @@ const CALLS: [(&str, usize); 27] = [
     ("modf", 1),
     ("nothing", 1),
     ("pow", 2),
+    ("quadBroadcast", 2),
+    ("quadSwapX", 1),
     ("reverseBits", 1),
     ("select", 3),
     ("sign", 1),
     ("smoothstep", 3),
     ("sqrt", 1),
     ("step", 2),
+    ("subgroupAdd", 1),
+    ("subgroupAll", 1),
+    ("subgroupAnd", 1),
+    ("subgroupBallot", 1),
+    ("subgroupElect", 0),
+    ("subgroupShuffle", 2),
+    ("subgroupShuffleUp", 2),
     ("transpose", 1),
 ];
 
@@ -84,19 +96,21 @@ impl Item {
 
 #[derive(Clone)]
 struct State {
+    profile: Profile,
     words: [u32; 1024],
     used: u32,
     stack: Vec<u32>,
 }
 
 impl State {
-    fn new() -> State {
+    fn new(profile: Profile) -> State {
         let mut words = [0; 1024];
         words[..28].copy_from_slice(&SCALARS);
         for (i, e) in ENTRIES.iter().enumerate() {
             words[28 + 4 * i..32 + 4 * i].copy_from_slice(e);
         }
         State {
+            profile,
             words,
             used: 7 + ENTRIES.len() as u32,
             stack: Vec::new(),
@@ -128,9 +142,15 @@ impl State {
             Item::Push(_) => unreachable!(),
             Item::Unary(op) => unary(&mut self.words, self.used, op as u32, a[0]),
             Item::Binary(op) => binary(&mut self.words, self.used, op as u32, a[0], a[1]),
-            Item::Call(name, _) => call(&mut self.words, self.used, name.as_bytes(), &[], a),
+            Item::Call(name, _) => {
+                let name = name.as_bytes();
+                call(&mut self.words, self.used, self.profile, name, &[], a)
+            }
         };
         if let Answer::Type { number, used } = answer {
+            if below == VALUES {
+                return self.refused(Reason::Stack);
+            }
             self.stack.truncate(below);
             self.stack.push(number);
             self.used = used;
@@ -161,7 +181,7 @@ fn any_item(dice: &mut Dice, state: &State) -> Item {
         _ => {
             let (name, k) = CALLS[dice.below(CALLS.len())];
             let amiss = dice.below(32) == 0;
-            Item::Call(name, if amiss { k - 1 } else { k })
+            Item::Call(name, if amiss { k ^ 1 } else { k })
         }
     }
 }
@@ -180,8 +200,8 @@ fn mild_item(dice: &mut Dice) -> Item {
 
 /// A sheet of so many tries, and what the single calls say that it answers and leaves. An item that is refused is left out. A wild sheet ends at one such in 50; in
 /// a mild one nothing is pushed after half of the tries, until one value stands.
-fn made(dice: &mut Dice, most: usize, wild: bool) -> (Vec<u8>, Answer, State) {
-    let mut state = State::new();
+fn made(dice: &mut Dice, profile: Profile, most: usize, wild: bool) -> (Vec<u8>, Answer, State) {
+    let mut state = State::new(profile);
     let mut bytes = vec![1, 0, 0];
     let mut stopped = None;
     for i in 0..most {
@@ -227,27 +247,52 @@ fn made(dice: &mut Dice, most: usize, wild: bool) -> (Vec<u8>, Answer, State) {
     (bytes, stopped.unwrap_or(end), state)
 }
 
+/// Whether profile 0 refuses a sheet at a name that profile 1 has.
+fn lacks_a_name(bytes: &[u8], answer: Answer) -> bool {
+    match answer {
+        Answer::Refused(r) if r.reason == Reason::Unknown => {
+            let name = call_name(bytes, r.place as usize);
+            name.starts_with(b"subgroup") || name.starts_with(b"quad")
+        }
+        _ => false,
+    }
+}
+
 #[test]
 fn sheets_do_what_single_calls_do() {
     let mut dice = Dice(0x5eed_5eed_5eed_5eed);
     let mut reasons = [0; 14];
+    let (mut lacking, mut alike) = (0, 0);
     for k in 0..2000 {
+        let profile = [Profile::BASE, Profile::SUBGROUPS][k / 2 % 2];
         let (bytes, told, after) = made(
             &mut dice,
-            if k % 100 < 2 { 20_000 } else { 400 },
+            profile,
+            if k % 100 < 4 { 20_000 } else { 400 },
             k % 2 == 0,
         );
-        let mut state = State::new();
-        let answer = sheet(&mut state.words, state.used, &bytes);
-        assert_eq!(answer, told, "sheet {k}: {bytes:?}");
-        assert_eq!(state.words, after.words, "sheet {k}: {bytes:?}");
-        match answer {
+        let run = |profile| {
+            let mut state = State::new(profile);
+            let answer = sheet(&mut state.words, state.used, profile, &bytes);
+            (answer, state.words)
+        };
+        assert_eq!(run(profile), (told, after.words), "sheet {k}: {bytes:?}");
+        let base = run(Profile::BASE);
+        if lacks_a_name(&bytes, base.0) {
+            lacking += 1;
+        } else {
+            assert_eq!(base, run(Profile::SUBGROUPS), "sheet {k}: {bytes:?}");
+            alike += 1;
+        }
+        match told {
             Answer::Refused(r) => reasons[r.reason as usize] += 1,
             _ => reasons[0] += 1,
         }
     }
-    println!("sheets by refusal, 0 for a type: {reasons:?}");
+    println!("sheets by refusal, 0 for a type: {reasons:?}; {alike} alike in both profiles, {lacking} with a name that profile 0 lacks");
     for reason in [0, 2, 3, 4, 7, 8, 11] {
         assert_ne!(reasons[reason], 0, "no sheet ends with {reason}");
     }
+    assert_ne!(lacking, 0);
+    assert_ne!(alike, 0);
 }
