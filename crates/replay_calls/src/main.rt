@@ -1,4 +1,5 @@
-// Replays answers for the builtins, and writes how many rows agreed. The first character of a line of standard input says what it is:
+// Replays answers for the builtins, and writes how many rows agreed. Every row is answered in both profiles, and agrees only where both answers are the one
+// that it has. The first character of a line of standard input says what it is:
 // `#` a group: the operand count of its calls and the builtin's name, as `#2 atan2`;
 // `+` a single row: the answer's character, the operand count, four characters of operand types and the name, as `+5 3 555  fma`;
 // `*` a title, written with the counts since the title before;
@@ -17,6 +18,12 @@ const SINGLE: u8 = b'+';
 const TITLE: u8 = b'*';
 
 const ALL_REFUSED: u8 = b'-';
+// The profiles, and a character that no row has.
+const FEWER: u32 = 0;
+
+const SUBGROUPS: u32 = 1;
+
+const NOT_BOTH: u8 = b'/';
 // Where the name begins in the line of a group, and where the operand count, the operands and the name do in a single row.
 const NAME_AT: usize = 3;
 
@@ -36,10 +43,20 @@ struct State {
     rows: u64,
 }
 
-// The character of the answer of a call.
-fn answered(words: &mut [u32], used: usize, name: &[u8], args: &[u32]) -> u8 {
-    let a = call_ty::type_builtin_fn(words, used, name, &args[0..0], args);
+// The character of the answer of a call in a profile.
+fn answered_in(words: &mut [u32], used: usize, profile: u32, name: &[u8], args: &[u32]) -> u8 {
+    let a = call_ty::type_builtin_fn(words, used, profile, name, &args[0..0], args);
     vectors::answer_char(words, a)
+}
+
+// The character of the answer of a call in both profiles, or one that no row has where the two differ.
+fn answered(words: &mut [u32], used: usize, name: &[u8], args: &[u32]) -> u8 {
+    let fewer = answered_in(words, used, FEWER, name, args);
+    let subgroups = answered_in(words, used, SUBGROUPS, name, args);
+    if fewer != subgroups {
+        return NOT_BOTH;
+    }
+    fewer
 }
 
 // The character of the answer at a line of a group and a column of the line.

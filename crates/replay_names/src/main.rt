@@ -1,16 +1,27 @@
-// Replays names from standard input, a line each: three digits of the rule, a blank and the name, as `012 acos`, or `---` for bytes that are no name.
+// Replays names from standard input, a line each: three digits of the rule, a blank, or `+` for a name that profile 1 adds, and the name, as `012 acos` or
+// `047+subgroupAdd`; or `---`, a blank and bytes that are no name. Each is asked for in profile 0, in profile 1 and in two unknown ones, which have no name.
 // A line that begins with `#` ends a group: it is written with the group's counts.
 use names::RuleNo;
 ghost use mathlib.Core.Path.{_≡_};
+ghost use Prim.Native.Nat.{_≤_};
+ghost use lib.ListN.{length};
 ghost use Rattle.names.specs.inner.Table.{nameTable};
 
 const GROUP: u8 = b'#';
 
 const NO_RULE: u8 = b'-';
 
+const ADDED: u8 = b'+';
+
 const ZERO: u8 = b'0';
-// Where the name begins in its line.
+// Where the mark of a name of profile 1 stands in its line, and where the name begins.
+const MARK_AT: usize = 3;
+
 const NAME_AT: usize = 4;
+// The first profile that is unknown, and the last.
+const NO_PROFILE: u32 = 2;
+
+const LAST_PROFILE: u32 = 4294967295;
 
 enum Verdict {
     Group,
@@ -36,6 +47,17 @@ fn is_reply(reply: RuleNo, hundreds: u8, tens: u8, ones: u8) -> bool {
     }
 }
 
+// Whether the reply in a profile is right, which has a line's name or not.
+fn is_right(rows: &[u8], profile: u32, has: bool, line: &[u8]) -> bool
+    requires { ⌜ (now rows ≡ nameTable) × (4 ≤ length (now line)) ⌝ }
+{
+    let reply = names::rule_of(rows, profile, &line[NAME_AT..]);
+    if has {
+        return is_reply(reply, line[0], line[1], line[2]);
+    }
+    is_reply(reply, NO_RULE, NO_RULE, NO_RULE)
+}
+
 fn judged(rows: &[u8], line: &[u8]) -> Verdict
     requires { ⌜ now rows ≡ nameTable ⌝ }
 {
@@ -46,8 +68,11 @@ fn judged(rows: &[u8], line: &[u8]) -> Verdict
     if first == GROUP {
         return Verdict::Group;
     }
-    let reply = names::rule_of(rows, &line[NAME_AT..]);
-    if !is_reply(reply, first, line[1], line[2]) {
+    let profile_0 = is_right(rows, 0, line[MARK_AT] != ADDED, line);
+    let profile_1 = is_right(rows, 1, true, line);
+    let no_profile = is_right(rows, NO_PROFILE, false, line);
+    let last_profile = is_right(rows, LAST_PROFILE, false, line);
+    if !(profile_0 & profile_1 & no_profile & last_profile) {
         return Verdict::Wrong;
     }
     if first == NO_RULE {

@@ -1,3 +1,5 @@
 pub mod Puts
 pub mod Decimals
+pub mod Numbers
+pub mod ReadBack
 pub mod OneReply

@@ -8,6 +8,9 @@ use borrow.Author.Needs.{needs}
 use Rattle.typesheet.proofs.main.Statement.{statement}
 use Rattle.typesheet.proofs.main.Tie as tie
 
+profile-requires : tie.Need-profile-requires
+profile-requires c κs = search needs
+
 large-buffer-requires : tie.Need-large-buffer-requires
 large-buffer-requires c κs = search needs
 
@@ -35,8 +38,8 @@ array-share-prefix-out c = search needs
 slice-aggregate-write-all : tie.Need-slice-aggregate-write-all
 slice-aggregate-write-all c =
     let a = c .before .before .answer-sheet in
-    let n : length (a .last .1 .0) ≡ 32768 = put-long (a .ensures .0) in
-    sym (length-take-le (a .result) (a .last .1 .0) (omega (arith, n, a .ensures .1)))
+    let n : length (a .last .1 .1 .0) ≡ 32768 = put-long (a .ensures .0) in
+    sym (length-take-le (a .result) (a .last .1 .1 .0) (omega (arith, n, a .ensures .1)))
 
 write-all-requires : tie.Need-write-all-requires
 write-all-requires c κs = search needs
@@ -48,6 +51,7 @@ pub main-spec : {M : Type 1} → statement M
 main-spec =
     tie.close
     (tie.spec
+    profile-requires
     large-buffer-requires
     slice-aggregate-read-full
     read-full-requires
