@@ -98,7 +98,16 @@ fn one_turn(
     let found = frame::item_in(items, at);
     let item = found.item;
     let d = memo::noted_step(
-        items, rows, profile, item, at, stack, count, table, used, memo,
+        items,
+        rows,
+        profile,
+        item,
+        at,
+        stack,
+        count,
+        table,
+        used,
+        memo,
     );
     turn_by(d, HEADER + items.len(), at, found.next, stack)
 }
@@ -149,7 +158,17 @@ fn run_on(
     let mut at = HEADER;
     loop {
         let r = rush(items, Place(at), stack, count, table, used, memo);
-        match one_turn(items, rows, profile, r.at, stack, r.count, table, used, memo) {
+        match one_turn(
+            items,
+            rows,
+            profile,
+            r.at,
+            stack,
+            r.count,
+            table,
+            used,
+            memo,
+        ) {
             Turn::More {
                 count: c,
                 used: u,
@@ -174,7 +193,15 @@ fn run(items: &[u8], profile: u32, table: &mut [u32], used: usize) -> Answer
     let rows = names::name_table();
     let mut values = [0u32; VALUES];
     let mut results = [0u64; SLOTS];
-    run_on(items, &rows, profile, table, used, &mut values, &mut results)
+    run_on(
+        items,
+        &rows,
+        profile,
+        table,
+        used,
+        &mut values,
+        &mut results,
+    )
 }
 
 // For a host: the type of a whole sheet over a table of n entries, in a profile.

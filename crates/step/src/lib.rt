@@ -195,7 +195,18 @@ fn call(
     }
     let bytes = frame::name_in(items, name);
     let list: [u32; 0] = [];
-    call_on(rows, profile, bytes, &list, k, at, stack, count, table, used)
+    call_on(
+        rows,
+        profile,
+        bytes,
+        &list,
+        k,
+        at,
+        stack,
+        count,
+        table,
+        used,
+    )
 }
 
 fn call_template(
@@ -225,7 +236,18 @@ fn call_template(
     let bytes = frame::name_in(items, name);
     let first = template as u32;
     let list = [first];
-    call_on(rows, profile, bytes, &list, wanted, at, stack, count, table, used)
+    call_on(
+        rows,
+        profile,
+        bytes,
+        &list,
+        wanted,
+        at,
+        stack,
+        count,
+        table,
+        used,
+    )
 }
 
 // The type of an entry, entered where it is absent, as one value more.
@@ -282,7 +304,18 @@ pub fn step(
         Item::Push(t) => push(t, at, stack, count, table, used),
         Item::Unary(op) => operator(op, UNARY, at, stack, count, table, used),
         Item::Binary(op) => operator(op, BINARY, at, stack, count, table, used),
-        Item::Call { count: k, name } => call(items, rows, profile, name, k, at, stack, count, table, used),
+        Item::Call { count: k, name } => call(
+            items,
+            rows,
+            profile,
+            name,
+            k,
+            at,
+            stack,
+            count,
+            table,
+            used,
+        ),
         Item::CallTemplate {
             template,
             count: k,
