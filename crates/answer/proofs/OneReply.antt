@@ -1,7 +1,7 @@
 -- For each public function: no second reply meets its promise. Assumes nothing.
 use Prim.Native.Nat.{ℕ}
 use mathlib.Core.Path.{_≡_, sym, _∙_}
-use Rattle.answer.specs.Answer.{reasonNo, usedOf, Accepted, WithoutValue, RefusedWith}
+use Rattle.answer.specs.Answer.{reasonNo, lackingOf, usedOf, Accepted, WithoutValue, RefusedWith}
 use Rattle.answer.specs.declared.TypeNo.{TypeNo}
 use Rattle.answer.specs.declared.Place.{Place}
 use Rattle.answer.specs.declared.Reason.{Reason}
@@ -18,6 +18,9 @@ refused-one x y = x .made ∙ sym (y .made)
 
 pub reason-no-one : (r : Reason) {a b : ℕ} → a ≡ reasonNo r → b ≡ reasonNo r → a ≡ b
 reason-no-one r x y = x ∙ sym y
+
+pub lacking-of-one : (r : Reason) {a b : ℕ} → a ≡ lackingOf r → b ≡ lackingOf r → a ≡ b
+lacking-of-one r x y = x ∙ sym y
 
 pub used-of-one : (x : Answer) {a b : ℕ} → a ≡ usedOf x → b ≡ usedOf x → a ≡ b
 used-of-one x p q = p ∙ sym q

@@ -1,4 +1,4 @@
--- Document 01, "What is answered": the number of each refusal, and the numbers of an answer. Assumes nothing.
+-- Document 01, "What is answered", and document 02, K2: the number of each refusal, and the numbers of an answer. Assumes nothing.
 use Prim.Native.Nat.{ℕ}
 use mathlib.Core.Path.{_≡_}
 use mathlib.Core.List.{List, [], _∷_}
@@ -23,24 +23,41 @@ reasonNo Template = 5
 reasonNo Count = 6
 reasonNo Operands = 7
 reasonNo NoOverload = 8
-reasonNo NoRoom = 9
+reasonNo (NoRoom k) = 9
 reasonNo Framing = 10
 reasonNo Stack = 11
 reasonNo TooLong = 12
 reasonNo NonePreferred = 13
 
--- an answer in document 01's numbers: the refusal's number, 0 for none; the type's number, or nothing; the place; the used count
+-- "Refusal 9 should carry how many entries lack"; "Other replies carry 0"
+abbrev pub lackingOf : Reason → ℕ
+lackingOf Unsound = 0
+lackingOf NoSuchType = 0
+lackingOf Reference = 0
+lackingOf Unknown = 0
+lackingOf Template = 0
+lackingOf Count = 0
+lackingOf Operands = 0
+lackingOf NoOverload = 0
+lackingOf (NoRoom k) = k
+lackingOf Framing = 0
+lackingOf Stack = 0
+lackingOf TooLong = 0
+lackingOf NonePreferred = 0
+
+-- an answer in the documents' numbers: the refusal's number, 0 for none; the type's number, or nothing; the place; the used count; how many entries lack
 pub record Numbers : Type 0 where
   pub refusal : ℕ
   pub value : List ℕ
   pub place : ℕ
   pub used : ℕ
+  pub lacking : ℕ
 
 -- an accepted call gives a type number or "no value", and the used count; a refusal gives its number, place and used count
 abbrev pub numbersOf : Answer → Numbers
-numbersOf (Value t used) = record { refusal = 0; value = t .0 ∷ []; place = 0; used = used }
-numbersOf (NoValue used) = record { refusal = 0; value = []; place = 0; used = used }
-numbersOf (Refused r) = record { refusal = reasonNo (r .reason); value = []; place = r .place .0; used = r .used }
+numbersOf (Value t used) = record { refusal = 0; value = t .0 ∷ []; place = 0; used = used; lacking = 0 }
+numbersOf (NoValue used) = record { refusal = 0; value = []; place = 0; used = used; lacking = 0 }
+numbersOf (Refused r) = record { refusal = reasonNo (r .reason); value = []; place = r .place .0; used = r .used; lacking = lackingOf (r .reason) }
 
 abbrev pub usedOf : Answer → ℕ
 usedOf a = numbersOf a .used
@@ -55,12 +72,12 @@ refuse reason place used = Refused (record { reason = reason; place = record { 0
 -- what the three that build an answer promise
 pub record Accepted (t : TypeNo) (used : ℕ) (r : Answer) : Type 0 where
   pub made : r ≡ Value t used
-  pub numbers : numbersOf r ≡ record { refusal = 0; value = t .0 ∷ []; place = 0; used = used }
+  pub numbers : numbersOf r ≡ record { refusal = 0; value = t .0 ∷ []; place = 0; used = used; lacking = 0 }
 
 pub record WithoutValue (used : ℕ) (r : Answer) : Type 0 where
   pub made : r ≡ NoValue used
-  pub numbers : numbersOf r ≡ record { refusal = 0; value = []; place = 0; used = used }
+  pub numbers : numbersOf r ≡ record { refusal = 0; value = []; place = 0; used = used; lacking = 0 }
 
 pub record RefusedWith (reason : Reason) (place : Place) (used : ℕ) (r : Answer) : Type 0 where
   pub made : r ≡ Refused (record { reason = reason; place = place; used = used })
-  pub numbers : numbersOf r ≡ record { refusal = reasonNo reason; value = []; place = place .0; used = used }
+  pub numbers : numbersOf r ≡ record { refusal = reasonNo reason; value = []; place = place .0; used = used; lacking = lackingOf reason }

@@ -1,6 +1,6 @@
 // The one answer that every call gives, and the numbers of its refusals.
 ghost use mathlib.Core.Path.{_≡_};
-ghost use Rattle.answer.specs.Answer.{reasonNo, usedOf, Accepted, WithoutValue, RefusedWith};
+ghost use Rattle.answer.specs.Answer.{reasonNo, lackingOf, usedOf, Accepted, WithoutValue, RefusedWith};
 
 // The number of a table entry.
 pub struct TypeNo(pub usize);
@@ -8,7 +8,7 @@ pub struct TypeNo(pub usize);
 // An offset in a sheet.
 pub struct Place(pub usize);
 
-// Why a call is refused, in the order of the refusal numbers 1 to 13.
+// Why a call is refused, in the order of the refusal numbers 1 to 13. For want of room: how many entries lack.
 pub enum Reason {
     Unsound,
     NoSuchType,
@@ -18,7 +18,7 @@ pub enum Reason {
     Count,
     Operands,
     NoOverload,
-    NoRoom,
+    NoRoom(u32),
     Framing,
     Stack,
     TooLong,
@@ -74,11 +74,32 @@ pub fn reason_no(r: Reason) -> u8
         Reason::Count => 6,
         Reason::Operands => 7,
         Reason::NoOverload => 8,
-        Reason::NoRoom => 9,
+        Reason::NoRoom(_) => 9,
         Reason::Framing => 10,
         Reason::Stack => 11,
         Reason::TooLong => 12,
         Reason::NonePreferred => 13,
+    }
+}
+
+// How many entries lack, which only the refusal for want of room tells.
+pub fn lacking_of(r: Reason) -> u32
+    ensures { λ k. ⌜ k ≡ lackingOf r ⌝ }
+{
+    match r {
+        Reason::Unsound => 0,
+        Reason::NoSuchType => 0,
+        Reason::Reference => 0,
+        Reason::Unknown => 0,
+        Reason::Template => 0,
+        Reason::Count => 0,
+        Reason::Operands => 0,
+        Reason::NoOverload => 0,
+        Reason::NoRoom(k) => k,
+        Reason::Framing => 0,
+        Reason::Stack => 0,
+        Reason::TooLong => 0,
+        Reason::NonePreferred => 0,
     }
 }
 

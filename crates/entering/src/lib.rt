@@ -76,8 +76,9 @@ pub fn enter(words: &mut [u32], n: usize, e: Entry) -> Entered
     match f {
         Found::At(t) => Entered::There(t, n),
         Found::Nothing => {
-            if free_of(words, n) < 1 {
-                return Entered::Full;
+            let room = free_of(words, n);
+            if room < 1 {
+                return Entered::Lacks((1 - room) as u32);
             }
             put_entry(words, n, e);
             Entered::There(TypeNo(n), n + 1)
@@ -103,8 +104,9 @@ fn enter_both(words: &mut [u32], n: usize, inner: Entry, outer: Entry) -> Entere
     requires { ⌜ Sound (now words) n × (findIn (now words) n inner ≡ Nothing) ⌝ }
     ensures { λ r. ⌜ EnterTwoDone (now (words .entry)) n inner outer r (now (words .exit)) ⌝ }
 {
-    if free_of(words, n) < 2 {
-        return Entered::Full;
+    let room = free_of(words, n);
+    if room < 2 {
+        return Entered::Lacks((2 - room) as u32);
     }
     put_entry(words, n, inner);
     put_entry(words, n + 1, container_of(outer, n));
@@ -129,7 +131,7 @@ pub fn answer_of(place: Place, n: usize, r: Entered) -> Answer
 {
     match r {
         Entered::There(t, m) => accepted(t, m),
-        Entered::Full => refused(Reason::NoRoom, place, n),
+        Entered::Lacks(k) => refused(Reason::NoRoom(k), place, n),
     }
 }
 

@@ -16,7 +16,7 @@ use Rattle.conv.proofs.Made.{same-ty}
 use Rattle.answer.specs.Answer.{accept, refuse}
 use Rattle.table.specs.Table.{scalars, putEntry, orElse, findIn, allowedb, Sound}
 use Rattle.table.specs.Denote.{typeAt, tyOf, made, kindOf, pOf, qOf}
-use Rattle.table.specs.Enter.{free}
+use Rattle.table.specs.Enter.{free, lacking}
 use Rattle.table.specs.Stands.{Absent, Stands}
 use Rattle.table.specs.Stands.Part.{whole, inside}
 use Rattle.table.specs.Placing.{standsIn, Standing, standsAt, entryOf, placed, Outcome, turnedDown, entering}
@@ -201,7 +201,7 @@ module _ (place : ℕ) (w : List ℕ) (n : ℕ) (R : Ty) where
   unfolding entering
   there-is-room b = rw b
 
-  there-is-none : leb (placed w n R .used - n) (free w n) ≡ false → entering place w n R ≡ turnedDown NoRoom place w n
+  there-is-none : leb (placed w n R .used - n) (free w n) ≡ false → entering place w n R ≡ turnedDown (NoRoom (lacking w n (placed w n R .used - n))) place w n
   unfolding entering
   there-is-none b = rw b
 
@@ -219,7 +219,7 @@ module _ (place : ℕ) (w : List ℕ) (n : ℕ) (s : Sound w n) (R : Ty) (f : fo
       let z : placed w n R .words ≡ v = ap (λ (o : Outcome). o .words) q in
       rw (x, y, z) at (g .stands))
       (λ b.
-      let a : refuse NoRoom place n ≡ Value t m = ap (λ (o : Outcome). o .answer) (sym (there-is-none place w n R b) ∙ h) in
+      let a : refuse (NoRoom (lacking w n (placed w n R .used - n))) place n ≡ Value t m = ap (λ (o : Outcome). o .answer) (sym (there-is-none place w n R b) ∙ h) in
       absurd (let z : _≡_ {A = ℕ} 0 1 = cc in omega arith))
 
   -- the entries that were added were missing
@@ -228,7 +228,7 @@ module _ (place : ℕ) (w : List ℕ) (n : ℕ) (s : Sound w n) (R : Ty) (f : fo
 
   -- refused: no word changes, and R is absent and lacks room
   pub entering-refused : (r : Refusal) (v : List ℕ) → entering place w n R ≡ record { answer = Refused r; words = v }
-      → (v ≡ w) × (r ≡ record { reason = NoRoom; place = record { 0 = place }; used = n }) × Absent w n R × (free w n < placed w n R .used - n)
+      → (v ≡ w) × (r ≡ record { reason = NoRoom (lacking w n (placed w n R .used - n)); place = record { 0 = place }; used = n }) × Absent w n R × (free w n < placed w n R .used - n)
   entering-refused r v h =
       split (leb (placed w n R .used - n) (free w n))
       (λ b.
@@ -236,7 +236,7 @@ module _ (place : ℕ) (w : List ℕ) (n : ℕ) (s : Sound w n) (R : Ty) (f : fo
       absurd (let z : _≡_ {A = ℕ} 0 1 = cc in omega arith))
       (λ b.
       let q = sym (there-is-none place w n R b) ∙ h in
-      let a : refuse NoRoom place n ≡ Refused r = ap (λ (o : Outcome). o .answer) q in (
+      let a : refuse (NoRoom (lacking w n (placed w n R .used - n))) place n ≡ Refused r = ap (λ (o : Outcome). o .answer) q in (
         sym (ap (λ (o : Outcome). o .words) q),
         cc,
         (λ i l e.
@@ -253,5 +253,5 @@ module _ (place : ℕ) (w : List ℕ) (n : ℕ) (s : Sound w n) (R : Ty) (f : fo
       let a : accept (placed w n R .number) (placed w n R .used) ≡ NoValue m = ap (λ (o : Outcome). o .answer) (sym (there-is-room place w n R b) ∙ h) in
       let z : _≡_ {A = ℕ} 0 1 = cc in omega arith)
       (λ b.
-      let a : refuse NoRoom place n ≡ NoValue m = ap (λ (o : Outcome). o .answer) (sym (there-is-none place w n R b) ∙ h) in
+      let a : refuse (NoRoom (lacking w n (placed w n R .used - n))) place n ≡ NoValue m = ap (λ (o : Outcome). o .answer) (sym (there-is-none place w n R b) ∙ h) in
       let z : _≡_ {A = ℕ} 0 1 = cc in omega arith)

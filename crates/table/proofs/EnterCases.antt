@@ -16,7 +16,7 @@ use Rattle.table.specs.declared.Entry.{Entry}
 use Rattle.answer.specs.declared.TypeNo.{TypeNo}
 use Rattle.table.specs.declared.Found.the-variants.{At, Nothing}
 use Rattle.table.specs.declared.Entered.{Entered}
-use Rattle.table.specs.declared.Entered.the-variants.{There, Full}
+use Rattle.table.specs.declared.Entered.the-variants.{There, Lacks}
 use Rattle.table.proofs.TableLaws.{elemOf}
 use Rattle.table.proofs.SoundLaws.{and-left, and-right, find-miss}
 use Rattle.table.proofs.Giving.{gave}
@@ -48,7 +48,7 @@ module _ (w : List ℕ) (n : ℕ) (e : Entry) where
       let k = le-leb 0 (free w n) (omega arith) in
       record { reply = rw (m, k, h) (ap (There t) z); words = rw (m, k, h) }
 
-  pub enter-full : findIn w n e ≡ Nothing → free w n < 1 → EnterDone w n e Full w
+  pub enter-full : findIn w n e ≡ Nothing → free w n < 1 → EnterDone w n e (Lacks (1 - free w n)) w
   unfolding entered enterWords
   enter-full h f =
       let m = missing-none h in
@@ -105,7 +105,7 @@ module _ (w : List ℕ) (n : ℕ) (inner outer : Entry) where
     unfolding missingTwo
     missing-both = rw (over-next, missing-none w n inner h, missing-none w n (container outer n) (outer-absent w n s n (s .low) (omega arith) outer))
 
-    pub two-full : free w n < 2 → EnterTwoDone w n inner outer Full w
+    pub two-full : free w n < 2 → EnterTwoDone w n inner outer (Lacks (2 - free w n)) w
     unfolding enteredTwo enterTwoWords
     two-full f =
         let k = lt-leb 2 (free w n) f in

@@ -13,7 +13,7 @@ use Rattle.conv.specs.Types.{Ty, isWidth, isFloat, formed}
 use Rattle.conv.specs.Types.Ty.{scalar}
 use Rattle.table.specs.Table.{stride, scalars, ceiling, kindVec, kindMat, entryAt, putEntry, Key, entryKey, scalarOk, madeOk, entryOk, findIn, allowedb, Sound, Keeps}
 use Rattle.table.specs.Denote.{made, typeAt, tyOf}
-use Rattle.table.specs.Enter.{free, missing, entered, enterWords, EnterDone}
+use Rattle.table.specs.Enter.{free, lacking, missing, entered, enterWords, EnterDone}
 use Rattle.table.specs.Stands.{Absent, Part, Stands}
 use Rattle.conv.specs.Rank.{elementOf}
 use Rattle.table.specs.Stands.Part.{whole, inside}
@@ -21,7 +21,7 @@ use Rattle.table.specs.declared.Entry.{Entry}
 use Rattle.answer.specs.declared.TypeNo.{TypeNo}
 use Rattle.table.specs.declared.Found.{Found}
 use Rattle.table.specs.declared.Found.the-variants.{At, Nothing}
-use Rattle.table.specs.declared.Entered.the-variants.{There, Full}
+use Rattle.table.specs.declared.Entered.the-variants.{There, Lacks}
 use Rattle.table.proofs.TableLaws.{elemOf}
 use Rattle.table.proofs.SoundLaws.{and-left, and-right, find-at, find-unique, put-length, put-keeps, put-entry, put-sound}
 use Rattle.table.proofs.KindLaws.{split, isScalar}
@@ -60,14 +60,14 @@ put-beyond w i e k l =
     simp getD-set-other
 
 -- room is lacking exactly when fewer entries are free than are missing, and then no word changes
-pub enter-lacks : (w : List ℕ) (n : ℕ) (e : Entry) → entered w n e ≡ Full → (free w n < missing w n e) × (enterWords w n e ≡ w)
+pub enter-lacks : (w : List ℕ) (n : ℕ) (e : Entry) (k : ℕ) → entered w n e ≡ Lacks k → (free w n < missing w n e) × (k ≡ lacking w n (missing w n e)) × (enterWords w n e ≡ w)
 unfolding entered enterWords
-enter-lacks w n e h =
+enter-lacks w n e k h =
     split (leb (missing w n e) (free w n))
     (λ b. absurd (let q = rw b at h in let z : _≡_ {A = ℕ} 0 1 = cc in omega arith))
-    (λ b. (leb-false _ _ b, rw b))
+    (λ b. (leb-false _ _ b, (let q = rw b at h in cc), rw b))
 
-pub lacks-enter : (w : List ℕ) (n : ℕ) (e : Entry) → free w n < missing w n e → entered w n e ≡ Full
+pub lacks-enter : (w : List ℕ) (n : ℕ) (e : Entry) → free w n < missing w n e → entered w n e ≡ Lacks (lacking w n (missing w n e))
 unfolding entered
 lacks-enter w n e h = rw (lt-leb _ _ h)
 
@@ -249,8 +249,8 @@ module _ (w : List ℕ) (n : ℕ) (s : Sound w n) where
     one-present t l h = enter-found w n e _ (found-at t l h)
 
     -- room lacks only for a type that is absent
-    pub one-full : entered w n e ≡ Full → Absent w n (tyOf w e)
-    one-full q i l h =
+    pub one-full : (k : ℕ) → entered w n e ≡ Lacks k → Absent w n (tyOf w e)
+    one-full k q i l h =
         let d = one-present i l h in
         let z : _≡_ {A = ℕ} 0 1 = cc in omega arith
 
@@ -258,11 +258,11 @@ module _ (w : List ℕ) (n : ℕ) (s : Sound w n) where
     pub enter-stands : {t : TypeNo} {m : ℕ} {v : List ℕ} → EnterDone w n e (There t m) v → Stands w n (tyOf w e) (t .0) m v
     enter-stands {t} {m} d = rw (d .words) (one-stands t m (sym (d .reply)))
 
-    pub enter-refuses : {v : List ℕ} → EnterDone w n e Full v → Absent w n (tyOf w e) × (free w n < missing w n e) × (v ≡ w)
-    enter-refuses d =
+    pub enter-refuses : {k : ℕ} {v : List ℕ} → EnterDone w n e (Lacks k) v → Absent w n (tyOf w e) × (free w n < missing w n e) × (k ≡ lacking w n (missing w n e)) × (v ≡ w)
+    enter-refuses {k} d =
         let f = sym (d .reply) in
-        let x = enter-lacks w n e f in
-        (one-full f, x .0, d .words ∙ x .1)
+        let x = enter-lacks w n e k f in
+        (one-full k f, x .0, x .1, d .words ∙ x .2)
 
 -- what is added was absent
 pub added-absent : {w v : List ℕ} {n t m : ℕ} {R : Ty} → Stands w n R t m v → (i : ℕ) → n ≤ i → i < m → Absent w n (typeAt v i)

@@ -10,7 +10,7 @@ use borrow.Author.Tests.{lt-leb, ltb-true, ltb-false, leb-true, leb-false, not-t
 use Rattle.conv.specs.Types.{Ty, formed}
 use Rattle.table.specs.Table.{stride, ceiling, kindVec, kindMat, kindAtomic, entryAt, putEntry, findIn, allowedb, Sound}
 use Rattle.table.specs.Denote.{made, typeAt, tyOf}
-use Rattle.table.specs.Enter.{free, entered, enterWords, container, missingTwo, enteredTwo, enterTwoWords, EnterTwoDone}
+use Rattle.table.specs.Enter.{free, lacking, entered, enterWords, container, missingTwo, enteredTwo, enterTwoWords, EnterTwoDone}
 use Rattle.table.specs.Stands.{Absent, Part, Stands}
 use Rattle.conv.specs.Rank.{elementOf}
 use Rattle.table.specs.Stands.Part.{inside}
@@ -18,7 +18,7 @@ use Rattle.table.specs.declared.Entry.{Entry}
 use Rattle.answer.specs.declared.TypeNo.{TypeNo}
 use Rattle.table.specs.declared.Found.{Found}
 use Rattle.table.specs.declared.Found.the-variants.{At, Nothing}
-use Rattle.table.specs.declared.Entered.the-variants.{There, Full}
+use Rattle.table.specs.declared.Entered.the-variants.{There, Lacks}
 use Rattle.table.proofs.SoundLaws.{and-left, and-right}
 use Rattle.table.proofs.KindLaws.{split, clash, by-kind, isScalar}
 use Rattle.table.proofs.TypeLaws.{type-keeps, elem-of, elem-in}
@@ -93,14 +93,15 @@ stands-after {w} {u} {v} {n} {k} {m} {t} {j} {I} {R} a p b =
     }
 
 -- room is lacking exactly when fewer entries are free than are missing, and then no word changes
-pub two-lacks : (w : List ℕ) (n : ℕ) (inner outer : Entry) → enteredTwo w n inner outer ≡ Full → (free w n < missingTwo w n inner outer) × (enterTwoWords w n inner outer ≡ w)
+pub two-lacks : (w : List ℕ) (n : ℕ) (inner outer : Entry) (k : ℕ) → enteredTwo w n inner outer ≡ Lacks k
+    → (free w n < missingTwo w n inner outer) × (k ≡ lacking w n (missingTwo w n inner outer)) × (enterTwoWords w n inner outer ≡ w)
 unfolding enteredTwo enterTwoWords
-two-lacks w n inner outer h =
+two-lacks w n inner outer k h =
     split (leb (missingTwo w n inner outer) (free w n))
     (λ b. absurd (let q = rw b at h in let z : _≡_ {A = ℕ} 0 1 = cc in omega arith))
-    (λ b. (leb-false _ _ b, rw b))
+    (λ b. (leb-false _ _ b, (let q = rw b at h in cc), rw b))
 
-pub lacks-two : (w : List ℕ) (n : ℕ) (inner outer : Entry) → free w n < missingTwo w n inner outer → enteredTwo w n inner outer ≡ Full
+pub lacks-two : (w : List ℕ) (n : ℕ) (inner outer : Entry) → free w n < missingTwo w n inner outer → enteredTwo w n inner outer ≡ Lacks (lacking w n (missingTwo w n inner outer))
 unfolding enteredTwo
 lacks-two w n inner outer h = rw (lt-leb _ _ h)
 
@@ -178,8 +179,8 @@ module _ (w : List ℕ) (n : ℕ) (s : Sound w n) (inner outer : Entry) (ok : al
       (one-present w n s o (present-allowed k under at) t l (q ∙ sym (present-type k under at)))
 
   -- room lacks only for a container that is absent
-  pub two-full-absent : enteredTwo w n inner outer ≡ Full → Absent w n (made outer (tyOf w inner))
-  two-full-absent q i l h =
+  pub two-full-absent : (k : ℕ) → enteredTwo w n inner outer ≡ Lacks k → Absent w n (made outer (tyOf w inner))
+  two-full-absent k q i l h =
       let d = two-present i l h in
       let z : _≡_ {A = ℕ} 0 1 = cc in omega arith
 
@@ -187,9 +188,9 @@ module _ (w : List ℕ) (n : ℕ) (s : Sound w n) (inner outer : Entry) (ok : al
   pub enter-two-stands : {t : TypeNo} {m : ℕ} {v : List ℕ} → EnterTwoDone w n inner outer (There t m) v → Stands w n (made outer (tyOf w inner)) (t .0) m v
   enter-two-stands {t} {m} d = rw (d .words) (two-stands t m (sym (d .reply)))
 
-  pub enter-two-refuses : {v : List ℕ} → EnterTwoDone w n inner outer Full v →
-      Absent w n (made outer (tyOf w inner)) × (free w n < missingTwo w n inner outer) × (v ≡ w)
-  enter-two-refuses d =
+  pub enter-two-refuses : {k : ℕ} {v : List ℕ} → EnterTwoDone w n inner outer (Lacks k) v →
+      Absent w n (made outer (tyOf w inner)) × (free w n < missingTwo w n inner outer) × (k ≡ lacking w n (missingTwo w n inner outer)) × (v ≡ w)
+  enter-two-refuses {k} d =
       let f = sym (d .reply) in
-      let x = two-lacks w n inner outer f in
-      (two-full-absent f, x .0, d .words ∙ x .1)
+      let x = two-lacks w n inner outer k f in
+      (two-full-absent k f, x .0, x .1, d .words ∙ x .2)

@@ -10,7 +10,7 @@ use Rattle.table.specs.Table.{kindVec, kindArray, kindRuntime, kindPtr, 
 use Rattle.table.specs.Denote.{made, typeAt}
 use Rattle.table.specs.Enter.{free, missing, entered, outerOver, missingTwo, enteredTwo}
 use Rattle.table.specs.declared.Entry.{Entry}
-use Rattle.table.specs.declared.Entered.the-variants.{There, Full}
+use Rattle.table.specs.declared.Entered.the-variants.{There, Lacks}
 
 entry : ℕ → ℕ → ℕ → ℕ → Entry
 entry k p q e = record { kind = k; p = p; q = q; elem = e }
@@ -110,7 +110,7 @@ vector-stands : entered table 10 (entry kindVec 3 0 f32) ≡ There (record { 0 =
 unfolding words start table entry entered missing free findIn
 vector-stands = refl
 
-result-full : enteredTwo spare 10 (entry kindVec 4 0 f32) (entry kindFrexp 0 0 0) ≡ Full
+result-full : enteredTwo spare 10 (entry kindVec 4 0 f32) (entry kindFrexp 0 0 0) ≡ Lacks 1
 unfolding words start table spare entry enteredTwo missingTwo outerOver missing free findIn
 result-full = refl
 

@@ -75,11 +75,11 @@ module _ (w : List ℕ) (n : ℕ) where
   unfolding enterTypeReply enterTypeWords
   enter-call s e k h = rw (k, h) (enter-outcome 0 w n s e h (entered w n e) (enterWords w n e) (record { reply = refl; words = refl }))
 
-  enter-unsound : (e : Entry) → soundb w n ≡ false → enterType w n e ≡ turnedDown Unsound 0 w n
+  pub enter-unsound : (e : Entry) → soundb w n ≡ false → enterType w n e ≡ turnedDown Unsound 0 w n
   unfolding enterTypeReply enterTypeWords
   enter-unsound e k = rw k
 
-  enter-forbidden : (e : Entry) → soundb w n ≡ true → allowedb w n e ≡ false → enterType w n e ≡ turnedDown Template 0 w n
+  pub enter-forbidden : (e : Entry) → soundb w n ≡ true → allowedb w n e ≡ false → enterType w n e ≡ turnedDown Template 0 w n
   unfolding enterTypeReply enterTypeWords
   enter-forbidden e k h = rw (k, h)
 

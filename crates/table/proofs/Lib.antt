@@ -14,3 +14,4 @@ pub mod Examples
 pub mod PlacingLaws
 pub mod Demand1
 pub mod Keeping
+pub mod Growing

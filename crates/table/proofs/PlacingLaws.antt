@@ -16,7 +16,7 @@ use Rattle.conv.proofs.Made.{same-ty, self-ty}
 use Rattle.answer.specs.Answer.{accept}
 use Rattle.table.specs.Table.{scalars, putEntry, orElse, findIn, allowedb, Sound, entryAt}
 use Rattle.table.specs.Denote.{typeAt, tyOf, made, kindOf, pOf, qOf}
-use Rattle.table.specs.Enter.{free, missing, numberOr, addAt, entered, enterWords, EnterDone, entryAnswer, container, EnterTwoDone}
+use Rattle.table.specs.Enter.{free, lacking, missing, numberOr, addAt, entered, enterWords, EnterDone, entryAnswer, container, EnterTwoDone}
 use Rattle.table.specs.Stands.{Absent}
 use Rattle.table.specs.Placing.{standsIn, Standing, standsAt, entryOf, placedOver, placed, Outcome, turnedDown, entering}
 use Rattle.table.specs.declared.Entry.{Entry}
@@ -25,7 +25,7 @@ use Rattle.answer.specs.declared.Reason.the-variants.{NoRoom}
 use Rattle.table.specs.declared.Found.{Found}
 use Rattle.table.specs.declared.Found.the-variants.{At, Nothing}
 use Rattle.table.specs.declared.Entered.{Entered}
-use Rattle.table.specs.declared.Entered.the-variants.{There, Full}
+use Rattle.table.specs.declared.Entered.the-variants.{There, Lacks}
 use Rattle.table.proofs.KindLaws.{split, isScalar}
 use Rattle.table.proofs.TypeLaws.{type-scalar, type-injective, type-words, elem-in, elem-of}
 use Rattle.table.proofs.FormedLaws.{allowed-row}
@@ -149,7 +149,7 @@ module _ (w : List ℕ) (n : ℕ) (s : Sound w n) where
 
 -- the outcome by what is missing
 outcome-by : (place : ℕ) (w : List ℕ) (n : ℕ) (R : Ty) (k d : ℕ) (v : List ℕ) → placed w n R ≡ standsAt k (n + d) v
-    → entering place w n R ≡ cond (leb d (free w n)) (record { answer = accept k (n + d); words = v }) (turnedDown NoRoom place w n)
+    → entering place w n R ≡ cond (leb d (free w n)) (record { answer = accept k (n + d); words = v }) (turnedDown (NoRoom (lacking w n d)) place w n)
 unfolding entering
 outcome-by place w n R k d v e = let z : n + d - n ≡ d = omega arith in rw (e, z)
 
@@ -168,8 +168,8 @@ module _ (place : ℕ) (w : List ℕ) (n : ℕ) (s : Sound w n) where
         ∙ sym (outcome-by place w n (tyOf w e) (numberOr (findIn w n e) n) (missing w n e) (addAt (findIn w n e) w n e) (placed-one w n s e ok))
       where
         go : (b : Bool)
-            → record { answer = entryAnswer place (cond b (There (record { 0 = numberOr (findIn w n e) n }) (n + missing w n e)) Full) n; words = cond b (addAt (findIn w n e) w n e) w }
-            ≡ cond b (record { answer = accept (numberOr (findIn w n e) n) (n + missing w n e); words = addAt (findIn w n e) w n e }) (turnedDown NoRoom place w n)
+            → record { answer = entryAnswer place (cond b (There (record { 0 = numberOr (findIn w n e) n }) (n + missing w n e)) (Lacks (lacking w n (missing w n e)))) n; words = cond b (addAt (findIn w n e) w n e) w }
+            ≡ cond b (record { answer = accept (numberOr (findIn w n e) n) (n + missing w n e); words = addAt (findIn w n e) w n e }) (turnedDown (NoRoom (lacking w n (missing w n e))) place w n)
         go true = refl
         go false = refl
 
@@ -220,7 +220,7 @@ module _ (place : ℕ) (w : List ℕ) (n : ℕ) (s : Sound w n) where
         (λ i. record { answer = entryAnswer place ((d .reply ∙ sym (x .reply)) i) n; words = (d .words ∙ sym (x .words)) i }) ∙ sym (out ∙ rw b))
       where
         out : entering place w n (made outer (tyOf w inner))
-            ≡ cond (leb 2 (free w n)) (record { answer = accept (n + 1) (n + 2); words = putEntry (putEntry w n inner) (n + 1) (container outer n) }) (turnedDown NoRoom place w n)
+            ≡ cond (leb 2 (free w n)) (record { answer = accept (n + 1) (n + 2); words = putEntry (putEntry w n inner) (n + 1) (container outer n) }) (turnedDown (NoRoom (lacking w n 2)) place w n)
         out = outcome-by place w n (made outer (tyOf w inner)) (n + 1) 2 (putEntry (putEntry w n inner) (n + 1) (container outer n)) (new-two h)
 
     pub enter-two-outcome : (r : Entered) (v : List ℕ) → EnterTwoDone w n inner outer r v → record { answer = entryAnswer place r n; words = v } ≡ entering place w n (made outer (tyOf w inner))

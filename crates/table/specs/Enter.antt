@@ -1,4 +1,4 @@
--- Entering: "A result not present is entered, an absent element before its container". Assumes nothing.
+-- Entering: "A result not present is entered, an absent element before its container"; and document 02, K2: how much room is missing. Assumes nothing.
 use Prim.Native.Nat.{ℕ, zero, suc, _+_, _-_, _/_}
 use mathlib.Core.Bool.{cond}
 use mathlib.Core.Path.{_≡_}
@@ -11,7 +11,7 @@ use Rattle.table.specs.declared.Entry.{Entry}
 use Rattle.table.specs.declared.Found.{Found}
 use Rattle.table.specs.declared.Found.the-variants.{At, Nothing}
 use Rattle.table.specs.declared.Entered.{Entered}
-use Rattle.table.specs.declared.Entered.the-variants.{There, Full}
+use Rattle.table.specs.declared.Entered.the-variants.{There, Lacks}
 use Rattle.answer.specs.declared.Reason.the-variants.{Unsound, Template, NoRoom}
 use Rattle.answer.specs.declared.Answer.{Answer}
 use Rattle.answer.specs.declared.Answer.the-variants.{Value}
@@ -25,7 +25,11 @@ withScalars (suc k) w = putEntry (withScalars k w) k (record { kind = k; p = 0; 
 unfoldable pub free : List ℕ → ℕ → ℕ
 free w n = cond (leb ceiling (length w / stride)) ceiling (length w / stride) - n
 
--- how many entries e lacks in a table of n: none where it stands there, else one
+-- "how many entries lack: the missing ones needed, less the free"
+abbrev pub lacking : List ℕ → ℕ → ℕ → ℕ
+lacking w n needed = needed - free w n
+
+-- how many entries of e are missing in a table of n: none where it stands there, else one
 unfoldable pub missing : List ℕ → ℕ → Entry → ℕ
 missing w n e = cond (isNothing (findIn w n e)) 1 0
 
@@ -41,7 +45,7 @@ addAt Nothing v k e = putEntry v k e
 
 -- entering e in a table of n entries: the reply, and the words afterwards
 unfoldable pub entered : List ℕ → ℕ → Entry → Entered
-entered w n e = cond (leb (missing w n e) (free w n)) (There (record { 0 = numberOr (findIn w n e) n }) (n + missing w n e)) Full
+entered w n e = cond (leb (missing w n e) (free w n)) (There (record { 0 = numberOr (findIn w n e) n }) (n + missing w n e)) (Lacks (lacking w n (missing w n e)))
 
 unfoldable pub enterWords : List ℕ → ℕ → Entry → List ℕ
 enterWords w n e = cond (leb (missing w n e) (free w n)) (addAt (findIn w n e) w n e) w
@@ -66,7 +70,7 @@ unfoldable pub enteredTwo : List ℕ → ℕ → Entry → Entry → Entered
 enteredTwo w n inner outer =
     cond (leb (missingTwo w n inner outer) (free w n))
     (There (record { 0 = numberOr (findIn w n (outerOver w n inner outer)) (n + missing w n inner) }) (n + missingTwo w n inner outer))
-    Full
+    (Lacks (lacking w n (missingTwo w n inner outer)))
 
 unfoldable pub enterTwoWords : List ℕ → ℕ → Entry → Entry → List ℕ
 enterTwoWords w n inner outer =
@@ -81,7 +85,7 @@ pub record EnterTwoDone (w : List ℕ) (n : ℕ) (inner outer : Entry) (r : Ente
 -- what a call answers by the reply of entering
 abbrev pub entryAnswer : ℕ → Entered → ℕ → Answer
 entryAnswer place (There t m) n = Value t m
-entryAnswer place Full n = refuse NoRoom place n
+entryAnswer place (Lacks k) n = refuse (NoRoom k) place n
 
 -- a host enters a type: 1 for a table that is not sound, 5 for an entry that is not allowed, 9 for want of room, in this order
 -- and at place 0; else its number and the used count

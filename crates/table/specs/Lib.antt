@@ -6,3 +6,4 @@ pub mod Enter
 pub mod Stands
 pub mod Placing
 pub mod Kept
+pub mod Lacking

@@ -11,7 +11,7 @@ use Rattle.conv.specs.Rank.{sameTy}
 use Rattle.answer.specs.Answer.{numbersOf, accept, refuse}
 use Rattle.table.specs.Table.{putEntry, orElse}
 use Rattle.table.specs.Denote.{typeAt, kindOf, pOf, qOf}
-use Rattle.table.specs.Enter.{free, enterTypeReply, enterTypeWords}
+use Rattle.table.specs.Enter.{free, lacking, enterTypeReply, enterTypeWords}
 use Rattle.table.specs.declared.Entry.{Entry}
 use Rattle.table.specs.declared.Found.{Found}
 use Rattle.table.specs.declared.Found.the-variants.{At, Nothing}
@@ -66,12 +66,12 @@ pub record Outcome : Type 0 where
 abbrev pub turnedDown : Reason → ℕ → List ℕ → ℕ → Outcome
 turnedDown reason place w n = record { answer = refuse reason place n; words = w }
 
--- the type R is accepted: it is entered where it is absent, or refused with 9 where the slice or 256 leaves too little room
+-- the type R is accepted: it is entered where it is absent, or refused with 9 where the slice or 256 leaves too little room, and with what lacks
 unfoldable pub entering : ℕ → List ℕ → ℕ → Ty → Outcome
 entering place w n R =
     cond (leb (placed w n R .used - n) (free w n))
     (record { answer = accept (placed w n R .number) (placed w n R .used); words = placed w n R .words })
-    (turnedDown NoRoom place w n)
+    (turnedDown (NoRoom (lacking w n (placed w n R .used - n))) place w n)
 
 -- a host's entering of a type, as `Enter.antt` has it
 abbrev pub enterType : List ℕ → ℕ → Entry → Outcome

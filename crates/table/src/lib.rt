@@ -15,6 +15,7 @@ pub use answer::Reason;
 pub use answer::Refusal;
 pub use answer::TypeNo;
 pub use answer::accepted;
+pub use answer::lacking_of;
 pub use answer::no_value;
 pub use answer::reason_no;
 pub use answer::refused;
@@ -108,10 +109,10 @@ pub enum Found {
     Nothing,
 }
 
-// What entering gives: the number of the entry and the used count afterwards.
+// What entering gives: the number of the entry and the used count afterwards, or how many entries lack.
 pub enum Entered {
     There(TypeNo, usize),
-    Full,
+    Lacks(u32),
 }
 
 // Entry i. This and `entering::put_entry` are the only two that know how an entry lies in the words.
