@@ -200,8 +200,16 @@ fn mild_item(dice: &mut Dice) -> Item {
     }
 }
 
+/// Of how many items that are refused so a wild sheet ends at one. Want of room is seldom met.
+fn ends_at(reason: Reason) -> usize {
+    match reason {
+        Reason::NoRoom => 3,
+        _ => 50,
+    }
+}
+
 /// A sheet of so many tries from a state, and what the single calls say that it answers and leaves. An item that is refused is left out. A wild sheet ends at one such
-/// in 50; in a mild one nothing is pushed after half of the tries, until one value stands.
+/// in 50, and at one in three for want of room; in a mild one nothing is pushed after half of the tries, until one value stands.
 fn made(dice: &mut Dice, from: &State, most: usize, wild: bool) -> (Vec<u8>, Answer, State) {
     let mut state = from.clone();
     let mut bytes = vec![1, 0, 0];
@@ -223,7 +231,7 @@ fn made(dice: &mut Dice, from: &State, most: usize, wild: bool) -> (Vec<u8>, Ans
         let answer = next.take(&item);
         match answer {
             Answer::Type { .. } => state = next,
-            Answer::Refused(r) if wild && dice.below(50) == 0 => {
+            Answer::Refused(r) if wild && dice.below(ends_at(r.reason)) == 0 => {
                 let place = bytes.len() as u32;
                 stopped = Some(Answer::Refused(Refusal { place, ..r }));
             }
@@ -269,8 +277,9 @@ fn sheets_do_what_single_calls_do() {
     let (mut unnamed, mut alike) = (0, 0);
     for k in 0..2000 {
         let profile = [Profile::BASE, Profile::SUBGROUPS][k / 2 % 2];
-        // In the second slice one entry is free.
-        let entries = [256, 8 + ENTRIES.len()][k / 4 % 2];
+        // In the second slice no entry is free, in the third one is.
+        let held = 7 + ENTRIES.len();
+        let entries = [256, held, held + 1][k / 4 % 3];
         let (bytes, told, after) = made(
             &mut dice,
             &State::new(profile, entries),
