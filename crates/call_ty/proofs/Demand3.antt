@@ -23,7 +23,7 @@ use Rattle.answer.specs.Answer.{reasonNo}
 use Rattle.table.specs.Table.{Sound}
 use Rattle.table.specs.Placing.{Outcome, turnedDown, entering}
 use Rattle.answer.specs.declared.Reason.{Reason}
-use Rattle.answer.specs.declared.Reason.the-variants.{NoOverload, Operands, NoRoom}
+use Rattle.answer.specs.declared.Reason.the-variants.{NoOverload, Operands}
 use Rattle.answer.specs.declared.Refusal.{Refusal}
 use Rattle.answer.specs.declared.Answer.the-variants.{NoValue, Refused}
 use Rattle.table.proofs.Demand1.{entering-refused}
@@ -110,7 +110,7 @@ no-thirteen reason f e = let a = sym f ∙ eq-eqb (reasonNo reason) 13 e in let 
 never-entering : (place : ℕ) (w : List ℕ) (n : ℕ) → Sound w n → (R : Ty) → formed R ≡ true → Never13 (entering place w n R)
 never-entering place w n s R f r e q =
     let y = entering-refused place w n s R f r (entering place w n R .words) (λ i. record { answer = e i; words = entering place w n R .words }) .1 in
-    let a : reasonNo (r .reason) ≡ reasonNo NoRoom = ap (λ (z : Refusal). reasonNo (z .reason)) y in omega arith
+    let a : reasonNo (r .reason) ≡ 9 = ap (λ (z : Refusal). reasonNo (z .reason)) y in omega arith
 
 ends-never : (place : ℕ) (w : List ℕ) (n : ℕ) → Sound w n → (named : Named) (ts us : List Ty) (o : Outcome) → Ends place w n named ts us o → Never13 o
 ends-never place w n s named ts us o (refused reason f e) = subst Never13 (sym e) (never-refused w n reason place (no-thirteen reason f))

@@ -9,3 +9,4 @@ pub mod Demand2
 pub mod Demand3
 pub mod Sixteen
 pub mod OneReply
+pub mod Growing

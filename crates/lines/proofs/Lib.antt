@@ -1,4 +1,5 @@
 pub mod Lengths
+pub mod Refusing
 pub mod Valued
 pub mod Long
 pub mod Examples

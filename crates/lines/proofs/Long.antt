@@ -15,7 +15,7 @@ use Rattle.text.specs.Text.{ascii, decimalBy, decimal}
 use Rattle.frame.specs.Frame.{version, headerSize, longest, headerOk}
 use Rattle.frame.proofs.FrameLaws.{headed}
 use Rattle.sheet.proofs.Demand1.{sheet-header}
-use Rattle.lines.specs.Lines.{refusedLine, firstLine, secondLine, lineEnd, linesOf, start, report}
+use Rattle.lines.specs.Lines.{lackingPart, refusedLine, firstLine, secondLine, lineEnd, linesOf, start, report}
 use Rattle.lines.proofs.Valued.{start-sound}
 
 -- under a right header there are at most 60,003 bytes
@@ -28,7 +28,7 @@ no-header s l = go (headerOk version s) refl
 
 -- the lines of every longer input
 pub too-long : (profile : ℕ) (s : List ℕ) → headerSize + longest < length s → report profile s ≡ ascii "refused 10 at 0" ++ lineEnd ++ ascii "entries 7" ++ lineEnd
-unfolding report ascii decimalBy decimal refusedLine firstLine secondLine linesOf
+unfolding report ascii decimalBy decimal lackingPart refusedLine firstLine secondLine linesOf
 too-long profile s h = ap (λ (o : Outcome). linesOf (o .words) (o .answer)) (sheet-header profile start scalars s start-sound (no-header s h))
 
 -- so what is cut off behind more than 60,003 bytes is not missed

@@ -1,8 +1,10 @@
--- Document 01, "What is answered": the two lines that the program writes for a sheet, byte by byte. Assumes nothing.
+-- Document 01, "What is answered", and document 02, K2: the two lines that the program writes for a sheet, byte by byte. Assumes nothing.
 use Prim.Native.Nat.{ℕ, _<_}
 use mathlib.Core.List.{List, [], _∷_, _++_}
+use mathlib.Core.Bool.{cond}
+use lib.Dec.{eqb}
 use lib.ListN.{replicate}
-use Rattle.answer.specs.Answer.{reasonNo, usedOf}
+use Rattle.answer.specs.Answer.{reasonNo, lackingOf, usedOf}
 use Rattle.table.specs.Table.{scalars, Sound}
 use Rattle.table.specs.Denote.{typeAt}
 use Rattle.table.specs.Placing.{Outcome}
@@ -17,9 +19,12 @@ use Rattle.sheet.specs.Machine.{typeSheet}
 unfoldable pub typeLine : List ℕ → ℕ → List ℕ
 typeLine w t = ascii "type " ++ decimal t ++ ascii " " ++ spelling (typeAt w t)
 
--- `refused 8 at 9`: the refusal's number and its place
+-- `refused 8 at 9`: the refusal's number and its place; `refused 9 at 12 lacking 1`: and how many entries lack
+unfoldable pub lackingPart : Refusal → List ℕ
+lackingPart r = cond (eqb (reasonNo (r .reason)) 9) (ascii " lacking " ++ decimal (lackingOf (r .reason))) []
+
 unfoldable pub refusedLine : Refusal → List ℕ
-refusedLine r = ascii "refused " ++ decimal (reasonNo (r .reason)) ++ (ascii " at " ++ decimal (r .place .0))
+refusedLine r = (ascii "refused " ++ decimal (reasonNo (r .reason)) ++ (ascii " at " ++ decimal (r .place .0))) ++ lackingPart r
 
 -- "No value: first line `none`"
 unfoldable pub firstLine : List ℕ → Answer → List ℕ

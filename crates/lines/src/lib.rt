@@ -14,6 +14,9 @@ ghost use Rattle.lines.specs.Lines.{typeLine, refusedLine, firstLine, li
 // The bytes that any answer's two lines have room in.
 pub const ROOM: usize = 32768;
 
+// The number of the refusal where the table lacks room.
+const NO_ROOM: u8 = 9;
+
 // The words of a table that has room for 256 entries.
 const WORDS: usize = 1024;
 
@@ -58,8 +61,13 @@ fn refused_line(r: Refusal, out: &mut [u8]) -> usize
 {
     let why = r.reason;
     let place = r.place;
-    let a = put_after(out, 0, b"refused ", answer::reason_no(why) as usize);
-    put_after(out, a, b" at ", place.0)
+    let number = answer::reason_no(why);
+    let a = put_after(out, 0, b"refused ", cast::wide(number));
+    let b = put_after(out, a, b" at ", place.0);
+    if number != NO_ROOM {
+        return b;
+    }
+    put_after(out, b, b" lacking ", cast::word(answer::lacking_of(why)))
 }
 
 fn first_line(words: &[u32], a: Answer, out: &mut [u8]) -> usize

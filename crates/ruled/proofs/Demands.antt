@@ -21,7 +21,7 @@ use Rattle.table.specs.Enter.{free}
 use Rattle.table.specs.Placing.{Outcome, turnedDown, placed, entering}
 use Rattle.answer.specs.declared.TypeNo.{TypeNo}
 use Rattle.answer.specs.declared.Reason.{Reason}
-use Rattle.answer.specs.declared.Reason.the-variants.{NoOverload, Reference, NoRoom}
+use Rattle.answer.specs.declared.Reason.the-variants.{NoOverload, Reference}
 use Rattle.answer.specs.declared.Refusal.{Refusal}
 use Rattle.answer.specs.declared.Answer.the-variants.{Value, Refused}
 use Rattle.table.specs.Kept.{Kept}
@@ -154,7 +154,7 @@ module _ (w : List ℕ) (n : ℕ) where
     never-entering : (place : ℕ) (R : Ty) → formed R ≡ true → Never13 (entering place w n R)
     never-entering place R f r e q =
         let y = entering-refused place w n s R f r (entering place w n R .words) (λ i. record { answer = e i; words = entering place w n R .words }) .1 in
-        let a : reasonNo (r .reason) ≡ reasonNo NoRoom = ap (λ (z : Refusal). reasonNo (z .reason)) y in omega arith
+        let a : reasonNo (r .reason) ≡ 9 = ap (λ (z : Refusal). reasonNo (z .reason)) y in omega arith
 
     pub never-judged : (place : ℕ) (set : Overload → Type 0) (ts : List Ty) → (Resolved set ts nonePreferred → ⊥) → (j : Judged) → Resolved set ts j
         → ((R : Ty) → j ≡ gives R → formed R ≡ true) → Never13 (judgedOutcome place w n j)

@@ -3,3 +3,4 @@ pub mod Outcomes
 pub mod Loaded
 pub mod Demands
 pub mod OneReply
+pub mod Growing

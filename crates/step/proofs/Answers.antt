@@ -17,7 +17,7 @@ use Rattle.table.proofs.TypeLaws.{type-scalar}
 use Rattle.table.proofs.PlacingLaws.{standing-outcome}
 use Rattle.answer.specs.Answer.{reasonNo}
 use Rattle.answer.specs.declared.Reason.{Reason}
-use Rattle.answer.specs.declared.Reason.the-variants.{Reference, Unknown, Template, Operands, NoRoom}
+use Rattle.answer.specs.declared.Reason.the-variants.{Reference, Unknown, Template, Operands}
 use Rattle.answer.specs.declared.TypeNo.{TypeNo}
 use Rattle.answer.specs.declared.Answer.{Answer}
 use Rattle.answer.specs.declared.Answer.the-variants.{Value, NoValue, Refused}
@@ -38,7 +38,7 @@ module _ (place : ℕ) (w : List ℕ) (n : ℕ) (ts : List Ty) where
   either P false x y f g = g refl
 
   -- what holds of every refusal but that for want of room, and of what the rule gives, holds of the call
-  by-rule : (P : Outcome → Type 0) → ((reason : Reason) → eqb (reasonNo reason) (reasonNo NoRoom) ≡ false → P (turnedDown reason place w n))
+  by-rule : (P : Outcome → Type 0) → ((reason : Reason) → eqb (reasonNo reason) 9 ≡ false → P (turnedDown reason place w n))
       → (named : Named) → ((r : Rule) → named ≡ rule r → operandsOf r ≡ 0 → P (givenOutcome place w n (givenBy r ts []))) → P (byRule place w n named ts [])
   unfolding byRule
   by-rule P refused unknown f = refused Unknown refl

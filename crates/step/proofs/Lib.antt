@@ -4,3 +4,4 @@ pub mod Effects
 pub mod Items
 pub mod OneReply
 pub mod Keeping
+pub mod Growing

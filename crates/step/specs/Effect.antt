@@ -13,7 +13,7 @@ use Rattle.table.specs.Placing.{Outcome, entering}
 use Rattle.table.specs.declared.Entry.{Entry}
 use Rattle.answer.specs.Answer.{reasonNo}
 use Rattle.answer.specs.declared.Reason.{Reason}
-use Rattle.answer.specs.declared.Reason.the-variants.{NoSuchType, Template, NoRoom, Framing, Stack}
+use Rattle.answer.specs.declared.Reason.the-variants.{NoSuchType, Template, Framing, Stack}
 use Rattle.answer.specs.declared.Refusal.{Refusal}
 use Rattle.answer.specs.declared.Answer.{Answer}
 use Rattle.answer.specs.declared.Answer.the-variants.{Value, NoValue, Refused}
@@ -86,7 +86,7 @@ entryOf kind p q elem = record { kind = kind; p = p; q = q; elem = elem }
 unfoldable pub isValued : Answer → Bool
 isValued (Value t m) = true
 isValued (NoValue m) = false
-isValued (Refused r) = eqb (reasonNo (r .reason)) (reasonNo NoRoom)
+isValued (Refused r) = eqb (reasonNo (r .reason)) 9
 
 -- an item at a place of the sheet. "10, 11, then the call's order; push gives 2 before 11, take gives 5, 11, 9"
 

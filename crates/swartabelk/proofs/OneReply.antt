@@ -64,7 +64,7 @@ some Template e = omega arith
 some Count e = omega arith
 some Operands e = omega arith
 some NoOverload e = omega arith
-some NoRoom e = omega arith
+some (NoRoom k) e = omega arith
 some Framing e = omega arith
 some Stack e = omega arith
 some TooLong e = omega arith
@@ -87,7 +87,7 @@ reply-injective (NoValue m) (Refused r) f g e = absurd (some (r .reason) (sym (a
 reply-injective (Refused r) (Value u k) f g e = valued (u .0) (g .0) (sym (ap (λ (x : Reply). x .ty) e))
 reply-injective (Refused r) (NoValue k) f g e = absurd (some (r .reason) (ap (λ (x : Reply). x .refusal) e))
 reply-injective (Refused r) (Refused q) f g e =
-    let why : r .reason ≡ q .reason = reason-injective _ _ (ap (λ (x : Reply). x .refusal) e) in
+    let why : r .reason ≡ q .reason = reason-injective _ _ (ap (λ (x : Reply). x .refusal) e) (ap (λ (x : Reply). x .lacking) e) in
     let place : r .place .0 ≡ q .place .0 = ap (λ (x : Reply). x .place) e in
     let used : r .used ≡ q .used = ap (λ (x : Reply). x .used) e in
     λ i. Refused (record { reason = why i; place = record { 0 = place i }; used = used i })

@@ -3,7 +3,7 @@ use Prim.Native.Nat.{ℕ, _<_, _^_}
 use mathlib.Core.Path.{_≡_, sym, _∙_, ap}
 use mathlib.Core.List.{List}
 use native.Mathlib.Omega.{arith}
-use Rattle.answer.specs.Answer.{reasonNo}
+use Rattle.answer.specs.Answer.{reasonNo, lackingOf}
 use Rattle.answer.specs.declared.TypeNo.{TypeNo}
 use Rattle.answer.specs.declared.Refusal.{Refusal}
 use Rattle.answer.specs.declared.Answer.{Answer}
@@ -31,17 +31,17 @@ module _ (a : Answer) (f : Fits a) where
 
 -- what is told of an answer is its reply
 module _ (a : Answer) (r : Reply) where
-  pub value-told : (t : TypeNo) (m x : ℕ) → a ≡ Value t m → x ≡ t .0 → r ≡ tell 0 x 0 m → r ≡ replyOf a
+  pub value-told : (t : TypeNo) (m x : ℕ) → a ≡ Value t m → x ≡ t .0 → r ≡ tell 0 x 0 m 0 → r ≡ replyOf a
   unfolding replyOf replyTo
-  value-told t m x e p h = h ∙ ap (λ (k : ℕ). tell 0 k 0 m) p ∙ ap replyOf (sym e)
+  value-told t m x e p h = h ∙ ap (λ (k : ℕ). tell 0 k 0 m 0) p ∙ ap replyOf (sym e)
 
-  pub none-told : (m : ℕ) → a ≡ NoValue m → r ≡ tell 0 noValue 0 m → r ≡ replyOf a
+  pub none-told : (m : ℕ) → a ≡ NoValue m → r ≡ tell 0 noValue 0 m 0 → r ≡ replyOf a
   unfolding replyOf replyTo
   none-told m e h = h ∙ ap replyOf (sym e)
 
-  pub refused-told : (q : Refusal) (x : ℕ) → a ≡ Refused q → x ≡ reasonNo (q .reason) → r ≡ tell x noValue (q .place .0) (q .used) → r ≡ replyOf a
+  pub refused-told : (q : Refusal) (x y : ℕ) → a ≡ Refused q → x ≡ reasonNo (q .reason) → y ≡ lackingOf (q .reason) → r ≡ tell x noValue (q .place .0) (q .used) y → r ≡ replyOf a
   unfolding replyOf replyTo
-  refused-told q x e p h = h ∙ ap (λ (k : ℕ). tell k noValue (q .place .0) (q .used)) p ∙ ap replyOf (sym e)
+  refused-told q x y e p l h = h ∙ (λ i. tell (p i) noValue (q .place .0) (q .used) (l i)) ∙ ap replyOf (sym e)
 
 module _ (s : Spelled) (f : SpelledFits s) where
   pub length-fits : (k : ℕ) → s ≡ spelled.Length k → k < 2 ^ 32

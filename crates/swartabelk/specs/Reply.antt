@@ -1,4 +1,4 @@
--- What a host gets: document 01's numbers, as a struct of C holds them. Assumes nothing.
+-- What a host gets: the documents' numbers, as a struct of C holds them. Assumes nothing.
 use Prim.Native.Nat.{ℕ}
 use mathlib.Core.Path.{_≡_}
 use mathlib.Core.Bool.{cond}
@@ -25,12 +25,12 @@ abbrev pub typeOr : List ℕ → ℕ
 typeOr [] = noValue
 typeOr (t ∷ ts) = t
 
--- the refusal's number, 0 for none; the type's number or `noValue`; the place; the used count
-abbrev pub tell : ℕ → ℕ → ℕ → ℕ → Reply
-tell refusal t place used = record { refusal = refusal; ty = t; place = place; used = used }
+-- the refusal's number, 0 for none; the type's number or `noValue`; the place; the used count; how many entries lack
+abbrev pub tell : ℕ → ℕ → ℕ → ℕ → ℕ → Reply
+tell refusal t place used lacking = record { refusal = refusal; ty = t; place = place; used = used; lacking = lacking }
 
 unfoldable pub replyTo : Numbers → Reply
-replyTo k = tell (k .refusal) (typeOr (k .value)) (k .place) (k .used)
+replyTo k = tell (k .refusal) (typeOr (k .value)) (k .place) (k .used) (k .lacking)
 
 unfoldable pub replyOf : Answer → Reply
 replyOf a = replyTo (numbersOf a)

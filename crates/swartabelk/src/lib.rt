@@ -18,13 +18,14 @@ ghost use Rattle.swartabelk.specs.inner.Code.{Fits, SpelledFits};
 // The type of a reply that has no value, or is a refusal.
 pub const NO_VALUE: u32 = 0xFFFF_FFFF;
 
-// A reply in numbers: the refusal, 0 for none; the type, or NO_VALUE; the place of a refusal; the used count.
+// A reply in numbers: the refusal, 0 for none; the type, or NO_VALUE; the place of a refusal; the used count; how many entries lack, with refusal 9.
 #[repr(C)]
 pub struct Reply {
     pub refusal: u32,
     pub ty: u32,
     pub place: u32,
     pub used: u32,
+    pub lacking: u32,
 }
 
 // The same of a spelling: its length stands where a type would.
@@ -52,15 +53,16 @@ fn narrow(x: usize) -> u32
 }
 
 // The numbers of a reply.
-fn told(refusal: u32, ty: u32, place: usize, used: usize) -> Reply
+fn told(refusal: u32, ty: u32, place: usize, used: usize, lacking: u32) -> Reply
     requires { ⌜ (place < 2 ^ 32) × (used < 2 ^ 32) ⌝ }
-    ensures { λ r. ⌜ r ≡ tell refusal ty place used ⌝ }
+    ensures { λ r. ⌜ r ≡ tell refusal ty place used lacking ⌝ }
 {
     Reply {
         refusal,
         ty,
         place: narrow(place),
         used: narrow(used),
+        lacking,
     }
 }
 
@@ -70,8 +72,8 @@ fn reply_of(a: Answer) -> Reply
     ensures { λ r. ⌜ r ≡ replyOf a ⌝ }
 {
     match a {
-        Answer::Value(t, n) => told(0, narrow(t.0), 0, n),
-        Answer::NoValue(n) => told(0, NO_VALUE, 0, n),
+        Answer::Value(t, n) => told(0, narrow(t.0), 0, n, 0),
+        Answer::NoValue(n) => told(0, NO_VALUE, 0, n, 0),
         Answer::Refused(r) => {
             let reason = r.reason;
             let place = r.place;
@@ -80,6 +82,7 @@ fn reply_of(a: Answer) -> Reply
                 NO_VALUE,
                 place.0,
                 r.used,
+                table::lacking_of(reason),
             )
         }
     }

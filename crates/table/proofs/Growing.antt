@@ -62,6 +62,12 @@ pub grown-test : (w : List ℕ) (n k : ℕ) (b : Bool) (x y x' y' : Outcome) →
 grown-test w n k true x y x' y' p q = p
 grown-test w n k false x y x' y' p q = q
 
+-- a test that refuses with another number than 9 where it is not passed
+pub grown-passed : (w : List ℕ) (n k : ℕ) (b : Bool) (reason : Reason) → eqb (reasonNo reason) 9 ≡ false → (place : ℕ) (x x' y' : Outcome) → (b ≡ true → Grown w n k x x')
+    → Grown w n k (cond b x (turnedDown reason place w n)) (cond b x' y')
+grown-passed w n k true reason f place x x' y' g = g refl
+grown-passed w n k false reason f place x x' y' g = grown-refused w n k reason f place y'
+
 -- what comes to the same
 pub grown-as : (w : List ℕ) (n k : ℕ) {o p o' p' : Outcome} → o ≡ p → o' ≡ p' → Grown w n k p p' → Grown w n k o o'
 grown-as w n k {o} {p} {o'} {p'} e f g = subst (λ (x : Outcome). Grown w n k x o') (sym e) (subst (λ (x : Outcome). Grown w n k p x) (sym f) g)
@@ -185,6 +191,13 @@ module _ (w v : List ℕ) (n k : ℕ) (l : Longer w v n k) where
             enough = λ K x few m. let y = lacking-here K x in let e = y .1 in let f = y .0 in room-there (fits d f (omega arith) (omega arith));
             short = λ K x few m. let y = lacking-here K x in let e = y .1 in let f = y .0 in none-there (fits-not d f (omega arith) (omega arith));
           }
+
+  -- a call that judges the table first
+  pub grown-sound : (x x' y' : Outcome) → (Sound w n → Grown w n k x x') → Grown w n k (cond (soundb w n) x (turnedDown Unsound 0 w n)) (cond (soundb v n) x' y')
+  grown-sound x x' y' g =
+      split (soundb w n)
+      (λ b. let s = sound-of w n b in rw (b, sound-longer s) (g s))
+      (λ b. rw b (grown-refused w n k Unsound refl 0 (cond (soundb v n) x' y')))
 
   -- A TYPE THAT A HOST ENTERS
   pub grown-enter-type : (e : Entry) → Grown w n k (enterType w n e) (enterType v n e)

@@ -6,3 +6,4 @@ pub mod OutcomeLaws
 pub mod OneReply
 pub mod Demand1
 pub mod Given
+pub mod Growing

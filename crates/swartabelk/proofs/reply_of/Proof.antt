@@ -1,7 +1,7 @@
 -- `swartabelk::reply_of` meets its contract, case by case of the answer. Assumes nothing.
-use Rattle.swartabelk.proofs.Telling.{value-fits, none-fits, refused-fits, value-told, none-told, refused-told}
-use native.Mathlib.Omega.{arith}
 use mathlib.Core.Path.{_∙_}
+use native.Mathlib.Omega.{arith}
+use Rattle.swartabelk.proofs.Telling.{value-fits, none-fits, refused-fits, value-told, none-told, refused-told}
 use borrow.Author.Needs.{needs}
 use Rattle.swartabelk.proofs.reply_of.Statement.{statement}
 use Rattle.swartabelk.proofs.reply_of.Tie as tie
@@ -30,8 +30,11 @@ reason-no-requires c κs = search needs
 wide32-requires : tie.Need-wide32-requires
 wide32-requires c κs = search needs
 
+lacking-of-requires : tie.Need-lacking-of-requires
+lacking-of-requires c κs = search needs
+
 told-requires-3 : tie.Need-told-requires-3
-told-requires-3 c κs = refused-fits _ (c .before .before .before .before .before .before .pre) (c .before .before .before .before .a3 .given .0 .0) (c .before .before .before .before .a3 .given .1)
+told-requires-3 c κs = refused-fits _ (c .before .before .before .before .before .before .before .pre) (c .before .before .before .before .before .a3 .given .0 .0) (c .before .before .before .before .before .a3 .given .1)
 
 returns : tie.Need-returns
 returns c = value-told (c .before .before .before .before .before .args .a) _ (c .before .before .before .a .given .0 .0) (c .before .before .before .a .given .0 .1 .0) _ (c .before .before .before .a .given .1) (c .before .narrow .ensures) (c .told .ensures)
@@ -40,7 +43,7 @@ returns-2 : tie.Need-returns-2
 returns-2 c = none-told (c .before .before .before .before .args .a) _ (c .before .before .a2 .given .0 .0) (c .before .before .a2 .given .1) (c .told2 .ensures)
 
 returns-3 : tie.Need-returns-3
-returns-3 c = refused-told (c .before .before .before .before .before .before .before .args .a) _ (c .before .before .before .before .before .a3 .given .0 .0) _ (c .before .before .before .before .before .a3 .given .1) (c .before .wide32 .ensures ∙ c .before .before .reason-no .ensures) (c .told3 .ensures)
+returns-3 c = refused-told (c .before .before .before .before .before .before .before .before .args .a) _ (c .before .before .before .before .before .before .a3 .given .0 .0) _ _ (c .before .before .before .before .before .before .a3 .given .1) (c .before .before .wide32 .ensures ∙ c .before .before .before .reason-no .ensures) (c .before .lacking-of .ensures) (c .told3 .ensures)
 
 pub reply-of-spec : {M : Type 1} → statement M
 reply-of-spec =
@@ -54,6 +57,7 @@ reply-of-spec =
     enum-known-a-3
     reason-no-requires
     wide32-requires
+    lacking-of-requires
     told-requires-3
     returns
     returns-2
