@@ -21,7 +21,7 @@
 extern "C" {
 #endif
 
-#define SWARTABELK_VERSION 2
+#define SWARTABELK_VERSION 3
 
 /* The type of a reply that has no value or is a refusal. */
 #define SWARTABELK_NO_VALUE 0xFFFFFFFFu
@@ -42,7 +42,7 @@ extern "C" {
  *    6  an array's count
  *    7  a wrong number of operands
  *    8  no overload fits
- *    9  the result is absent, and the slice or 256 leaves too little room
+ *    9  the result is absent, and the slice or 256 leaves too little room: the reply's `lacking` tells how much
  *   10  a sheet's header, framing, kind or payload length
  *   11  the stack is short, a 65th value, or a wrong end
  *   12  the spelling is longer than the output
@@ -51,9 +51,13 @@ extern "C" {
 
 /* The reply of a call. refusal: 0 where it is accepted, else why not. type: the type's number, or SWARTABELK_NO_VALUE where there is no value or the call is
  * refused. place: of a refused sheet the item's length byte, 0 for 1, a wrong header and an unknown profile, the length of the sheet for a wrong end; else 0.
- * used: the count of entries afterwards; with refusal 1 the one that was given. */
+ * used: the count of entries afterwards; with refusal 1 the one that was given. lacking: with refusal 9 how many entries lack, which are the missing ones that
+ * the result needs, less those that are free in the slice and below 256; else 0.
+ *
+ * In a slice that is longer by `lacking` entries the same call is not refused with 9, and in one that is longer by less it still is. Of a sheet it is the item at
+ * `place` that is not; a later one may want more. But 256 entries are the most: where the longer slice has more, no slice has room for the result. */
 typedef struct {
-    uint32_t refusal, type, place, used;
+    uint32_t refusal, type, place, used, lacking;
 } swartabelk_reply;
 
 /* The reply of a spelling. length: the bytes that the spelling has, 0 where it is refused. place: 0. used: the one that was given. */

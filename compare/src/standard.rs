@@ -20,6 +20,7 @@ pub mod refusal {
     pub const COUNT: u32 = 6;
     pub const OPERANDS: u32 = 7;
     pub const NONE_FITS: u32 = 8;
+    pub const NO_ROOM: u32 = 9;
     pub const NONE_PREFERRED: u32 = 13;
 }
 

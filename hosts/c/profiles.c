@@ -83,7 +83,7 @@ static void subgroups(void) {
     profile = SWARTABELK_PROFILE_SUBGROUPS;
     room = 31;
     keep();
-    HOLDS(is(call1("subgroupBallot", BOOL), 9, NONE, 0, 7) && unchanged());
+    HOLDS(lacks(call1("subgroupBallot", BOOL), 1, 0, 7) && unchanged());
     room = 32;
     HOLDS(is(call1("subgroupBallot", BOOL), 0, 7, 0, 8) && is_entry(7, VEC, 4, 0, U32));
     /* What profile 0 has, profile 1 has too. */
@@ -169,9 +169,9 @@ static void subgroup_sheets(void) {
     keep();
     HOLDS(is(called(64, BOOL, "subgroupElect", 0), 11, NONE, 195, 256));
     HOLDS(is(called(0, BOOL, "subgroupElect", 0), 0, BOOL, 0, 256));
-    HOLDS(is(called(1, BOOL, "subgroupBallot", 1), 9, NONE, 6, 256));
-    HOLDS(is(called(64, BOOL, "subgroupBallot", 1), 9, NONE, 195, 256));
-    HOLDS(is(call1("subgroupBallot", BOOL), 9, NONE, 0, 256));
+    HOLDS(lacks(called(1, BOOL, "subgroupBallot", 1), 1, 6, 256));
+    HOLDS(lacks(called(64, BOOL, "subgroupBallot", 1), 1, 195, 256));
+    HOLDS(lacks(call1("subgroupBallot", BOOL), 1, 0, 256));
     HOLDS(unchanged());
     words[4 * 255] = VEC;
     words[4 * 255 + 1] = 4;

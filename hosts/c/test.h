@@ -1,5 +1,5 @@
 /* What the tests of the C host share: a table, calls over it, and the count of replies that are as they should be. test.c has them and the tests of document 01,
-   profiles.c those of document 02's profiles. */
+   profiles.c those of document 02's profiles, room.c those of how much room is missing. */
 #ifndef TEST_H
 #define TEST_H
 
@@ -9,16 +9,21 @@
 
 enum { BOOL, ABSTRACT_INT, ABSTRACT_FLOAT, I32, U32, F32, F16, SCALARS };
 enum { VEC = 7, MAT, ARRAY, RUNTIME, ATOMIC, PTR, REF, FREXP, MODF };
+enum { NOT, NEGATE, COMPLEMENT, ADDRESS_OF, INDIRECTION };
+enum { OR, AND, PLUS, MINUS, TIMES, OVER, REMAINDER, EQUAL, UNEQUAL, LESS, LESS_EQUAL, GREATER, GREATER_EQUAL, BIT_OR, BIT_AND, BIT_XOR, LEFT, RIGHT };
 
-/* A table, its count, and room for 256 entries or fewer; and the profile of calls and sheets. */
-extern uint32_t words[1024];
+/* Words enough for a table of 256 entries, and for more that it may not have. */
+#define WORDS 1056
+
+/* A table, its count, and how many words of it are lent; and the profile of calls and sheets. */
+extern uint32_t words[WORDS];
 extern size_t room;
 extern uint32_t used, profile;
 
 /* A list of no types. */
 extern const uint32_t no_types[1];
 
-/* A table of the seven scalars, with all its room, and profile 0. */
+/* A table of the seven scalars, with room for 256 entries, and profile 0. */
 void start(void);
 
 /* One entry more; its number. */
@@ -29,15 +34,19 @@ void keep(void);
 int unchanged(void);
 
 /* Calls over the table, in the profile. */
+swartabelk_reply unary(uint32_t op, uint32_t a);
+swartabelk_reply binary(uint32_t op, uint32_t a, uint32_t b);
 swartabelk_reply call(const char *name, size_t tplt_len, const uint32_t *tplt, size_t args_len, const uint32_t *args);
 swartabelk_reply call1(const char *name, uint32_t a);
+swartabelk_reply template(const char *head, size_t args_len, const int64_t *args);
 swartabelk_reply sheet(size_t len, const uint8_t *bytes);
 
 /* A sheet by its bytes. */
 #define SHEET(...) sheet(sizeof((uint8_t[]){__VA_ARGS__}), (uint8_t[]){__VA_ARGS__})
 
-/* Whether a reply, and an entry, is this. */
+/* Whether a reply is this, with nothing lacking; whether it is 9 with so many entries lacking; whether an entry is this. */
 int is(swartabelk_reply r, uint32_t refusal, uint32_t type, uint32_t place, uint32_t count);
+int lacks(swartabelk_reply r, uint32_t lacking, uint32_t place, uint32_t count);
 int is_entry(uint32_t i, uint32_t kind, uint32_t p, uint32_t q, uint32_t elem);
 
 /* Counts a reply, and names the line of one that is not right, and what it is about where one line tests several. */
@@ -47,5 +56,6 @@ void holds(const char *file, int line, int right);
 #define HOLDS(right) holds(__FILE__, __LINE__, (right))
 
 void profiles(void);
+void rooms(void);
 
 #endif

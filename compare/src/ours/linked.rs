@@ -14,6 +14,7 @@ pub struct Reply {
     pub ty: u32,
     pub place: u32,
     pub used: u32,
+    pub lacking: u32,
 }
 
 /// `swartabelk_spelled` of the header.
@@ -159,19 +160,52 @@ pub fn answer(case: &Case) -> Result<Answer, String> {
             Argument::F32(bits) => [5, i64::from(*bits)],
         })
         .collect();
-    let before = table.clone();
-    let reply = match case.operation {
-        Operation::Unary(op) => unary(&mut table, op as u32, operands[0]),
-        Operation::Binary(op) => binary(&mut table, op as u32, operands[0], operands[1]),
-        Operation::Call(name) => {
-            let types: Vec<u32> = list.chunks(2).map(|pair| pair[1] as u32).collect();
-            let reply = call(&mut table, profile::SUBGROUPS, name, &types, &operands);
-            other_profiles(&before, &table, reply, name, &types, &operands)?;
-            reply
-        }
-        Operation::Template(head) => template(&mut table, head, &list),
+    let types: Vec<u32> = list.chunks(2).map(|pair| pair[1] as u32).collect();
+    let ask = |table: &mut Table| match case.operation {
+        Operation::Unary(op) => unary(table, op as u32, operands[0]),
+        Operation::Binary(op) => binary(table, op as u32, operands[0], operands[1]),
+        Operation::Call(name) => call(table, profile::SUBGROUPS, name, &types, &operands),
+        Operation::Template(head) => template(table, head, &list),
     };
-    read(&before, &mut table, reply)
+    let before = table.clone();
+    let reply = ask(&mut table);
+    if let Operation::Call(name) = case.operation {
+        other_profiles(&before, &table, reply, name, &types, &operands)?;
+    }
+    let answer = read(&before, &mut table, reply)?;
+    with_less_room(&before, reply, ask)?;
+    Ok(answer)
+}
+
+/// Holds a reply that entered types to slices with less room: each refuses with 9 and tells how many entries lack, and changes nothing. The slice that has just
+/// room enough replies the same.
+fn with_less_room(
+    before: &Table,
+    reply: Reply,
+    ask: impl Fn(&mut Table) -> Reply,
+) -> Result<(), String> {
+    for entries in before.used..reply.used {
+        let mut table = before.in_slice(entries);
+        let left = table.clone();
+        let tight = ask(&mut table);
+        let wanted = Reply {
+            refusal: refusal::NO_ROOM,
+            ty: NO_VALUE,
+            place: 0,
+            used: before.used,
+            lacking: reply.used - entries,
+        };
+        if tight != wanted || table.words != left.words {
+            return Err(format!("{entries} entries: {tight:?}, wanted {wanted:?}"));
+        }
+    }
+    if before.used < reply.used {
+        let enough = ask(&mut before.in_slice(reply.used));
+        if enough != reply {
+            return Err(format!("just enough: {enough:?}, wanted {reply:?}"));
+        }
+    }
+    Ok(())
 }
 
 /// Holds what profile 1 replied and left to profile 0, which does the same for the names that it has and refuses all others, and, where there is one operand or
@@ -192,6 +226,7 @@ fn other_profiles(
         ty: NO_VALUE,
         place: 0,
         used: before.used,
+        lacking: 0,
     };
     for profile in OTHERS.into_iter().take(asked) {
         let mut table = before.clone();
@@ -213,6 +248,9 @@ fn read(before: &Table, table: &mut Table, reply: Reply) -> Result<Answer, Strin
     let held = 4 * before.used as usize;
     if reply.place != 0 {
         return Err(format!("place {} of a single call", reply.place));
+    }
+    if reply.lacking != 0 {
+        return Err(format!("entries lack, where there is room: {reply:?}"));
     }
     if reply.refusal != 0 {
         let kept = table.words == before.words && reply.used == before.used;

@@ -38,6 +38,14 @@ impl Table {
         table
     }
 
+    /// The same table in a slice of so many entries.
+    pub fn in_slice(&self, entries: u32) -> Self {
+        let mut words = self.words.clone();
+        words.resize(4 * entries as usize, 0);
+        let used = self.used;
+        Table { words, used }
+    }
+
     /// An entry by its four words.
     fn entry(&self, number: u32) -> [u32; 4] {
         let at = 4 * number as usize;

@@ -89,7 +89,7 @@ pub enum BinaryOp {
 ///
 /// let mut words = SCALARS;
 /// assert_eq!(call(&mut words, 7, Profile::SUBGROUPS, b"subgroupElect", &[], &[]), Answer::Type { number: 0, used: 7 });
-/// let unknown = Answer::Refused(Refusal { reason: Reason::Unknown, place: 0, used: 7 });
+/// let unknown = Answer::Refused(Refusal { reason: Reason::Unknown, place: 0, used: 7, lacking: 0 });
 /// assert_eq!(call(&mut words, 7, Profile::BASE, b"subgroupElect", &[], &[]), unknown);
 /// ```
 #[derive(Clone, Copy, Debug, PartialEq, Eq)]
@@ -122,7 +122,7 @@ pub enum Reason {
     Operands = 7,
     /// No overload fits.
     NoOverload = 8,
-    /// The result is absent, and the slice or 256 leaves too little room.
+    /// The result is absent, and the slice or 256 leaves too little room: [`Refusal::lacking`] tells how much.
     NoRoom = 9,
     /// A sheet's header, framing, kind or payload length.
     Framing = 10,
@@ -156,7 +156,11 @@ impl Reason {
     }
 }
 
-/// A refusal: why, at which place of a sheet, and the count of entries as it stands.
+/// The most entries that a table has, and the words of one.
+const CEILING: usize = 256;
+const STRIDE: usize = 4;
+
+/// A refusal: why, at which place of a sheet, the count of entries as it stands, and how many entries lack.
 #[derive(Clone, Copy, Debug, PartialEq, Eq)]
 pub struct Refusal {
     /// Why.
@@ -165,6 +169,36 @@ pub struct Refusal {
     pub place: u32,
     /// The count of entries; for [`Reason::Unsound`] the one that was given.
     pub used: u32,
+    /// For [`Reason::NoRoom`] how many entries lack: the missing ones that the result needs, less those that are free in the slice and below 256. Else 0.
+    pub lacking: u32,
+}
+
+impl Refusal {
+    /// The least length of a slice in which the same call is not refused for want of room, where it was in one of so many words. `None` where that would be more
+    /// than 256 entries, which no table has, and for every reason but [`Reason::NoRoom`]. Of a sheet it is enough for the item at [`Refusal::place`]; a later
+    /// one may want more.
+    ///
+    /// ```
+    /// use swartabelk::{call, Answer, Profile, SCALARS};
+    ///
+    /// let mut words = SCALARS.to_vec();
+    /// let answer = loop {
+    ///     // frexp gives a type that is not one of the scalars.
+    ///     match call(&mut words, 7, Profile::BASE, b"frexp", &[], &[5]) {
+    ///         Answer::Refused(refusal) => match refusal.enough_words(words.len()) {
+    ///             Some(length) => words.resize(length, 0),
+    ///             None => break Answer::Refused(refusal),
+    ///         },
+    ///         answer => break answer,
+    ///     }
+    /// };
+    /// assert_eq!(answer, Answer::Type { number: 7, used: 8 });
+    /// assert_eq!(words.len(), 32);
+    /// ```
+    pub fn enough_words(&self, length: usize) -> Option<usize> {
+        let entries = length / STRIDE + self.lacking as usize;
+        (self.reason == Reason::NoRoom && entries <= CEILING).then_some(STRIDE * entries)
+    }
 }
 
 /// What a call answers.
@@ -214,12 +248,13 @@ impl Argument {
     }
 }
 
-fn refusal(number: u32, place: u32, used: u32) -> Refusal {
+fn refusal(number: u32, place: u32, used: u32, lacking: u32) -> Refusal {
     let reason = Reason::of(number).expect("the library's refusals are 1 to 13");
     Refusal {
         reason,
         place,
         used,
+        lacking,
     }
 }
 
@@ -241,8 +276,9 @@ fn answer(r: raw::Reply) -> Answer {
             refusal: number,
             place,
             used,
+            lacking,
             ..
-        } => Answer::Refused(refusal(number, place, used)),
+        } => Answer::Refused(refusal(number, place, used, lacking)),
     }
 }
 
@@ -337,7 +373,8 @@ pub fn spell(words: &[u32], used: u32, number: u32, out: &mut [u8]) -> Result<us
     };
     match r.refusal {
         0 => Ok(r.length as usize),
-        number => Err(refusal(number, r.place, r.used)),
+        // A spelling enters nothing, so that nothing lacks.
+        number => Err(refusal(number, r.place, r.used, 0)),
     }
 }
 

@@ -10,6 +10,7 @@ pub struct Reply {
     pub ty: u32,
     pub place: u32,
     pub used: u32,
+    pub lacking: u32,
 }
 
 /// `swartabelk_spelled`.

@@ -94,6 +94,17 @@ fn refused(reason: Reason, place: u32, used: u32) -> Answer {
         reason,
         place,
         used,
+        lacking: 0,
+    })
+}
+
+/// For want of room, with so many entries lacking.
+fn lacks(lacking: u32, place: u32, used: u32) -> Answer {
+    Answer::Refused(Refusal {
+        reason: Reason::NoRoom,
+        place,
+        used,
+        lacking,
     })
 }
 
@@ -301,7 +312,7 @@ fn a_ballot_is_entered_where_there_is_room() {
     // Eight entries are wanted.
     assert_eq!(
         sheet(&mut words[..31], used, Profile::SUBGROUPS, &ballot),
-        refused(Reason::NoRoom, 6, 7)
+        lacks(1, 6, 7)
     );
     assert_eq!(words, before);
     assert_eq!(
@@ -315,7 +326,7 @@ fn a_ballot_is_entered_where_there_is_room() {
     let before = words;
     assert_eq!(
         sheet(&mut words, used, Profile::SUBGROUPS, &ballot),
-        refused(Reason::NoRoom, 6, 256)
+        lacks(1, 6, 256)
     );
     // Of 64 values the call takes one, so that its value is no 65th: 9, and not 11.
     assert_eq!(
@@ -325,7 +336,7 @@ fn a_ballot_is_entered_where_there_is_room() {
             Profile::SUBGROUPS,
             &called(64, "subgroupBallot", 1)
         ),
-        refused(Reason::NoRoom, 195, 256)
+        lacks(1, 195, 256)
     );
     assert_eq!(
         call(
@@ -336,7 +347,7 @@ fn a_ballot_is_entered_where_there_is_room() {
             &[],
             &[BOOL]
         ),
-        refused(Reason::NoRoom, 0, 256)
+        lacks(1, 0, 256)
     );
     assert_eq!(words, before);
     // Where it is present a full table has room enough.

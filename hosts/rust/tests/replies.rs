@@ -38,6 +38,17 @@ fn refused(reason: Reason, place: u32, used: u32) -> Answer {
         reason,
         place,
         used,
+        lacking: 0,
+    })
+}
+
+/// For want of room, with so many entries lacking.
+fn lacks(lacking: u32, place: u32, used: u32) -> Answer {
+    Answer::Refused(Refusal {
+        reason: Reason::NoRoom,
+        place,
+        used,
+        lacking,
     })
 }
 
@@ -168,7 +179,7 @@ fn operators_are_refused() {
     );
     assert_eq!(
         unary(&mut words[..32], used, UnaryOp::AddressOf as u32, 7),
-        refused(Reason::NoRoom, 0, 8)
+        lacks(1, 0, 8)
     );
     assert_eq!(
         binary(&mut words, 6, BinaryOp::Plus as u32, F32, F32),
@@ -243,7 +254,7 @@ fn calls() {
     );
     assert_eq!(
         call(&mut words[..36], used, Profile::BASE, b"modf", &[], &[8]),
-        refused(Reason::NoRoom, 0, 9)
+        lacks(1, 0, 9)
     );
 }
 
@@ -315,7 +326,7 @@ fn templates() {
     }
     assert_eq!(
         template(&mut words[..36], n, b"vec3", &list(&[Argument::Type(F32)])),
-        refused(Reason::NoRoom, 0, n)
+        lacks(1, 0, n)
     );
     assert_eq!(words, before);
 }
@@ -387,7 +398,7 @@ fn sheets() {
             Profile::BASE,
             &[1, 0, 9, 8, 6, 7, 0, 0, 0, 4, 0, 5]
         ),
-        refused(Reason::NoRoom, 3, 9)
+        lacks(1, 3, 9)
     );
 }
 
@@ -415,6 +426,7 @@ fn spellings() {
             reason,
             place: 0,
             used,
+            lacking: 0,
         })
     };
     assert_eq!(

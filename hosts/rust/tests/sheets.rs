@@ -1,5 +1,5 @@
-//! A sheet does what the single calls do, item by item: made-up sheets of pushes, operators and calls, of which many meet the same operands again. And what it does in
-//! profile 0 it does in profile 1 too, but where profile 0 lacks a name.
+//! A sheet does what the single calls do, item by item: made-up sheets of pushes, operators and calls, of which many meet the same operands again, some in a slice with
+//! little room. And what it does in profile 0 it does in profile 1 too, but where profile 0 lacks a name.
 use swartabelk::{
     binary, call, call_name, sheet, unary, Answer, Profile, Reason, Refusal, SCALARS,
 };
@@ -97,14 +97,15 @@ impl Item {
 #[derive(Clone)]
 struct State {
     profile: Profile,
-    words: [u32; 1024],
+    words: Vec<u32>,
     used: u32,
     stack: Vec<u32>,
 }
 
 impl State {
-    fn new(profile: Profile) -> State {
-        let mut words = [0; 1024];
+    /// A table in a slice of so many entries.
+    fn new(profile: Profile, entries: usize) -> State {
+        let mut words = vec![0; 4 * entries];
         words[..28].copy_from_slice(&SCALARS);
         for (i, e) in ENTRIES.iter().enumerate() {
             words[28 + 4 * i..32 + 4 * i].copy_from_slice(e);
@@ -122,6 +123,7 @@ impl State {
             reason,
             place: 0,
             used: self.used,
+            lacking: 0,
         })
     }
 
@@ -198,10 +200,18 @@ fn mild_item(dice: &mut Dice) -> Item {
     }
 }
 
-/// A sheet of so many tries, and what the single calls say that it answers and leaves. An item that is refused is left out. A wild sheet ends at one such in 50; in
-/// a mild one nothing is pushed after half of the tries, until one value stands.
-fn made(dice: &mut Dice, profile: Profile, most: usize, wild: bool) -> (Vec<u8>, Answer, State) {
-    let mut state = State::new(profile);
+/// Of how many items that are refused so a wild sheet ends at one. Want of room is seldom met.
+fn ends_at(reason: Reason) -> usize {
+    match reason {
+        Reason::NoRoom => 3,
+        _ => 50,
+    }
+}
+
+/// A sheet of so many tries from a state, and what the single calls say that it answers and leaves. An item that is refused is left out. A wild sheet ends at one such
+/// in 50, and at one in three for want of room; in a mild one nothing is pushed after half of the tries, until one value stands.
+fn made(dice: &mut Dice, from: &State, most: usize, wild: bool) -> (Vec<u8>, Answer, State) {
+    let mut state = from.clone();
     let mut bytes = vec![1, 0, 0];
     let mut stopped = None;
     for i in 0..most {
@@ -221,7 +231,7 @@ fn made(dice: &mut Dice, profile: Profile, most: usize, wild: bool) -> (Vec<u8>,
         let answer = next.take(&item);
         match answer {
             Answer::Type { .. } => state = next,
-            Answer::Refused(r) if wild && dice.below(50) == 0 => {
+            Answer::Refused(r) if wild && dice.below(ends_at(r.reason)) == 0 => {
                 let place = bytes.len() as u32;
                 stopped = Some(Answer::Refused(Refusal { place, ..r }));
             }
@@ -242,6 +252,7 @@ fn made(dice: &mut Dice, profile: Profile, most: usize, wild: bool) -> (Vec<u8>,
             reason: Reason::Stack,
             place: bytes.len() as u32,
             used,
+            lacking: 0,
         }),
     };
     (bytes, stopped.unwrap_or(end), state)
@@ -262,37 +273,63 @@ fn lacks_a_name(bytes: &[u8], answer: Answer) -> bool {
 fn sheets_do_what_single_calls_do() {
     let mut dice = Dice(0x5eed_5eed_5eed_5eed);
     let mut reasons = [0; 14];
-    let (mut lacking, mut alike) = (0, 0);
+    let mut lacking = [0; 3];
+    let (mut unnamed, mut alike) = (0, 0);
     for k in 0..2000 {
         let profile = [Profile::BASE, Profile::SUBGROUPS][k / 2 % 2];
+        // In the second slice no entry is free, in the third one is.
+        let held = 7 + ENTRIES.len();
+        let entries = [256, held, held + 1][k / 4 % 3];
         let (bytes, told, after) = made(
             &mut dice,
-            profile,
+            &State::new(profile, entries),
             if k % 100 < 4 { 20_000 } else { 400 },
             k % 2 == 0,
         );
-        let run = |profile| {
-            let mut state = State::new(profile);
+        let run_in = |profile, entries| {
+            let mut state = State::new(profile, entries);
             let answer = sheet(&mut state.words, state.used, profile, &bytes);
             (answer, state.words)
         };
+        let run = |profile| run_in(profile, entries);
         assert_eq!(run(profile), (told, after.words), "sheet {k}: {bytes:?}");
         let base = run(Profile::BASE);
         if lacks_a_name(&bytes, base.0) {
-            lacking += 1;
+            unnamed += 1;
         } else {
             assert_eq!(base, run(Profile::SUBGROUPS), "sheet {k}: {bytes:?}");
             alike += 1;
+        }
+        // Its last item is the one that lacks room. With one entry less than it lacks, one lacks; with all it has room.
+        if let Answer::Refused(refusal) = told {
+            lacking[refusal.lacking as usize] += 1;
+            if refusal.reason == Reason::NoRoom {
+                let enough = entries + refusal.lacking as usize;
+                let less = Answer::Refused(Refusal {
+                    lacking: 1,
+                    ..refusal
+                });
+                assert_eq!(run_in(profile, enough - 1).0, less, "sheet {k}: {bytes:?}");
+                let answer = run_in(profile, enough).0;
+                let room = match answer {
+                    Answer::Refused(r) => r.reason == Reason::Stack,
+                    _ => true,
+                };
+                assert!(room, "sheet {k}: {answer:?} {bytes:?}");
+            }
         }
         match told {
             Answer::Refused(r) => reasons[r.reason as usize] += 1,
             _ => reasons[0] += 1,
         }
     }
-    println!("sheets by refusal, 0 for a type: {reasons:?}; {alike} alike in both profiles, {lacking} with a name that profile 0 lacks");
-    for reason in [0, 2, 3, 4, 7, 8, 11] {
+    println!("sheets by refusal, 0 for a type: {reasons:?}; of the refused {lacking:?} by how many entries lack; {alike} alike in both profiles, {unnamed} with a name that profile 0 lacks");
+    for reason in [0, 2, 3, 4, 7, 8, 9, 11] {
         assert_ne!(reasons[reason], 0, "no sheet ends with {reason}");
     }
-    assert_ne!(lacking, 0);
+    assert_eq!(lacking[1] + lacking[2], reasons[Reason::NoRoom as usize]);
+    assert_ne!(lacking[1], 0);
+    assert_ne!(lacking[2], 0);
+    assert_ne!(unnamed, 0);
     assert_ne!(alike, 0);
 }
