@@ -34,9 +34,9 @@ same-length c = search needs
 returns : tie.Need-returns
 unfolding ascii
 returns c = let a = c .before .before .before .before .before .before .before .before .before .before .before .before .before .before .before .args in (
-      refused-short (a .r) (λ e. c .if1 .taken (c .before .before .before .before .before .before .before .before .before .before .before .before .reason-no .ensures ∙ e)) (put-put (rw (c .before .before .before .before .before .before .before .before .before .wide .ensures, c .before .before .before .before .before .before .before .before .before .before .before .before .reason-no .ensures) at (c .before .before .before .before .before .before .before .before .put-after .ensures)) (c .before .before .before .put-after2 .ensures)),
-      omega (arith, after-near (ascii "refused ") (c .before .before .before .before .before .before .before .before .before .wide .result) (omega (arith, c .before .before .before .before .before .before .before .before .before .wide .ensures)) (c .before .before .before .before .before .before .before .before .put-after .ensures), after-near (ascii " at ") (a .r .place .0) (omega arith) (c .before .before .before .put-after2 .ensures)),
-    )
+  refused-short (a .r) (λ e. c .if1 .taken (c .before .before .before .before .before .before .before .before .before .before .before .before .reason-no .ensures ∙ e)) (put-put (rw (c .before .before .before .before .before .before .before .before .before .wide .ensures, c .before .before .before .before .before .before .before .before .before .before .before .before .reason-no .ensures) at (c .before .before .before .before .before .before .before .before .put-after .ensures)) (c .before .before .before .put-after2 .ensures)),
+  omega (arith, after-near (ascii "refused ") (c .before .before .before .before .before .before .before .before .before .wide .result) (omega (arith, c .before .before .before .before .before .before .before .before .before .wide .ensures)) (c .before .before .before .before .before .before .before .before .put-after .ensures), after-near (ascii " at ") (a .r .place .0) (omega arith) (c .before .before .before .put-after2 .ensures)),
+)
 
 slice-aggregate-put-after-3 : tie.Need-slice-aggregate-put-after-3
 slice-aggregate-put-after-3 c = search needs
@@ -58,9 +58,9 @@ same-length-2 c = search needs
 returns-2 : tie.Need-returns-2
 unfolding ascii
 returns-2 c = let a = c .before .before .before .before .before .before .before .before .before .before .before .before .before .before .before .before .before .before .before .before .before .before .args in (
-      refused-lacking (a .r) (sym (c .before .before .before .before .before .before .before .before .before .before .before .before .before .before .before .before .before .before .before .reason-no .ensures) ∙ c .before .before .before .before .before .before .before .if1 .left) (c .before .before .before .word .ensures ∙ c .before .before .before .before .lacking-of .ensures) (put-put (rw (c .before .before .before .before .before .before .before .before .before .before .before .before .before .before .before .before .wide .ensures, c .before .before .before .before .before .before .before .before .before .before .before .before .before .before .before .before .before .before .before .reason-no .ensures) at (c .before .before .before .before .before .before .before .before .before .before .before .before .before .before .before .put-after .ensures)) (c .before .before .before .before .before .before .before .before .before .before .put-after2 .ensures)) (c .before .before .put-after3 .ensures),
-      omega (arith, after-near (ascii "refused ") (c .before .before .before .before .before .before .before .before .before .before .before .before .before .before .before .before .wide .result) (omega (arith, c .before .before .before .before .before .before .before .before .before .before .before .before .before .before .before .before .wide .ensures)) (c .before .before .before .before .before .before .before .before .before .before .before .before .before .before .before .put-after .ensures), after-near (ascii " at ") (a .r .place .0) (omega arith) (c .before .before .before .before .before .before .before .before .before .before .put-after2 .ensures), after-near (ascii " lacking ") (c .before .before .before .word .result) (omega (arith, c .before .before .before .word .ensures)) (c .before .before .put-after3 .ensures)),
-    )
+  refused-lacking (a .r) (sym (c .before .before .before .before .before .before .before .before .before .before .before .before .before .before .before .before .before .before .before .reason-no .ensures) ∙ c .before .before .before .before .before .before .before .if1 .left) (c .before .before .before .word .ensures ∙ c .before .before .before .before .lacking-of .ensures) (put-put (rw (c .before .before .before .before .before .before .before .before .before .before .before .before .before .before .before .before .wide .ensures, c .before .before .before .before .before .before .before .before .before .before .before .before .before .before .before .before .before .before .before .reason-no .ensures) at (c .before .before .before .before .before .before .before .before .before .before .before .before .before .before .before .put-after .ensures)) (c .before .before .before .before .before .before .before .before .before .before .put-after2 .ensures)) (c .before .before .put-after3 .ensures),
+  omega (arith, after-near (ascii "refused ") (c .before .before .before .before .before .before .before .before .before .before .before .before .before .before .before .before .wide .result) (omega (arith, c .before .before .before .before .before .before .before .before .before .before .before .before .before .before .before .before .wide .ensures)) (c .before .before .before .before .before .before .before .before .before .before .before .before .before .before .before .put-after .ensures), after-near (ascii " at ") (a .r .place .0) (omega arith) (c .before .before .before .before .before .before .before .before .before .before .put-after2 .ensures), after-near (ascii " lacking ") (c .before .before .before .word .result) (omega (arith, c .before .before .before .word .ensures)) (c .before .before .put-after3 .ensures)),
+)
 
 pub refused-line-spec : {M : Type 1} → statement M
 refused-line-spec =
