@@ -1,12 +1,12 @@
 -- What the answers of single calls keep, as a sheet needs it: a value is a number of the table, and a call without operands enters nothing.
 -- Assumes nothing.
 use Prim.Native.Nat.{ℕ, _<_}
-use mathlib.Core.Path.{_≡_, refl, sym, ap}
-use mathlib.Core.Bool.{Bool, true, false, cond}
+use mathlib.Core.Path.{_≡_, refl, sym, _∙_, ap}
+use mathlib.Core.Bool.{Bool, true, false, _&&_, cond}
 use mathlib.Core.List.{List, []}
 use native.Mathlib.Omega.{arith}
-use lib.Dec.{eqb}
-use borrow.Author.Tests.{eqb-true}
+use lib.Dec.{eqb, leb}
+use borrow.Author.Tests.{eqb-true, leb-false}
 use Rattle.conv.specs.Types.{Ty}
 use Rattle.conv.specs.Types.Ty.{scalar}
 use Rattle.names.specs.Names.{Rule, Named, ruleOf}
@@ -71,6 +71,15 @@ module _ (place : ℕ) (w : List ℕ) (n : ℕ) (ts : List Ty) where
   bare-unvalued name =
       by-rule (λ (o : Outcome). isValued (o .answer) ≡ false) (λ reason h. h) (ruleOf 0 name)
       (λ r e o. given-unvalued (givenBy r ts []) (wants-none 0 name r e o ts))
+
+-- A VALUE HAS A PLACE on a stack of h values, where not both the stack is full and a value comes
+pub has-place : (h : ℕ) (a : Answer) (t : TypeNo) (m : ℕ) → (leb most h && isValued a) ≡ false → a ≡ Value t m → h < most
+unfolding isValued
+has-place h a t m e q = leb-false most h (and-true (leb most h) (ap (λ (x : Answer). leb most h && isValued x) (sym q) ∙ e))
+  where
+    and-true : (b : Bool) → (b && true) ≡ false → b ≡ false
+    and-true true p = p
+    and-true false p = refl
 
 -- AN ANSWER CAN BE PUSHED where its value is a number of the table and the stack has room for it
 

@@ -7,7 +7,7 @@ use mathlib.Core.List.{List, map}
 use native.Mathlib.Omega.{arith}
 use lib.ListN.{length, getD, take, drop}
 use lib.Dec.{eqb, leb}
-use borrow.Author.Tests.{leb-true, leb-false}
+use borrow.Author.Tests.{leb-true}
 use Rattle.overload.proofs.Operands.{and-left}
 use Rattle.table.specs.Table.{Sound, allowedb}
 use Rattle.table.specs.Denote.{typeAt, tyOf}
@@ -33,7 +33,7 @@ use Rattle.step.specs.declared.Did.{Did}
 use Rattle.step.specs.Effect.{most, State, isValued, calling, takeEffect}
 use Rattle.step.specs.inner.Code.{stateOf, Arity, operatorOutcome, operatorEffect, Ready, turnedAway, Pushes, Does, Settles}
 use Rattle.step.proofs.StackLaws.{operands-lent, under-drop}
-use Rattle.step.proofs.Answers.{bare-words, pushes}
+use Rattle.step.proofs.Answers.{bare-words, has-place, pushes}
 use Rattle.step.proofs.Effects.{does-as, settled, refusing, lent-many, operator-goes, calling-on, landing-on, landing-full, take-goes}
 
 module _ (place : Place) (count : ℕ) (vals : List ℕ) (used : ℕ) (w : List ℕ) (ready : Ready count vals used w) where
@@ -89,14 +89,9 @@ module _ (place : Place) (count : ℕ) (vals : List ℕ) (used : ℕ) (w : List 
       same-test b e = ap (λ (x : Answer). leb most (count - k) && isValued x) (sym (g .reply)) ∙ e
 
       pub call-pushes : (leb most (count - k) && isValued a) ≡ false → Pushes (count - k) a
-      unfolding isValued
       call-pushes e =
           pushes w used outcome (call-at-kept profile (place .0) w used sound name tplt args ut args-under) (count - k)
-          (λ t m q. leb-false most (count - k) (and-true (leb most (count - k)) (ap (λ (x : Answer). leb most (count - k) && isValued x) (sym q) ∙ same-test false e))) a (g .reply)
-        where
-          and-true : (b : Bool) → (b && true) ≡ false → b ≡ false
-          and-true true h = h
-          and-true false h = refl
+          (λ t m q. has-place (count - k) (outcome .answer) t m (same-test false e) q) a (g .reply)
 
       pub call-does : (leb most (count - k) && isValued a) ≡ false → {r : Did} {after : List ℕ} → Settles (count - k) vals a r after
           → Does (calling profile (place .0) st name (map (typeAt w) tplt) k) r after v

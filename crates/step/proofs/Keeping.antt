@@ -7,7 +7,7 @@ use mathlib.Core.List.{List, [], _∷_, map}
 use native.Mathlib.Omega.{arith}
 use lib.Dec.{ltb, leb}
 use lib.ListN.{length, getD, length-append, length-take, length-drop}
-use borrow.Author.Tests.{ltb-true, leb-true, leb-false}
+use borrow.Author.Tests.{ltb-true, leb-true}
 use Rattle.table.specs.Table.{allowedb}
 use Rattle.table.specs.Denote.{typeAt, tyOf}
 use Rattle.table.specs.Placing.{Outcome}
@@ -30,6 +30,7 @@ use Rattle.step.specs.Effect.{most, State, height, operands, below, Effe
 use Rattle.step.specs.inner.Code.{Good}
 use Rattle.step.specs.Kept.{Grew, resultOf, Needed}
 use Rattle.step.proofs.StackLaws.{under-take, under-drop}
+use Rattle.step.proofs.Answers.{has-place}
 
 -- what an effect keeps of the state before it
 abbrev pub EffectKept : State → Effect → Type 0
@@ -153,18 +154,13 @@ module _ (place : ℕ) (st : State) (good : Good st) where
 
   -- a call's outcome lands only where its value has a place
   kept-landing : (k : ℕ) (o : Outcome) → Kept w n o → EffectKept st (landing place st k o)
-  unfolding isValued
   kept-landing k o kept =
       either (EffectKept st) (leb most (height st - k) && isValued (o .answer)) (λ b. kept-stop Stack)
       (λ b. kept-onto (below k st) o (below-under k) (omega (arith, below-high k, good .high)) (λ t m e. room b t m e) kept)
     where
-      and-true : (b : Bool) → (b && true) ≡ false → b ≡ false
-      and-true true h = h
-      and-true false h = refl
-
       room : (leb most (height st - k) && isValued (o .answer)) ≡ false → (t : TypeNo) (m : ℕ) → o .answer ≡ Value t m → length (below k st) < most
       room b t m e =
-          let l = leb-false most (height st - k) (and-true (leb most (height st - k)) (ap (λ (x : Answer). leb most (height st - k) && isValued x) (sym e) ∙ b)) in
+          let l = has-place (height st - k) (o .answer) t m b e in
           omega (arith, below-high k)
 
   kept-calling : (profile : ℕ) (name tplt : List ℕ) (k : ℕ) → Under n tplt → k ≤ height st → EffectKept st (calling profile place st name (map (typeAt w) tplt) k)
