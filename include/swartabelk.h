@@ -21,10 +21,19 @@
 extern "C" {
 #endif
 
-#define SWARTABELK_VERSION 3
+#define SWARTABELK_VERSION 4
 
 /* The type of a reply that has no value or is a refusal. */
 #define SWARTABELK_NO_VALUE 0xFFFFFFFFu
+
+/* An operand is a type number, with SWARTABELK_RUNNING where it is known only when running; without the bit it is a const-expression. `type | mark` of a reply is an
+ * operand; where the reply has no value or is a refusal, it is one that is refused with 2.
+ *
+ * A number that is no operand has no mark: there the bit is part of the number, so that in `tplt` and in a spelling it is refused with 2.
+ *
+ * Where overloads are chosen, one with an abstract parameter is left out if another operand is running. So select(1, 2, flag) is i32 where flag is running, and
+ * AbstractInt where it is const. A result is const where all operands are; but derivatives, arrayLength, subgroup and quad calls give a running one even so. */
+#define SWARTABELK_RUNNING 0x80000000u
 
 /* The profile of a call or of a sheet says which builtins there are: 0 has those without subgroups and quads, 1 has the subgroup and quad builtins too. A name
  * that is in both has the same replies in both. Any other number is an unknown profile: its calls are refused with 4, after 1 and 2, and its sheets with 4 at
@@ -47,17 +56,21 @@ extern "C" {
  *   11  the stack is short, a 65th value, or a wrong end
  *   12  the spelling is longer than the output
  *   13  overloads fit, and none is preferred: never given
- */
+ *   14  an operand that is known only when running and is abstract at any depth
+ *
+ * Where several hold, the first of 1, 2, 4, 5, 6, 7, 3, 14, 8, 9 is given; 2 is asked of the template list before the operands. Of a sheet 1 comes first, then a
+ * wrong header, then an unknown profile, then the first item that is refused: 10, then 11 for a short stack, then the order of a call. */
 
 /* The reply of a call. refusal: 0 where it is accepted, else why not. type: the type's number, or SWARTABELK_NO_VALUE where there is no value or the call is
- * refused. place: of a refused sheet the item's length byte, 0 for 1, a wrong header and an unknown profile, the length of the sheet for a wrong end; else 0.
+ * refused. mark: SWARTABELK_RUNNING where the value is known only when running; 0 where it is const, where there is no value, and where the call is refused.
+ * place: of a refused sheet the item's length byte, 0 for 1, a wrong header and an unknown profile, the length of the sheet for a wrong end; else 0.
  * used: the count of entries afterwards; with refusal 1 the one that was given. lacking: with refusal 9 how many entries lack, which are the missing ones that
  * the result needs, less those that are free in the slice and below 256; else 0.
  *
  * In a slice that is longer by `lacking` entries the same call is not refused with 9, and in one that is longer by less it still is. Of a sheet it is the item at
  * `place` that is not; a later one may want more. But 256 entries are the most: where the longer slice has more, no slice has room for the result. */
 typedef struct {
-    uint32_t refusal, type, place, used, lacking;
+    uint32_t refusal, type, mark, place, used, lacking;
 } swartabelk_reply;
 
 /* The reply of a spelling. length: the bytes that the spelling has, 0 where it is refused. place: 0. used: the one that was given. */
@@ -73,24 +86,26 @@ typedef struct {
 /* Whether the words hold a sound table of `used` entries: no value, or refusal 1. */
 swartabelk_reply swartabelk_check(const uint32_t *words, size_t words_len, uint32_t used);
 
-/* The type of a unary operator on the type a. Operators 0 to 4: ! - ~ & * */
+/* The type of a unary operator on the operand a. Operators 0 to 4: ! - ~ & * */
 swartabelk_reply swartabelk_unary(uint32_t *words, size_t words_len, uint32_t used, uint32_t op, uint32_t a);
 
-/* The type of a binary operator on the types a and b. Operators 0 to 17: || && + - * / % == != < <= > >= | & ^ << >> */
+/* The type of a binary operator on the operands a and b. Operators 0 to 17: || && + - * / % == != < <= > >= | & ^ << >> */
 swartabelk_reply swartabelk_binary(uint32_t *words, size_t words_len, uint32_t used, uint32_t op, uint32_t a, uint32_t b);
 
-/* The type of a call of the builtin that has that name in the profile, on the types of `args`. `tplt` is its template list: one type for bitcast, none for every
- * other. */
+/* The type of a call of the builtin that has that name in the profile, on the operands `args`. `tplt` is its template list: one type number for bitcast, none
+ * for every other. */
 swartabelk_reply swartabelk_call(uint32_t *words, size_t words_len, uint32_t used, uint32_t profile, const uint8_t *name, size_t name_len,
                                  const uint32_t *tplt, size_t tplt_len, const uint32_t *args, size_t args_len);
 
 /* The type of a head with template arguments, entered if absent. head: vec2 to vec4, mat2x2 to mat4x4, atomic, array. args: pairs (tag, value); tag 0 a type
  * number, 1 a literal of AbstractInt, 2 of i32, 3 of u32, any other tag another literal; a type number that is negative or too large is refusal 2, a literal
- * outside its tag's type is another literal; an odd length is a wrong list: 5, after 2 and 4. */
+ * outside its tag's type is another literal; an odd length is a wrong list: 5, after 2 and 4. The mark is 0. */
 swartabelk_reply swartabelk_template(uint32_t *words, size_t words_len, uint32_t used, const uint8_t *head, size_t head_len,
                                      const int64_t *args, size_t args_len);
 
-/* The type of a whole sheet, whose calls are those of the profile. */
+/* The type of a whole sheet, whose calls are those of the profile. Its first byte is its version. In version 1 every value is const, and no result keeps a mark: the
+ * reply's is 0. In version 2 the payload of a push and of a take ends with a mark byte, 0 for const and 1 for running, and results keep the marks that calls give
+ * them; any other mark byte is 10. A running value that is abstract may be pushed, taken, and left at the end: 14 is about operands. */
 swartabelk_reply swartabelk_sheet(uint32_t *words, size_t words_len, uint32_t used, uint32_t profile, const uint8_t *sheet, size_t sheet_len);
 
 /* Writes the spelling of a type to the front of `out`. Later bytes stay unchanged, and all of them where it is refused. */

@@ -54,15 +54,21 @@ impl fmt::Display for Argument {
     }
 }
 
-/// A question: an operation, its template list (empty where there is none) and its operands.
+/// A question: an operation, its template list (empty where there is none), its operands, and of each whether it is known only when running (empty where all are
+/// const-expressions, as the crate takes them).
 #[derive(Clone, Copy, Debug)]
 pub struct Case<'a> {
     pub operation: Operation,
     pub template: &'a [Argument],
     pub operands: &'a [&'a WType],
+    pub running: &'a [bool],
 }
 
 impl Case<'_> {
+    /// Whether the operand of that place is known only when running.
+    pub fn runs(&self, place: usize) -> bool {
+        self.running.get(place) == Some(&true)
+    }
     /// The name or sign of the operation.
     pub fn sign(&self) -> &'static str {
         match self.operation {
@@ -84,16 +90,14 @@ impl fmt::Display for Case<'_> {
             [] => String::new(),
             some => format!("<{}>", list(some, ",")),
         };
-        match (self.operation, self.operands) {
+        let marked =
+            |(i, ty): (usize, &&WType)| format!("{ty}{}", if self.runs(i) { "*" } else { "" });
+        let operands: Vec<String> = self.operands.iter().enumerate().map(marked).collect();
+        match (self.operation, &operands[..]) {
             (Operation::Unary(op), [a]) => write!(f, "{}{a}", UNARY[op]),
             (Operation::Binary(op), [a, b]) => write!(f, "{a} {} {b}", BINARY[op]),
             (Operation::Template(head), _) => write!(f, "{head}{template}"),
-            _ => write!(
-                f,
-                "{}{template}({})",
-                self.sign(),
-                list(self.operands, ", ")
-            ),
+            _ => write!(f, "{}{template}({})", self.sign(), operands.join(", ")),
         }
     }
 }

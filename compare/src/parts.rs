@@ -47,6 +47,7 @@ impl Run {
                 operation,
                 template: &[],
                 operands,
+                running: &[],
             };
             self.ask(&case, &[], rust);
         }
@@ -58,6 +59,7 @@ impl Run {
             operation,
             template,
             operands,
+            running: &[],
         };
         let params: Vec<TpltParam> = template.iter().map(argument_to_rust).collect();
         let rust: Vec<Type> = operands.iter().map(|ty| to_rust(ty)).collect();

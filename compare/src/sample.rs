@@ -121,6 +121,7 @@ pub fn write(seed: u64) -> String {
                 operation,
                 template: &[],
                 operands: &operands,
+                running: &[],
             };
             let answer = standard.answer(&case);
             let agreed = oracle(&case, &[], &rust).agrees(&answer)

@@ -279,6 +279,7 @@ pub fn kinds(kinds: usize) -> (Table, Vec<Type>, Sheet) {
                     operation: Operation::Binary(usize::from(op)),
                     template: &[],
                     operands: &[one, other],
+                    running: &[],
                 };
                 let Answer::Type(made) = standard.answer(&case) else {
                     continue;

@@ -1,5 +1,5 @@
-//! Document 01, and of document 02 the subgroup and quad calls, read as plainly as can be: every overload of every row is listed, and a call is judged by a search
-//! through them all. A call is one of profile 1, which has every name.
+//! Document 01, and of document 02 the subgroup and quad calls and the marks of operands, read as plainly as can be: every overload of every row is listed, and a call
+//! is judged by a search through them all. A call is one of profile 1, which has every name.
 //!
 //! It shares no line with the crate's files, with their stand-ins or with Swartabelk. It is slow, and a third opinion.
 
@@ -22,6 +22,7 @@ pub mod refusal {
     pub const NONE_FITS: u32 = 8;
     pub const NO_ROOM: u32 = 9;
     pub const NONE_PREFERRED: u32 = 13;
+    pub const RUNNING_ABSTRACT: u32 = 14;
 }
 
 /// The 94 builtin names of profile 0, sorted by their bytes.
@@ -55,6 +56,11 @@ pub fn names() -> impl Iterator<Item = &'static str> {
 /// Whether profile 0 has a name.
 pub fn in_base(name: &str) -> bool {
     NAMES.binary_search(&name).is_ok()
+}
+
+/// Whether the value of a call is running even where all operands are const.
+pub fn runs_anyway(name: &str) -> bool {
+    name == "arrayLength" || DERIVATIVES.contains(&name) || SUBGROUP_NAMES.contains(&name)
 }
 
 /// One overload: the parameters and the result.
@@ -106,8 +112,31 @@ pub fn common(a: Scalar, b: Scalar) -> Option<Scalar> {
     }
 }
 
+/// Whether an overload is left out: a parameter is abstract, and another operand is running.
+fn dropped(overload: &Overload, case: &Case) -> bool {
+    let another = |i: usize| (0..case.operands.len()).any(|j| j != i && case.runs(j));
+    let mut parameters = overload.parameters.iter().enumerate();
+    parameters.any(|(i, ty)| ty.is_abstract() && another(i))
+}
+
+/// Why no overload is looked for: an operand is a reference, or is running and abstract.
+fn offended(case: &Case) -> Option<Answer> {
+    let mut operands = case.operands.iter();
+    if operands.any(|ty| matches!(ty, WType::Reference(..))) {
+        return Some(Answer::Refused(refusal::REFERENCE));
+    }
+    running_abstract(case)
+}
+
+fn running_abstract(case: &Case) -> Option<Answer> {
+    let mut operands = case.operands.iter().enumerate();
+    let offends = operands.any(|(i, ty)| case.runs(i) && ty.is_abstract());
+    offends.then_some(Answer::Refused(refusal::RUNNING_ABSTRACT))
+}
+
 /// The result of the fitting overload that is preferred to every other.
-pub fn resolve(overloads: &[Overload], operands: &[&WType]) -> Answer {
+pub fn resolve(overloads: &[Overload], case: &Case) -> Answer {
+    let operands = case.operands;
     let ranks_of = |overload: &Overload| -> Option<Vec<u32>> {
         let pairs = overload.parameters.iter().zip(operands);
         if pairs.clone().any(|(to, from)| rank(from, to).is_none()) {
@@ -119,12 +148,13 @@ pub fn resolve(overloads: &[Overload], operands: &[&WType]) -> Answer {
     if !overloads.iter().any(|overload| with_count(&overload)) {
         return Answer::Refused(refusal::OPERANDS);
     }
-    if operands.iter().any(|ty| matches!(ty, WType::Reference(..))) {
-        return Answer::Refused(refusal::REFERENCE);
+    if let Some(refused) = offended(case) {
+        return refused;
     }
     let fitting: Vec<(Vec<u32>, &Overload)> = overloads
         .iter()
         .filter(with_count)
+        .filter(|overload| !dropped(overload, case))
         .filter_map(|overload| ranks_of(overload).map(|ranks| (ranks, overload)))
         .collect();
     if fitting.is_empty() {
@@ -161,32 +191,33 @@ impl Default for Standard {
 impl Standard {
     /// The answer, for a sound table with room and numbers that stand in it.
     pub fn answer(&self, case: &Case) -> Answer {
+        let unfit = || running_abstract(case).unwrap_or(Answer::Refused(refusal::NONE_FITS));
         match (case.operation, case.operands) {
             (Operation::Unary(3), [a]) => match a {
                 WType::Reference(space, elem, access) if *space != Space::Handle => {
                     Answer::Type(WType::Pointer(*space, elem.clone(), *access))
                 }
-                _ => Answer::Refused(refusal::NONE_FITS),
+                _ => unfit(),
             },
             (Operation::Unary(4), [a]) => match a {
                 WType::Pointer(space, elem, access) => {
                     Answer::Type(WType::Reference(*space, elem.clone(), *access))
                 }
                 WType::Reference(..) => Answer::Refused(refusal::REFERENCE),
-                _ => Answer::Refused(refusal::NONE_FITS),
+                _ => unfit(),
             },
-            (Operation::Unary(op), _) => resolve(&self.unary[op], case.operands),
-            (Operation::Binary(op), _) => resolve(&self.binary[op], case.operands),
-            (Operation::Call(name), operands) => self.call(name, case.template, operands),
+            (Operation::Unary(op), _) => resolve(&self.unary[op], case),
+            (Operation::Binary(op), _) => resolve(&self.binary[op], case),
+            (Operation::Call(name), _) => self.call(name, case),
             (Operation::Template(head), _) => template(head, case.template),
         }
     }
 
-    fn call(&self, name: &str, list: &[Argument], operands: &[&WType]) -> Answer {
+    fn call(&self, name: &str, case: &Case) -> Answer {
         let Some(overloads) = self.calls.get(name) else {
             return Answer::Refused(refusal::UNKNOWN);
         };
-        let wanted = match list {
+        let wanted = match case.template {
             [] => name != "bitcast",
             [Argument::Type(ty)] => {
                 name == "bitcast" && ty.as_wide().is_some_and(|(_, of)| of != Bool)
@@ -197,27 +228,27 @@ impl Standard {
             return Answer::Refused(refusal::TEMPLATE);
         }
         if overloads.is_empty() {
-            crate_rule(name, list, operands)
+            crate_rule(name, case)
         } else {
-            resolve(overloads, operands)
+            resolve(overloads, case)
         }
     }
 }
 
 /// "Crate rules, 6", after the template list was judged.
-fn crate_rule(name: &str, list: &[Argument], operands: &[&WType]) -> Answer {
+fn crate_rule(name: &str, case: &Case) -> Answer {
     let wanted = match name {
         "bitcast" | "arrayLength" => 1,
         "ldexp" => 2,
         _ => 0,
     };
-    if operands.len() != wanted {
+    if case.operands.len() != wanted {
         return Answer::Refused(refusal::OPERANDS);
     }
-    if operands.iter().any(|ty| matches!(ty, WType::Reference(..))) {
-        return Answer::Refused(refusal::REFERENCE);
+    if let Some(refused) = offended(case) {
+        return refused;
     }
-    match (name, list, operands) {
+    match (name, case.template, case.operands) {
         ("bitcast", [Argument::Type(ty)], _) => Answer::Type(ty.clone()),
         ("arrayLength", _, _) => Answer::Type(scalar(U32)),
         ("ldexp", _, [a, b]) => ldexp(a, b),
@@ -311,6 +342,7 @@ mod tests {
             operation,
             template: &[],
             operands: &operands,
+            running: &[],
         };
         let given = Standard::default().answer(&case);
         assert_eq!(given.to_string(), answer, "{case}");

@@ -77,8 +77,8 @@ pub fn check(files: &[String]) -> bool {
     held.wrong == 0 && unread == 0
 }
 
-/// Holds every row of the files to them, all of calls: refused ones are listed as `refused`. A `*` behind an operand, which marks one that is known only when
-/// running, is left out. True where all agree.
+/// Holds every row of the files to them: refused ones are listed as `refused`. A `*` behind an operand marks one that is known only when running. Rows of the crate
+/// rules are left out. True where all agree.
 pub fn check_listed(files: &[String]) -> bool {
     let types = simples();
     let mut held = Held {
@@ -88,29 +88,47 @@ pub fn check_listed(files: &[String]) -> bool {
         wrong: 0,
         listed: HashMap::new(),
     };
+    let mut left_out = 0;
     for [sign, operands, result] in rows(files) {
-        let name = names()
-            .find(|name| *name == sign)
-            .unwrap_or_else(|| panic!("no builtin: {sign}"));
-        let operand = |spelled: &str| {
+        if NOT_RULED.contains(&&sign[..]) {
+            left_out += 1;
+            continue;
+        }
+        let operands: Vec<&str> = operands.split_whitespace().collect();
+        let operand = |spelled: &&str| {
             let spelled = spelled.trim_end_matches('*');
             let found = types.iter().find(|ty| ty.to_string() == spelled);
             found.unwrap_or_else(|| panic!("no type: {spelled}"))
         };
-        let operands: Vec<&WType> = operands.split_whitespace().map(operand).collect();
+        let running: Vec<bool> = operands.iter().map(|word| word.ends_with('*')).collect();
+        let types: Vec<&WType> = operands.iter().map(operand).collect();
         let expected = Some(result).filter(|result| result != "refused");
         held.hold(
-            Operation::Call(name),
-            &operands,
+            operation(&sign, operands.len()),
+            &types,
+            &running,
             expected,
             &[OPERANDS, NONE_FITS],
         );
     }
     println!(
-        "{} rows, {} accepted, {} wrong",
+        "{} rows, {} accepted, {} wrong; {left_out} of crate rules left out",
         held.rows, held.accepted, held.wrong
     );
     held.wrong == 0
+}
+
+/// The operator of that sign, or the builtin of that name.
+fn operation(sign: &str, operands: usize) -> Operation {
+    let place = |signs: &[&str]| signs.iter().position(|one| *one == sign);
+    let operator = match operands {
+        1 => place(&UNARY).map(Operation::Unary),
+        2 => place(&BINARY).map(Operation::Binary),
+        _ => None,
+    };
+    let builtin = || names().find(|name| *name == sign).map(Operation::Call);
+    let found = operator.or_else(builtin);
+    found.unwrap_or_else(|| panic!("no operator and no builtin: {sign}"))
 }
 
 struct Held {
@@ -125,7 +143,7 @@ impl Held {
     fn ask(&mut self, operation: Operation, sign: &str, operands: &[&WType]) {
         let spelled: Vec<String> = operands.iter().map(|ty| ty.to_string()).collect();
         let expected = self.listed.remove(&(sign.to_string(), spelled.join(" ")));
-        self.hold(operation, operands, expected, &[NONE_FITS]);
+        self.hold(operation, operands, &[], expected, &[NONE_FITS]);
     }
 
     /// Holds the answers to the type that is listed, or to one of some refusals where there is none.
@@ -133,6 +151,7 @@ impl Held {
         &mut self,
         operation: Operation,
         operands: &[&WType],
+        running: &[bool],
         expected: Option<String>,
         refusals: &[u32],
     ) {
@@ -140,6 +159,7 @@ impl Held {
             operation,
             template: &[],
             operands,
+            running,
         };
         self.rows += 1;
         self.accepted += u64::from(expected.is_some());

@@ -70,7 +70,7 @@ static void subgroups(void) {
         const operands *taken = &subgroup_names[i].taken, *wrong = &subgroup_names[i].refused;
         about = name;
         profile = SWARTABELK_PROFILE_SUBGROUPS;
-        HOLDS(is(call(name, 0, no_types, taken->count, taken->types), 0, subgroup_names[i].gives, 0, SUBGROUP_TYPES));
+        HOLDS(runs(call(name, 0, no_types, taken->count, taken->types), subgroup_names[i].gives, SUBGROUP_TYPES));
         HOLDS(is(call(name, 0, no_types, wrong->count, wrong->types), subgroup_names[i].refusal, NONE, 0, SUBGROUP_TYPES));
         HOLDS(is(call(name, 1, (uint32_t[]){F32}, taken->count, taken->types), 5, NONE, 0, SUBGROUP_TYPES));
         profile = SWARTABELK_PROFILE_BASE;
@@ -85,7 +85,7 @@ static void subgroups(void) {
     keep();
     HOLDS(lacks(call1("subgroupBallot", BOOL), 1, 0, 7) && unchanged());
     room = 32;
-    HOLDS(is(call1("subgroupBallot", BOOL), 0, 7, 0, 8) && is_entry(7, VEC, 4, 0, U32));
+    HOLDS(runs(call1("subgroupBallot", BOOL), 7, 8) && is_entry(7, VEC, 4, 0, U32));
     /* What profile 0 has, profile 1 has too. */
     HOLDS(is(call1("sqrt", ABSTRACT_INT), 0, ABSTRACT_FLOAT, 0, 7));
     HOLDS(is(call("storageBarrier", 0, no_types, 0, no_types), 0, NONE, 0, 7));
@@ -119,7 +119,8 @@ static void unknown_profile(uint32_t unknown) {
     HOLDS(is(SHEET(1, 0, 3, 2, 9, 0), 4, NONE, 0, 8));
     HOLDS(is(SHEET(1, 0, 9, 2, 1, 5, 6, 4, 1, 's', 'q', 'r', 't'), 10, NONE, 0, 8));
     HOLDS(is(SHEET(1, 0), 10, NONE, 0, 8));
-    HOLDS(is(SHEET(2, 0, 0), 10, NONE, 0, 8));
+    HOLDS(is(SHEET(2, 0, 0), 4, NONE, 0, 8));
+    HOLDS(is(SHEET(3, 0, 0), 10, NONE, 0, 8));
     HOLDS(is(swartabelk_sheet(words, room, 6, profile, (const uint8_t *)"", 0), 1, NONE, 0, 6));
     HOLDS(unchanged());
 }

@@ -78,6 +78,11 @@ static const struct {
 
 #define ABSENT (sizeof absent / sizeof *absent)
 
+/* Whether the result is the last of so many entries. A ballot's is running. */
+static int entered(swartabelk_reply (*ask)(void), uint32_t count) {
+    return ask == ballot ? runs(ask(), count - 1, count) : is(ask(), 0, count - 1, 0, count);
+}
+
 /* In each slice with too little room it is told how many entries lack. One that is longer by less lacks some yet, one that is longer by so many has room. */
 static void grown(void) {
     for (size_t i = 0; i < ABSENT; i++) {
@@ -95,10 +100,10 @@ static void grown(void) {
             room += 3;
             HOLDS(lacks(absent[i].ask(), 1, place, TYPES) && unchanged());
             lend(TYPES + left + r.lacking);
-            HOLDS(is(absent[i].ask(), 0, TYPES + missing - 1, 0, TYPES + missing));
+            HOLDS(entered(absent[i].ask, TYPES + missing));
             /* What was entered is found again, and no room is wanted. */
             used = TYPES + missing;
-            HOLDS(is(absent[i].ask(), 0, TYPES + missing - 1, 0, TYPES + missing));
+            HOLDS(entered(absent[i].ask, TYPES + missing));
         }
         about = "";
     }

@@ -40,11 +40,15 @@ void holds(const char *file, int line, int right) {
 }
 
 int is(swartabelk_reply r, uint32_t refusal, uint32_t type, uint32_t place, uint32_t count) {
-    return r.refusal == refusal && r.type == type && r.place == place && r.used == count && r.lacking == 0;
+    return r.refusal == refusal && r.type == type && r.mark == 0 && r.place == place && r.used == count && r.lacking == 0;
+}
+
+int runs(swartabelk_reply r, uint32_t type, uint32_t count) {
+    return r.refusal == 0 && r.type == type && r.mark == SWARTABELK_RUNNING && r.place == 0 && r.used == count && r.lacking == 0;
 }
 
 int lacks(swartabelk_reply r, uint32_t lacking, uint32_t place, uint32_t count) {
-    return r.refusal == 9 && r.type == NONE && r.place == place && r.used == count && r.lacking == lacking;
+    return r.refusal == 9 && r.type == NONE && r.mark == 0 && r.place == place && r.used == count && r.lacking == lacking;
 }
 
 int is_entry(uint32_t i, uint32_t kind, uint32_t p, uint32_t q, uint32_t elem) {
@@ -248,7 +252,8 @@ static void sheets(void) {
     HOLDS(is(SHEET(1, 0, 14, 2, 1, 5, 10, 5, 4, 1, 'b', 'i', 't', 'c', 'a', 's', 't'), 0, U32, 0, 7));
     /* Headers. */
     HOLDS(is(SHEET(1, 0), 10, NONE, 0, 7));
-    HOLDS(is(SHEET(2, 0, 0), 10, NONE, 0, 7));
+    HOLDS(is(SHEET(0, 0, 0), 10, NONE, 0, 7));
+    HOLDS(is(SHEET(3, 0, 0), 10, NONE, 0, 7));
     HOLDS(is(SHEET(1, 0, 1), 10, NONE, 0, 7));
     HOLDS(is(SHEET(1, 255, 255), 10, NONE, 0, 7));
     /* Items. */
@@ -356,6 +361,7 @@ int main(void) {
     sheets();
     profiles();
     rooms();
+    marks();
     spellings();
     names();
     printf("%u of %u replies as documents 01 and 02 have them\n", held - failed, held);

@@ -1,11 +1,14 @@
 /* What the tests of the C host share: a table, calls over it, and the count of replies that are as they should be. test.c has them and the tests of document 01,
-   profiles.c those of document 02's profiles, room.c those of how much room is missing. */
+   profiles.c those of document 02's profiles, room.c those of how much room is missing, marks.c those of operands that are known only when running. */
 #ifndef TEST_H
 #define TEST_H
 
 #include "swartabelk.h"
 
 #define NONE SWARTABELK_NO_VALUE
+
+/* The operand of a type that is known only when running. */
+#define RUNNING(type) ((type) | SWARTABELK_RUNNING)
 
 enum { BOOL, ABSTRACT_INT, ABSTRACT_FLOAT, I32, U32, F32, F16, SCALARS };
 enum { VEC = 7, MAT, ARRAY, RUNTIME, ATOMIC, PTR, REF, FREXP, MODF };
@@ -44,8 +47,10 @@ swartabelk_reply sheet(size_t len, const uint8_t *bytes);
 /* A sheet by its bytes. */
 #define SHEET(...) sheet(sizeof((uint8_t[]){__VA_ARGS__}), (uint8_t[]){__VA_ARGS__})
 
-/* Whether a reply is this, with nothing lacking; whether it is 9 with so many entries lacking; whether an entry is this. */
+/* Whether a reply is this, not marked and with nothing lacking; whether it is accepted, with a running value of this type; whether it is 9 with so many entries
+   lacking; whether an entry is this. */
 int is(swartabelk_reply r, uint32_t refusal, uint32_t type, uint32_t place, uint32_t count);
+int runs(swartabelk_reply r, uint32_t type, uint32_t count);
 int lacks(swartabelk_reply r, uint32_t lacking, uint32_t place, uint32_t count);
 int is_entry(uint32_t i, uint32_t kind, uint32_t p, uint32_t q, uint32_t elem);
 
@@ -57,5 +62,6 @@ void holds(const char *file, int line, int right);
 
 void profiles(void);
 void rooms(void);
+void marks(void);
 
 #endif

@@ -199,6 +199,7 @@ fn single_calls() {
             operation,
             template: &[],
             operands: &refs,
+            running: &[],
         };
         let rust_operands: Vec<Type> = operands.iter().map(to_rust).collect();
         let made = rust_call(operation, &rust_operands).expect("a call that is accepted");

@@ -2,9 +2,13 @@
 
 use crate::case::{Answer, Argument, Case, Operation, profile};
 use crate::ours::table::{ENTRIES, Table};
-use crate::standard::{in_base, refusal};
+use crate::standard::{in_base, refusal, runs_anyway};
+use crate::types::WType;
 
 pub const NO_VALUE: u32 = 0xFFFF_FFFF;
+
+/// The bit of an operand and of a reply's mark: known only when running.
+pub const RUNNING: u32 = 0x8000_0000;
 
 /// `swartabelk_reply` of the header.
 #[repr(C)]
@@ -12,6 +16,7 @@ pub const NO_VALUE: u32 = 0xFFFF_FFFF;
 pub struct Reply {
     pub refusal: u32,
     pub ty: u32,
+    pub mark: u32,
     pub place: u32,
     pub used: u32,
     pub lacking: u32,
@@ -147,7 +152,9 @@ pub fn spell(table: &Table, number: u32) -> Result<String, u32> {
 /// A case asked over a table that holds its types and nothing else beside the scalars. A call is one of profile 1, held to what the other profiles reply.
 pub fn answer(case: &Case) -> Result<Answer, String> {
     let mut table = Table::new(ENTRIES);
-    let operands: Vec<u32> = case.operands.iter().map(|ty| table.number(ty)).collect();
+    let mark = |runs: bool| if runs { RUNNING } else { 0 };
+    let operand = |(i, ty): (usize, &&WType)| table.number(ty) | mark(case.runs(i));
+    let operands: Vec<u32> = case.operands.iter().enumerate().map(operand).collect();
     let list: Vec<i64> = case
         .template
         .iter()
@@ -173,6 +180,12 @@ pub fn answer(case: &Case) -> Result<Answer, String> {
         other_profiles(&before, &table, reply, name, &types, &operands)?;
     }
     let answer = read(&before, &mut table, reply)?;
+    // A value is running where an operand is, and by some names; a template, and what has no value, has no mark.
+    let anyway = matches!(case.operation, Operation::Call(name) if runs_anyway(name));
+    let runs = anyway || operands.iter().any(|operand| operand & RUNNING != 0);
+    if reply.mark != mark(runs && matches!(answer, Answer::Type(_))) {
+        return Err(format!("another mark: {reply:?}"));
+    }
     with_less_room(&before, reply, ask)?;
     Ok(answer)
 }
@@ -191,6 +204,7 @@ fn with_less_room(
         let wanted = Reply {
             refusal: refusal::NO_ROOM,
             ty: NO_VALUE,
+            mark: 0,
             place: 0,
             used: before.used,
             lacking: reply.used - entries,
@@ -224,6 +238,7 @@ fn other_profiles(
     let unknown_name = Reply {
         refusal: refusal::UNKNOWN,
         ty: NO_VALUE,
+        mark: 0,
         place: 0,
         used: before.used,
         lacking: 0,

@@ -1,19 +1,21 @@
--- Document 01, "What is answered", and document 02, K2: the number of each refusal, and the numbers of an answer. Assumes nothing.
+-- Document 01, "What is answered", and document 02, K2 and K3: the number of each refusal, the numbers of an answer, and the mark of its value. Assumes nothing.
 use Prim.Native.Nat.{ℕ}
 use mathlib.Core.Path.{_≡_}
+use mathlib.Core.Bool.{Bool, true, false, _&&_}
 use mathlib.Core.List.{List, [], _∷_}
 use Rattle.answer.specs.declared.TypeNo.{TypeNo}
 use Rattle.answer.specs.declared.Place.{Place}
 use Rattle.answer.specs.declared.Reason.{Reason}
-use Rattle.answer.specs.declared.Reason.the-variants.{Unsound, NoSuchType, Reference, Unknown, Template, Count, Operands, NoOverload, NoRoom, Framing, Stack, TooLong, NonePreferred}
+use Rattle.answer.specs.declared.Reason.the-variants.{Unsound, NoSuchType, Reference, Unknown, Template, Count, Operands, NoOverload, NoRoom, Framing, Stack, TooLong, NonePreferred, RunningAbstract}
 use Rattle.answer.specs.declared.Answer.{Answer}
 use Rattle.answer.specs.declared.Answer.the-variants.{Value, NoValue, Refused}
+use Rattle.answer.specs.declared.Typed.{Typed}
 
 -- one line for each row: table not sound, or slice shorter than 4n; type number not below n; a reference offered, but to unary `&`;
 -- unknown operator or name; template list or entry wrong, missing, or not wanted; array count; wrong operand count;
 -- no overload fits, or crate rule not met; result absent, and the slice or 256 leaves too little room;
 -- sheet header, framing, kind or payload length; stack short, a 65th value, or wrong end; spelling longer than the output;
--- overloads fit, none preferred to every other
+-- overloads fit, none preferred to every other; a running operand abstract at any depth
 abbrev pub reasonNo : Reason → ℕ
 reasonNo Unsound = 1
 reasonNo NoSuchType = 2
@@ -28,6 +30,7 @@ reasonNo Framing = 10
 reasonNo Stack = 11
 reasonNo TooLong = 12
 reasonNo NonePreferred = 13
+reasonNo RunningAbstract = 14
 
 -- "Refusal 9 should carry how many entries lack"; "Other replies carry 0"
 abbrev pub lackingOf : Reason → ℕ
@@ -44,6 +47,7 @@ lackingOf Framing = 0
 lackingOf Stack = 0
 lackingOf TooLong = 0
 lackingOf NonePreferred = 0
+lackingOf RunningAbstract = 0
 
 -- an answer in the documents' numbers: the refusal's number, 0 for none; the type's number, or nothing; the place; the used count; how many entries lack
 pub record Numbers : Type 0 where
@@ -68,6 +72,15 @@ accept t used = Value (record { 0 = t }) used
 
 abbrev pub refuse : Reason → ℕ → ℕ → Answer
 refuse reason place used = Refused (record { reason = reason; place = record { 0 = place }; used = used })
+
+-- an answer with a value; and an answer with the mark of its value, true where it is known only when running. Without a value there is no mark
+abbrev pub hasValue : Answer → Bool
+hasValue (Value t used) = true
+hasValue (NoValue used) = false
+hasValue (Refused r) = false
+
+abbrev pub markedBy : Bool → Answer → Typed
+markedBy m a = record { answer = a; running = hasValue a && m }
 
 -- what the three that build an answer promise
 pub record Accepted (t : TypeNo) (used : ℕ) (r : Answer) : Type 0 where

@@ -1,6 +1,6 @@
 // The one answer that every call gives, and the numbers of its refusals.
 ghost use mathlib.Core.Path.{_≡_};
-ghost use Rattle.answer.specs.Answer.{reasonNo, lackingOf, usedOf, Accepted, WithoutValue, RefusedWith};
+ghost use Rattle.answer.specs.Answer.{reasonNo, lackingOf, usedOf, hasValue, markedBy, Accepted, WithoutValue, RefusedWith};
 
 // The number of a table entry.
 pub struct TypeNo(pub usize);
@@ -8,7 +8,7 @@ pub struct TypeNo(pub usize);
 // An offset in a sheet.
 pub struct Place(pub usize);
 
-// Why a call is refused, in the order of the refusal numbers 1 to 13. For want of room: how many entries lack.
+// Why a call is refused, in the order of the refusal numbers 1 to 14. For want of room: how many entries lack.
 pub enum Reason {
     Unsound,
     NoSuchType,
@@ -23,6 +23,7 @@ pub enum Reason {
     Stack,
     TooLong,
     NonePreferred,
+    RunningAbstract,
 }
 
 // A refusal: why, at which place, and the used count as it stands.
@@ -37,6 +38,12 @@ pub enum Answer {
     Value(TypeNo, usize),
     NoValue(usize),
     Refused(Refusal),
+}
+
+// An answer, and whether its value is known only when running; false where it has no value.
+pub struct Typed {
+    pub answer: Answer,
+    pub running: bool,
 }
 
 pub fn accepted(t: TypeNo, used: usize) -> Answer
@@ -79,6 +86,7 @@ pub fn reason_no(r: Reason) -> u8
         Reason::Stack => 11,
         Reason::TooLong => 12,
         Reason::NonePreferred => 13,
+        Reason::RunningAbstract => 14,
     }
 }
 
@@ -100,6 +108,7 @@ pub fn lacking_of(r: Reason) -> u32
         Reason::Stack => 0,
         Reason::TooLong => 0,
         Reason::NonePreferred => 0,
+        Reason::RunningAbstract => 0,
     }
 }
 
@@ -111,5 +120,27 @@ pub fn used_of(a: Answer) -> usize
         Answer::Value(_, n) => n,
         Answer::NoValue(n) => n,
         Answer::Refused(r) => r.used,
+    }
+}
+
+// Whether an answer has a value.
+fn has_value(a: Answer) -> bool
+    ensures { λ r. ⌜ r ≡ hasValue a ⌝ }
+{
+    match a {
+        Answer::Value(_, _) => true,
+        Answer::NoValue(_) => false,
+        Answer::Refused(_) => false,
+    }
+}
+
+// An answer with the mark of its value.
+pub fn marked(a: Answer, running: bool) -> Typed
+    ensures { λ r. ⌜ r ≡ markedBy running a ⌝ }
+{
+    let mark = has_value(a) & running;
+    Typed {
+        answer: a,
+        running: mark,
     }
 }

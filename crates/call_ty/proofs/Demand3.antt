@@ -1,9 +1,9 @@
 -- DEMANDS 2 AND 3 for builtins: "For .. ruled builtins, loaded operands in a sound table with room". `Demand3` says the demand in the customer's words over the overloads
--- that a name has, written from the standard; what is answered stands for the preferred overload's result. Assumes nothing.
+-- that a name has, written from the standard, less those that K3 drops by the operands' marks; what is answered stands for the preferred overload's result. Assumes nothing.
 use Prim.Native.Nat.{ℕ}
 use mathlib.Core.Path.{_≡_, refl, sym, _∙_, ap, subst}
 use mathlib.Core.Logic.{_≢_}
-use mathlib.Core.Bool.{true, false}
+use mathlib.Core.Bool.{Bool, true, false}
 use mathlib.Core.List.{List, [], _∷_}
 use native.Mathlib.Omega.{arith}
 use lib.Dec.{T, eqb}
@@ -11,6 +11,7 @@ use lib.ListN.{length}
 use borrow.Author.Tests.{eqb-true, eqb-false, eq-eqb}
 use Rattle.conv.specs.Types.{Ty, formed}
 use Rattle.overload.specs.Overload.{Overload, fits, Preferred}
+use Rattle.overload.specs.Marks.{remaining, runningAbstract}
 use Rattle.overload.specs.Rows.{Ruling, overloadsBy, judgeBy}
 use Rattle.overload.proofs.Operands.{allFormed}
 use Rattle.overload.proofs.Preference.{one-preferred}
@@ -32,49 +33,50 @@ use Rattle.table.proofs.KindLaws.{split}
 use Rattle.ruled.specs.Call.{anyReference, judgedOutcome}
 use Rattle.ruled.specs.Demand3.{Accepts, HasRoom, Demand3}
 use Rattle.ruled.proofs.Demands.{demand-3, judged-nothing, Never13, never-refused}
-use Rattle.call_ty.specs.Calls.{operandsOf, givenBy, givenOutcome, byRule, templateRight, callOutcome, typeBuiltinFn}
+use Rattle.call_ty.specs.Calls.{operandsOf, givenBy, givenOutcome, byRule, templateRight, callOutcome, numbers, marksOf, types, typeBuiltinFn}
 use Rattle.call_ty.specs.inner.Codes.{Under}
-use Rattle.call_ty.proofs.Lists.{types, types-formed, under-all}
+use Rattle.call_ty.proofs.Lists.{types-formed, under-all}
 use Rattle.call_ty.proofs.Counts.{wrong-count}
 use Rattle.call_ty.proofs.Ways.{by-count, by-call, single-call}
 use Rattle.call_ty.proofs.Ends.{Ends, Single, thirteen, name-call-ends, single-ends}
 use Rattle.call_ty.proofs.Ends.Ends.{refused, silent, valued}
 use Rattle.call_ty.proofs.Ends.Single.{early, late}
 
--- the demand's own hypotheses: a sound table, a ruled name, no template list, operands below n of which none is a reference
+-- the demand's own hypotheses: a sound table, a ruled name, no template list, operands below n of which none is a reference,
+-- and none both running and abstract at any depth
 
-module _ (profile : ℕ) (w : List ℕ) (n : ℕ) (s : Sound w n) (name args : List ℕ) (r : Ruling) (ruled : ruleOf profile name ≡ rule (ruling r))
-    (under : Under n args) (loaded : anyReference (types w args) ≡ false) where
-  formed-args : allFormed (types w args) ≡ true
-  formed-args = types-formed w n s args under
+module _ (profile : ℕ) (w : List ℕ) (n : ℕ) (s : Sound w n) (name args : List ℕ) (r : Ruling) (runs : Bool) (ruled : ruleOf profile name ≡ rule (ruling r) runs)
+    (under : Under n (numbers args)) (loaded : anyReference (types w (numbers args)) ≡ false) (apart : runningAbstract (types w (numbers args)) (marksOf args) ≡ false) where
+  formed-args : allFormed (types w (numbers args)) ≡ true
+  formed-args = types-formed w n s (numbers args) under
 
   no-template : templateRight (ruling r) [] ≡ true
   unfolding templateRight
   no-template = refl
 
-  single : byRule 0 w n (rule (ruling r)) [] (types w args) ≡ typeBuiltinFn profile w n name [] args
+  single : byRule 0 w n (rule (ruling r) runs) [] (types w (numbers args)) (marksOf args) ≡ typeBuiltinFn profile w n name [] args
   single =
-      ap (λ (k : Named). byRule 0 w n k [] (types w args)) (sym ruled)
-      ∙ single-call profile w n name [] args (of-sound w n s) (under-all n [] (λ i l. absurd (omega arith))) (under-all n args under)
+      ap (λ (k : Named). byRule 0 w n k [] (types w (numbers args)) (marksOf args)) (sym ruled)
+      ∙ single-call profile w n name [] args (of-sound w n s) (under-all n [] (λ i l. absurd (omega arith))) (under-all n (numbers args) under)
 
   -- as many operands as the name's overloads have parameters: judged by those overloads
-  judged : length (types w args) ≡ operandsOf (ruling r) → judgedOutcome 0 w n (judgeBy r (types w args)) ≡ typeBuiltinFn profile w n name [] args
+  judged : length (types w (numbers args)) ≡ operandsOf (ruling r) → judgedOutcome 0 w n (judgeBy r (types w (numbers args)) (marksOf args)) ≡ typeBuiltinFn profile w n name [] args
   unfolding givenOutcome givenBy
-  judged k = by-call 0 w n (ruling r) [] (types w args) no-template k loaded ∙ single
+  judged k = by-call 0 w n (ruling r) runs [] (types w (numbers args)) (marksOf args) no-template k loaded apart ∙ single
 
   -- any other count is refused with 7, and no overload fits
-  pub counted : length (types w args) ≢ operandsOf (ruling r) → typeBuiltinFn profile w n name [] args ≡ turnedDown Operands 0 w n
-  counted k = sym (by-count 0 w n (ruling r) [] (types w args) no-template k ∙ single)
+  pub counted : length (types w (numbers args)) ≢ operandsOf (ruling r) → typeBuiltinFn profile w n name [] args ≡ turnedDown Operands 0 w n
+  counted k = sym (by-count 0 w n (ruling r) runs [] (types w (numbers args)) (marksOf args) no-template k ∙ single)
 
-  miscounted : length (types w args) ≢ operandsOf (ruling r) → Demand3 (overloadsBy r) (types w args) (typeBuiltinFn profile w n name [] args)
+  miscounted : length (types w (numbers args)) ≢ operandsOf (ruling r) → Demand3 (remaining (marksOf args) (overloadsBy r)) (types w (numbers args)) (typeBuiltinFn profile w n name [] args)
   miscounted k =
-      let none : (p : Overload) → overloadsBy r p → T (fits (p .params) (types w args)) → ⊥ = λ p m f. wrong-count r (ruling-known profile name r ruled) (types w args) k p m f in
+      let none : (p : Overload) → remaining (marksOf args) (overloadsBy r) p → T (fits (p .params) (types w (numbers args))) → ⊥ = λ p m f. wrong-count r (ruling-known profile name r ruled) (types w (numbers args)) k p (m .0) f in
       let no : Accepts (typeBuiltinFn profile w n name [] args) → ⊥ = λ a. refused-not (typeBuiltinFn profile w n name [] args) (counted k) a in
       record {
         accepted = λ p m f. absurd (none p m f);
         fitting = λ a. absurd (no a);
         result = λ t m e. absurd (no (t, m, e));
-        alone = one-preferred (overloadsBy r) (types w args);
+        alone = one-preferred (remaining (marksOf args) (overloadsBy r)) (types w (numbers args));
       }
     where
       refused-not : (o : Outcome) → o ≡ turnedDown Operands 0 w n → Accepts o → ⊥
@@ -84,23 +86,23 @@ module _ (profile : ℕ) (w : List ℕ) (n : ℕ) (s : Sound w n) (name args : L
           omega arith
 
   -- DEMAND 3
-  pub builtin-demand-3 : HasRoom (overloadsBy r) w n (types w args) → Demand3 (overloadsBy r) (types w args) (typeBuiltinFn profile w n name [] args)
+  pub builtin-demand-3 : HasRoom (remaining (marksOf args) (overloadsBy r)) w n (types w (numbers args)) → Demand3 (remaining (marksOf args) (overloadsBy r)) (types w (numbers args)) (typeBuiltinFn profile w n name [] args)
   builtin-demand-3 room =
       let known = ruling-known profile name r ruled in
-      split (eqb (length (types w args)) (operandsOf (ruling r)))
+      split (eqb (length (types w (numbers args))) (operandsOf (ruling r)))
       (λ b.
-      subst (Demand3 (overloadsBy r) (types w args)) (judged (eqb-true _ _ b))
-      (demand-3 0 w n s (overloadsBy r) (types w args) (ruling-never (types w args) formed-args r known) (judgeBy r (types w args)) (ruling-resolved (types w args) formed-args r)
-      (ruling-formed (types w args) formed-args r known) room))
+      subst (Demand3 (remaining (marksOf args) (overloadsBy r)) (types w (numbers args))) (judged (eqb-true _ _ b))
+      (demand-3 0 w n s (remaining (marksOf args) (overloadsBy r)) (types w (numbers args)) (ruling-never (types w (numbers args)) formed-args (marksOf args) r known) (judgeBy r (types w (numbers args)) (marksOf args)) (ruling-resolved (types w (numbers args)) formed-args (marksOf args) r)
+      (ruling-formed (types w (numbers args)) formed-args (marksOf args) r known) room))
       (λ b. miscounted (eqb-false _ _ b))
 
   -- and where none fits the right count: refused with 8
-  pub builtin-none : length (types w args) ≡ operandsOf (ruling r) → ((p : Overload) → overloadsBy r p → T (fits (p .params) (types w args)) → ⊥)
+  pub builtin-none : length (types w (numbers args)) ≡ operandsOf (ruling r) → ((p : Overload) → remaining (marksOf args) (overloadsBy r) p → T (fits (p .params) (types w (numbers args))) → ⊥)
       → typeBuiltinFn profile w n name [] args ≡ turnedDown NoOverload 0 w n
   builtin-none k h =
       let known = ruling-known profile name r ruled in
       sym (judged k)
-      ∙ judged-nothing 0 w n s (overloadsBy r) (types w args) (ruling-never (types w args) formed-args r known) (judgeBy r (types w args)) (ruling-resolved (types w args) formed-args r) h
+      ∙ judged-nothing 0 w n s (remaining (marksOf args) (overloadsBy r)) (types w (numbers args)) (ruling-never (types w (numbers args)) formed-args (marksOf args) r known) (judgeBy r (types w (numbers args)) (marksOf args)) (ruling-resolved (types w (numbers args)) formed-args (marksOf args) r) h
 
 -- REFUSAL 13 IS NEVER GIVEN, of any table, count, name, template list and operands
 
@@ -112,21 +114,21 @@ never-entering place w n s R f r e q =
     let y = entering-refused place w n s R f r (entering place w n R .words) (λ i. record { answer = e i; words = entering place w n R .words }) .1 in
     let a : reasonNo (r .reason) ≡ 9 = ap (λ (z : Refusal). reasonNo (z .reason)) y in omega arith
 
-ends-never : (place : ℕ) (w : List ℕ) (n : ℕ) → Sound w n → (named : Named) (ts us : List Ty) (o : Outcome) → Ends place w n named ts us o → Never13 o
-ends-never place w n s named ts us o (refused reason f e) = subst Never13 (sym e) (never-refused w n reason place (no-thirteen reason f))
-ends-never place w n s named ts us o (silent e) =
+ends-never : (place : ℕ) (w : List ℕ) (n : ℕ) → Sound w n → (named : Named) (ts us : List Ty) (ms : List Bool) (o : Outcome) → Ends place w n named ts us ms o → Never13 o
+ends-never place w n s named ts us ms o (refused reason f e) = subst Never13 (sym e) (never-refused w n reason place (no-thirteen reason f))
+ends-never place w n s named ts us ms o (silent e) =
     λ r h q. let a : NoValue n ≡ Refused r = ap (λ (x : Outcome). x .answer) (sym e) ∙ h in let z : _≡_ {A = ℕ} 0 1 = cc in omega arith
-ends-never place w n s named ts us o (valued R q f x g e) = subst Never13 (sym e) (never-entering place w n s R f)
+ends-never place w n s named ts us ms o (valued R q runs f x g e) = subst Never13 (sym e) (never-entering place w n s R f)
 
-pub call-never-13 : (profile place : ℕ) (w : List ℕ) (n : ℕ) → Sound w n → (name tplt args : List ℕ) → Under n tplt → Under n args
-    → Never13 (callOutcome profile place w n name (types w tplt) (types w args))
+pub call-never-13 : (profile place : ℕ) (w : List ℕ) (n : ℕ) → Sound w n → (name tplt args : List ℕ) → Under n tplt → Under n (numbers args)
+    → Never13 (callOutcome profile place w n name (types w tplt) (types w (numbers args)) (marksOf args))
 call-never-13 profile place w n s name tplt args ut ua =
-    ends-never place w n s (ruleOf profile name) (types w tplt) (types w args) _
-    (name-call-ends profile place w n (types w tplt) (types w args) (types-formed w n s tplt ut) (types-formed w n s args ua) name)
+    ends-never place w n s (ruleOf profile name) (types w tplt) (types w (numbers args)) (marksOf args) _
+    (name-call-ends profile place w n (types w tplt) (types w (numbers args)) (marksOf args) (types-formed w n s tplt ut) (types-formed w n s (numbers args) ua) name)
 
 pub builtin-never-13 : (profile : ℕ) (w : List ℕ) (n : ℕ) (name tplt args : List ℕ) → Never13 (typeBuiltinFn profile w n name tplt args)
 builtin-never-13 profile w n name tplt args = go (single-ends profile w n name tplt args)
   where
     go : Single profile w n name tplt args (typeBuiltinFn profile w n name tplt args) → Never13 (typeBuiltinFn profile w n name tplt args)
     go (early reason f e) = subst Never13 (sym e) (never-refused w n reason 0 (no-thirteen reason f))
-    go (late s x) = ends-never 0 w n s (ruleOf profile name) (types w tplt) (types w args) _ x
+    go (late s x) = ends-never 0 w n s (ruleOf profile name) (types w tplt) (types w (numbers args)) (marksOf args) _ x

@@ -9,6 +9,7 @@ use Rattle.conv.specs.Types.{Ty, u32, formed}
 use Rattle.conv.specs.Types.Ty.{scalar}
 use Rattle.overload.specs.Overload.{Judged, Resolved}
 use Rattle.overload.specs.Overload.Judged.{gives, noneFits, nonePreferred}
+use Rattle.overload.specs.Marks.{remaining, runningAbstract}
 use Rattle.overload.specs.Rows.{Ruling, overloadsBy, judgeBy, Known}
 use Rattle.overload.proofs.Operands.{and-left, allFormed}
 use Rattle.overload.proofs.Rulings.{ruling-resolved, ruling-never, ruling-formed}
@@ -20,12 +21,12 @@ use Rattle.answer.specs.Answer.{reasonNo}
 use Rattle.table.specs.Table.{soundb, Sound}
 use Rattle.table.specs.Placing.{Outcome, turnedDown, entering}
 use Rattle.answer.specs.declared.Reason.{Reason}
-use Rattle.answer.specs.declared.Reason.the-variants.{Unsound, NoSuchType, Reference, Unknown, Template, Operands, NoOverload}
+use Rattle.answer.specs.declared.Reason.the-variants.{Unsound, NoSuchType, Reference, Unknown, Template, Operands, NoOverload, RunningAbstract}
 use Rattle.table.proofs.SoundLaws.{sound-of}
 use Rattle.ruled.specs.Call.{anyReference, judgedOutcome}
-use Rattle.call_ty.specs.Calls.{firstIn, secondIn, templateRight, operandsOf, ldexpTakes, judgeLdexp, givenBy, givenOutcome, withoutValue, byRule, allUnder, typeBuiltinFn}
+use Rattle.call_ty.specs.Calls.{firstIn, secondIn, templateRight, operandsOf, ldexpTakes, judgeLdexp, givenBy, givenOutcome, withoutValue, byRule, allUnder, numbers, marksOf, types, typeBuiltinFn}
 use Rattle.call_ty.specs.Calls.Given.{judgment}
-use Rattle.call_ty.proofs.Lists.{types, types-formed, all-under}
+use Rattle.call_ty.proofs.Lists.{types-formed, all-under}
 use Rattle.call_ty.proofs.Ways.{by-unknown}
 use native.Mathlib.Omega.{arith}
 
@@ -33,15 +34,15 @@ use native.Mathlib.Omega.{arith}
 abbrev pub thirteen : Reason → Bool
 thirteen reason = eqb (reasonNo reason) 13
 
-module _ (place : ℕ) (w : List ℕ) (n : ℕ) (named : Named) (ts us : List Ty) where
+module _ (place : ℕ) (w : List ℕ) (n : ℕ) (named : Named) (ts us : List Ty) (ms : List Bool) where
   pub data Ends (o : Outcome) : Type 0 where
     refused : (reason : Reason) → thirteen reason ≡ false → o ≡ turnedDown reason place w n → Ends o
     silent : o ≡ withoutValue w n → Ends o
-    valued : (R : Ty) (r : Rule) → formed R ≡ true → named ≡ rule r → givenBy r ts us ≡ judgment (gives R) → o ≡ entering place w n R → Ends o
+    valued : (R : Ty) (r : Rule) (runs : Bool) → formed R ≡ true → named ≡ rule r runs → givenBy r ts us ms ≡ judgment (gives R) → o ≡ entering place w n R → Ends o
 
 -- a ruling among what a name can have is known
 abbrev pub KnownIn : Named → Type 0
-KnownIn named = (r : Ruling) → named ≡ rule (ruling r) → Known r
+KnownIn named = (r : Ruling) (runs : Bool) → named ≡ rule (ruling r) runs → Known r
 
 -- the two sides of a test
 choose : (P : Outcome → Type 0) (b : Bool) (x y : Outcome) → (b ≡ true → P x) → (b ≡ false → P y) → P (cond b x y)
@@ -53,24 +54,24 @@ unfolding allFormed formed
 first-formed [] f = refl
 first-formed (t ∷ ts) f = and-left (formed t) _ f
 
-module _ (place : ℕ) (w : List ℕ) (n : ℕ) (ts us : List Ty) (ft : allFormed ts ≡ true) (fu : allFormed us ≡ true) where
+module _ (place : ℕ) (w : List ℕ) (n : ℕ) (runs : Bool) (ts us : List Ty) (ms : List Bool) (ft : allFormed ts ≡ true) (fu : allFormed us ≡ true) where
   -- a rule that gives a judgment
-  judged : (r : Rule) → (j : Judged) → ((R : Ty) → j ≡ gives R → formed R ≡ true) → (j ≡ nonePreferred → ⊥) → givenBy r ts us ≡ judgment j
-      → Ends place w n (rule r) ts us (judgedOutcome place w n j)
+  judged : (r : Rule) → (j : Judged) → ((R : Ty) → j ≡ gives R → formed R ≡ true) → (j ≡ nonePreferred → ⊥) → givenBy r ts us ms ≡ judgment j
+      → Ends place w n (rule r runs) ts us ms (judgedOutcome place w n j)
   unfolding judgedOutcome
-  judged r (gives R) f x g = valued R r (f R refl) refl g refl
+  judged r (gives R) f x g = valued R r runs (f R refl) refl g refl
   judged r noneFits f x g = refused NoOverload refl refl
   judged r nonePreferred f x g = absurd (x refl)
 
-  ruling-ends : (r : Ruling) → Known r → givenBy (ruling r) ts us ≡ judgment (judgeBy r us) → Ends place w n (rule (ruling r)) ts us (judgedOutcome place w n (judgeBy r us))
+  ruling-ends : (r : Ruling) → Known r → givenBy (ruling r) ts us ms ≡ judgment (judgeBy r us ms) → Ends place w n (rule (ruling r) runs) ts us ms (judgedOutcome place w n (judgeBy r us ms))
   ruling-ends r k g =
-      judged (ruling r) (judgeBy r us) (ruling-formed us fu r k) (λ e. ruling-never us fu r k (subst (Resolved (overloadsBy r) us) e (ruling-resolved us fu r))) g
+      judged (ruling r) (judgeBy r us ms) (ruling-formed us fu ms r k) (λ e. ruling-never us fu ms r k (subst (Resolved (remaining ms (overloadsBy r)) us) e (ruling-resolved us fu ms r))) g
 
-  type-ends : (r : Rule) (R : Ty) → formed R ≡ true → givenBy r ts us ≡ judgment (gives R) → Ends place w n (rule r) ts us (judgedOutcome place w n (gives R))
+  type-ends : (r : Rule) (R : Ty) → formed R ≡ true → givenBy r ts us ms ≡ judgment (gives R) → Ends place w n (rule r runs) ts us ms (judgedOutcome place w n (gives R))
   unfolding judgedOutcome
-  type-ends r R f g = valued R r f refl g refl
+  type-ends r R f g = valued R r runs f refl g refl
 
-  ldexp-ends : (r : Rule) → givenBy r ts us ≡ judgment (judgeLdexp (firstIn us) (secondIn us)) → Ends place w n (rule r) ts us (judgedOutcome place w n (judgeLdexp (firstIn us) (secondIn us)))
+  ldexp-ends : (r : Rule) → givenBy r ts us ms ≡ judgment (judgeLdexp (firstIn us) (secondIn us)) → Ends place w n (rule r runs) ts us ms (judgedOutcome place w n (judgeLdexp (firstIn us) (secondIn us)))
   unfolding judgeLdexp
   ldexp-ends r g =
       judged r (cond (ldexpTakes (firstIn us) (secondIn us)) (gives (firstIn us)) noneFits) (λ R. go (ldexpTakes (firstIn us) (secondIn us)) R) (none (ldexpTakes (firstIn us) (secondIn us))) g
@@ -83,48 +84,50 @@ module _ (place : ℕ) (w : List ℕ) (n : ℕ) (ts us : List Ty) (ft : allForme
       none true e = let z : _≡_ {A = ℕ} 0 1 = cc in omega arith
       none false e = let z : _≡_ {A = ℕ} 0 1 = cc in omega arith
 
-  rule-ends : (r : Rule) → KnownIn (rule r) → Ends place w n (rule r) ts us (givenOutcome place w n (givenBy r ts us))
+  rule-ends : (r : Rule) → KnownIn (rule r runs) → Ends place w n (rule r runs) ts us ms (givenOutcome place w n (givenBy r ts us ms))
   unfolding givenOutcome givenBy formed
-  rule-ends (ruling r) k = ruling-ends r (k r refl) refl
+  rule-ends (ruling r) k = ruling-ends r (k r runs refl) refl
   rule-ends bitcast k = type-ends bitcast (firstIn ts) (first-formed ts ft) refl
   rule-ends arrayLength k = type-ends arrayLength (scalar u32) refl refl
   rule-ends ldexp k = ldexp-ends ldexp refl
   rule-ends barrier k = silent refl
 
-  named-ends : (r : Rule) → KnownIn (rule r) → Ends place w n (rule r) ts us (byRule place w n (rule r) ts us)
+  named-ends : (r : Rule) → KnownIn (rule r runs) → Ends place w n (rule r runs) ts us ms (byRule place w n (rule r runs) ts us ms)
   unfolding byRule
   named-ends r k =
-      choose (Ends place w n (rule r) ts us) (templateRight r ts) _ _
-      (λ b. choose (Ends place w n (rule r) ts us) (eqb (length us) (operandsOf r)) _ _
-      (λ d. choose (Ends place w n (rule r) ts us) (anyReference us) _ _ (λ e. refused Reference refl refl) (λ e. rule-ends r k))
+      choose (Ends place w n (rule r runs) ts us ms) (templateRight r ts) _ _
+      (λ b. choose (Ends place w n (rule r runs) ts us ms) (eqb (length us) (operandsOf r)) _ _
+      (λ d. choose (Ends place w n (rule r runs) ts us ms) (anyReference us) _ _ (λ e. refused Reference refl refl)
+      (λ e. choose (Ends place w n (rule r runs) ts us ms) (runningAbstract us ms) _ _ (λ c. refused RunningAbstract refl refl) (λ c. rule-ends r k)))
       (λ d. refused Operands refl refl))
       (λ b. refused Template refl refl)
 
-  -- A CALL ON LOADED OPERANDS
-  pub rule-call-ends : (named : Named) → KnownIn named → Ends place w n named ts us (byRule place w n named ts us)
-  rule-call-ends (rule r) k = named-ends r k
-  rule-call-ends unknown k = refused Unknown refl (sym (by-unknown place w n ts us))
+-- A CALL ON LOADED OPERANDS
+pub rule-call-ends : (place : ℕ) (w : List ℕ) (n : ℕ) (ts us : List Ty) (ms : List Bool) → allFormed ts ≡ true → allFormed us ≡ true → (named : Named) → KnownIn named
+    → Ends place w n named ts us ms (byRule place w n named ts us ms)
+rule-call-ends place w n ts us ms ft fu (rule r runs) k = named-ends place w n runs ts us ms ft fu r k
+rule-call-ends place w n ts us ms ft fu unknown k = refused Unknown refl (sym (by-unknown place w n ts us ms))
 
 -- by a name of a profile
-pub name-call-ends : (profile place : ℕ) (w : List ℕ) (n : ℕ) (ts us : List Ty) → allFormed ts ≡ true → allFormed us ≡ true → (name : List ℕ)
-    → Ends place w n (ruleOf profile name) ts us (byRule place w n (ruleOf profile name) ts us)
-name-call-ends profile place w n ts us ft fu name = rule-call-ends place w n ts us ft fu (ruleOf profile name) (ruling-known profile name)
+pub name-call-ends : (profile place : ℕ) (w : List ℕ) (n : ℕ) (ts us : List Ty) (ms : List Bool) → allFormed ts ≡ true → allFormed us ≡ true → (name : List ℕ)
+    → Ends place w n (ruleOf profile name) ts us ms (byRule place w n (ruleOf profile name) ts us ms)
+name-call-ends profile place w n ts us ms ft fu name = rule-call-ends place w n ts us ms ft fu (ruleOf profile name) (λ r runs e. ruling-known profile name r e)
 
 -- A SINGLE CALL: of a table that is not sound, or of a number not below n, nothing is said but the refusal
 module _ (profile : ℕ) (w : List ℕ) (n : ℕ) (name tplt args : List ℕ) where
   pub data Single (o : Outcome) : Type 0 where
     early : (reason : Reason) → thirteen reason ≡ false → o ≡ turnedDown reason 0 w n → Single o
-    late : Sound w n → Ends 0 w n (ruleOf profile name) (types w tplt) (types w args) o → Single o
+    late : Sound w n → Ends 0 w n (ruleOf profile name) (types w tplt) (types w (numbers args)) (marksOf args) o → Single o
 
   pub single-ends : Single (typeBuiltinFn profile w n name tplt args)
   unfolding typeBuiltinFn
   single-ends =
       choose Single (soundb w n) _ _
       (λ b. choose Single (allUnder n tplt) _ _
-      (λ d. choose Single (allUnder n args) _ _
+      (λ d. choose Single (allUnder n (numbers args)) _ _
       (λ e.
       let s = sound-of w n b in
-      late s (name-call-ends profile 0 w n (types w tplt) (types w args) (types-formed w n s tplt (all-under n tplt d)) (types-formed w n s args (all-under n args e)) name))
+      late s (name-call-ends profile 0 w n (types w tplt) (types w (numbers args)) (marksOf args) (types-formed w n s tplt (all-under n tplt d)) (types-formed w n s (numbers args) (all-under n (numbers args) e)) name))
       (λ e. early NoSuchType refl refl))
       (λ d. early NoSuchType refl refl))
       (λ b. early Unsound refl refl)

@@ -10,3 +10,4 @@ pub mod Demand3
 pub mod Sixteen
 pub mod OneReply
 pub mod Growing
+pub mod Early

@@ -1,16 +1,19 @@
 -- Lists of numbers of types, and the types that they stand for. Assumes nothing.
 use Prim.Native.Nat.{ℕ, zero, suc, _-_, _≤_, _<_}
 use mathlib.Core.Path.{_≡_, refl, sym, _∙_, ap}
-use mathlib.Core.Bool.{Bool, true, false, _&&_, _||_}
+use mathlib.Core.Bool.{Bool, true, false, _&&_, _||_, cond}
 use mathlib.Core.List.{List, [], _∷_, map}
 use native.Mathlib.Nat.{not-suc-le-zero}
 use native.Mathlib.Omega.{arith}
 use lib.Dec.{ltb}
 use lib.ListN.{length, getD, take, drop, length-map}
 use borrow.Author.Tests.{ltb-true, lt-ltb, le-ltb}
-use Rattle.conv.specs.Types.{Ty, bool}
+use Rattle.held.specs.Held.{numberOf, markOf}
+use Rattle.conv.specs.Types.{Ty, abstractTy, bool}
 use Rattle.conv.specs.Types.Ty.{scalar}
-use Rattle.conv.specs.Rank.{isReference}
+use Rattle.conv.specs.Rank.{both, isReference}
+use Rattle.overload.specs.Overload.{or}
+use Rattle.overload.specs.Marks.{anyRunning, runningAbstract}
 use Rattle.overload.specs.inner.Code.{codeOf}
 use Rattle.overload.proofs.Operands.{and-left, and-right, allFormed, codesOf}
 use Rattle.table.specs.Table.{Sound}
@@ -18,8 +21,8 @@ use Rattle.table.specs.Denote.{typeAt}
 use Rattle.table.proofs.KindLaws.{and-false}
 use Rattle.table.proofs.FormedLaws.{formed-at}
 use Rattle.ruled.specs.Call.{anyReference}
-use Rattle.call_ty.specs.Calls.{allUnder}
-use Rattle.call_ty.specs.inner.Codes.{Under}
+use Rattle.call_ty.specs.Calls.{allUnder, numbers, marksOf, types}
+use Rattle.call_ty.specs.inner.Codes.{Under, numbersIf}
 
 under-rest : (n t : ℕ) (ts : List ℕ) → Under n (t ∷ ts) → Under n ts
 under-rest n t ts u i l = u (suc i) (omega arith)
@@ -43,6 +46,50 @@ not-under n [] i l h = absurd (not-suc-le-zero l)
 not-under n (t ∷ ts) zero l h = rw (le-ltb t n h)
 not-under n (t ∷ ts) (suc i) l h = ap (λ (b : Bool). ltb t n && b) (not-under n ts i (omega arith) h) ∙ and-false (ltb t n)
 
+-- the numbers and the marks of operands
+
+pub number-at : (vs : List ℕ) (i : ℕ) → getD (numbers vs) i 0 ≡ numberOf (getD vs i 0)
+number-at [] i = refl
+number-at (v ∷ vs) zero = refl
+number-at (v ∷ vs) (suc i) = number-at vs i
+
+pub number-if : (held : Bool) (vs : List ℕ) (i : ℕ) → getD (numbersIf held vs) i 0 ≡ cond held (numberOf (getD vs i 0)) (getD vs i 0)
+number-if true vs i = number-at vs i
+number-if false vs i = refl
+
+or-yes : (b : Bool) → or b true ≡ true
+unfolding or
+or-yes true = refl
+or-yes false = refl
+
+pub some-running : (vs : List ℕ) (i : ℕ) → i < length vs → markOf (getD vs i 0) ≡ true → anyRunning (marksOf vs) ≡ true
+unfolding anyRunning or
+some-running [] i l h = absurd (not-suc-le-zero l)
+some-running (v ∷ vs) zero l h = ap (λ (b : Bool). or b (anyRunning (marksOf vs))) h
+some-running (v ∷ vs) (suc i) l h = ap (or (markOf v)) (some-running vs i (omega arith) h) ∙ or-yes (markOf v)
+
+pub none-running : (vs : List ℕ) → ((i : ℕ) → i < length vs → markOf (getD vs i 0) ≡ false) → anyRunning (marksOf vs) ≡ false
+unfolding anyRunning or
+none-running [] h = refl
+none-running (v ∷ vs) h = ap (λ (b : Bool). or b (anyRunning (marksOf vs))) (h 0 (omega arith)) ∙ none-running vs (λ i l. h (suc i) (omega arith))
+
+module _ (w : List ℕ) where
+  -- an operand that is both running and abstract
+  abbrev pub clashing : ℕ → Bool
+  clashing v = both (markOf v) (abstractTy (typeAt w (numberOf v)))
+
+  pub some-clashes : (vs : List ℕ) (i : ℕ) → i < length vs → clashing (getD vs i 0) ≡ true → runningAbstract (types w (numbers vs)) (marksOf vs) ≡ true
+  unfolding runningAbstract or
+  some-clashes [] i l h = absurd (not-suc-le-zero l)
+  some-clashes (v ∷ vs) zero l h = ap (λ (b : Bool). or b (runningAbstract (types w (numbers vs)) (marksOf vs))) h
+  some-clashes (v ∷ vs) (suc i) l h = ap (or (clashing v)) (some-clashes vs i (omega arith) h) ∙ or-yes (clashing v)
+
+  pub none-clashes : (vs : List ℕ) → ((i : ℕ) → i < length vs → clashing (getD vs i 0) ≡ false) → runningAbstract (types w (numbers vs)) (marksOf vs) ≡ false
+  unfolding runningAbstract or
+  none-clashes [] h = refl
+  none-clashes (v ∷ vs) h =
+      ap (λ (b : Bool). or b (runningAbstract (types w (numbers vs)) (marksOf vs))) (h 0 (omega arith)) ∙ none-clashes vs (λ i l. h (suc i) (omega arith))
+
 -- the types of a list
 
 or-true : (b : Bool) → (b || true) ≡ true
@@ -50,36 +97,35 @@ or-true true = refl
 or-true false = refl
 
 module _ (w : List ℕ) where
-  abbrev pub types : List ℕ → List Ty
-  types ts = map (typeAt w) ts
-
-  pub type-in : (ts : List ℕ) (i : ℕ) → i < length ts → getD (types ts) i (scalar bool) ≡ typeAt w (getD ts i 0)
+  pub type-in : (ts : List ℕ) (i : ℕ) → i < length ts → getD (types w ts) i (scalar bool) ≡ typeAt w (getD ts i 0)
   type-in [] i l = absurd (not-suc-le-zero l)
   type-in (t ∷ ts) zero l = refl
   type-in (t ∷ ts) (suc i) l = type-in ts i (omega arith)
 
-  pub types-formed : (n : ℕ) → Sound w n → (ts : List ℕ) → Under n ts → allFormed (types ts) ≡ true
+  pub types-formed : (n : ℕ) → Sound w n → (ts : List ℕ) → Under n ts → allFormed (types w ts) ≡ true
   unfolding allFormed
   types-formed n s [] u = refl
   types-formed n s (t ∷ ts) u = rw (formed-at w n s t (u 0 (omega arith)), types-formed n s ts (under-rest n t ts u))
 
-  pub some-reference : (ts : List ℕ) (i : ℕ) → i < length ts → isReference (typeAt w (getD ts i 0)) ≡ true → anyReference (types ts) ≡ true
+  pub some-reference : (ts : List ℕ) (i : ℕ) → i < length ts → isReference (typeAt w (getD ts i 0)) ≡ true → anyReference (types w ts) ≡ true
   unfolding anyReference
   some-reference [] i l h = absurd (not-suc-le-zero l)
-  some-reference (t ∷ ts) zero l h = ap (λ (b : Bool). b || anyReference (types ts)) h
+  some-reference (t ∷ ts) zero l h = ap (λ (b : Bool). b || anyReference (types w ts)) h
   some-reference (t ∷ ts) (suc i) l h = ap (λ (b : Bool). isReference (typeAt w t) || b) (some-reference ts i (omega arith) h) ∙ or-true (isReference (typeAt w t))
 
-  pub no-reference : (ts : List ℕ) → ((i : ℕ) → i < length ts → isReference (typeAt w (getD ts i 0)) ≡ false) → anyReference (types ts) ≡ false
+  pub no-reference : (ts : List ℕ) → ((i : ℕ) → i < length ts → isReference (typeAt w (getD ts i 0)) ≡ false) → anyReference (types w ts) ≡ false
   unfolding anyReference
   no-reference [] h = refl
   no-reference (t ∷ ts) h =
-      ap (λ (b : Bool). b || anyReference (types ts)) (h 0 (omega arith)) ∙ no-reference ts (λ i l. h (suc i) (omega arith))
+      ap (λ (b : Bool). b || anyReference (types w ts)) (h 0 (omega arith)) ∙ no-reference ts (λ i l. h (suc i) (omega arith))
 
-  pub codes-in : (ts cs : List ℕ) → length ts ≤ length cs → ((i : ℕ) → i < length ts → getD cs i 0 ≡ codeOf (typeAt w (getD ts i 0))) → take (length (types ts)) cs ≡ codesOf (types ts)
+  pub codes-in : (ts cs : List ℕ) → length ts ≤ length cs → ((i : ℕ) → i < length ts → getD cs i 0 ≡ codeOf (typeAt w (getD ts i 0))) → take (length (types w ts)) cs ≡ codesOf (types w ts)
   codes-in [] cs l h = refl
   codes-in (t ∷ ts) [] l h = absurd (not-suc-le-zero l)
   codes-in (t ∷ ts) (c ∷ cs) l h = λ i. h 0 (omega arith) i ∷ codes-in ts cs (omega arith) (λ k m. h (suc k) (omega arith)) i
 
 -- the part of the codes that is handed on
-pub codes-front : (w : List ℕ) (ts cs : List ℕ) → take (length (types w ts)) cs ≡ codesOf (types w ts) → take (length ts - 0) (drop 0 cs) ≡ codesOf (types w ts)
-codes-front w ts cs h = let z : length ts - 0 ≡ length ts = omega arith in ap (λ (k : ℕ). take k cs) (z ∙ sym (length-map ts (typeAt w))) ∙ h
+pub codes-front : (w : List ℕ) (vs cs : List ℕ) → take (length (types w (numbers vs))) cs ≡ codesOf (types w (numbers vs)) → take (length vs - 0) (drop 0 cs) ≡ codesOf (types w (numbers vs))
+codes-front w vs cs h =
+    let z : length vs - 0 ≡ length vs = omega arith in
+    ap (λ (k : ℕ). take k cs) (z ∙ sym (length-map vs numberOf) ∙ sym (length-map (numbers vs) (typeAt w))) ∙ h

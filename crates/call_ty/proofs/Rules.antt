@@ -15,6 +15,7 @@ use Rattle.conv.proofs.Finite.{both-left, both-right}
 use Rattle.overload.proofs.Operands.{and-left, and-right}
 use Rattle.overload.specs.Overload.{Judged, or, fits, noMore, less, sameTys, allYield, isPreferred, anyFits, chosen, judge}
 use Rattle.overload.specs.Overload.Judged.{gives, noneFits, nonePreferred}
+use Rattle.overload.specs.Marks.{sifted, dropped}
 use Rattle.overload.specs.Rows.{formAt, componentAt, wrapped, overSecond, atSizes, overSet, ofFamilies, headCount, judgeBy}
 use Rattle.names.specs.Names.{Rule, Name, names, sameBytes, within, Named, ruleIn, ruleOf}
 use Rattle.names.specs.Names.Rule.{ruling, bitcast, arrayLength, ldexp, barrier}
@@ -42,7 +43,7 @@ gaveScalar nonePreferred = false
 
 -- an operand is wanted, or none: then there is no value, or the name is of a profile above 0 and a scalar is given
 wants : ℕ → Rule → Bool
-wants profile (ruling r) = leb 1 (operandsBy r) || (leb 1 profile && gaveScalar (judgeBy r []))
+wants profile (ruling r) = leb 1 (operandsBy r) || (leb 1 profile && gaveScalar (judgeBy r [] []))
 wants profile bitcast = true
 wants profile arrayLength = true
 wants profile ldexp = true
@@ -76,15 +77,15 @@ gave-scalar nonePreferred h = impossible (cc)
 Wanting : ℕ → Rule → Type 0
 Wanting profile r = (first : ℕ) × (first ≤ profile) × (wants first r ≡ true)
 
-want-in : (profile : ℕ) (rs : List Name) → T (allWant rs) → (s : List ℕ) (r : Rule) → ruleIn profile rs s ≡ rule r → Wanting profile r
+want-in : (profile : ℕ) (rs : List Name) → T (allWant rs) → (s : List ℕ) (r : Rule) (m : Bool) → ruleIn profile rs s ≡ rule r m → Wanting profile r
 unfolding allWant ruleIn within Wanting
-want-in profile [] t s r e = impossible (cc)
-want-in profile (q ∷ qs) t s r e = go (sameBytes (q .text) s) (within profile (q .profile)) refl e (want-in profile qs (both-right (wants (q .profile) (q .rule)) _ t) s r)
+want-in profile [] t s r m e = impossible (cc)
+want-in profile (q ∷ qs) t s r m e = go (sameBytes (q .text) s) (within profile (q .profile)) refl e (want-in profile qs (both-right (wants (q .profile) (q .rule)) _ t) s r m)
   where
     here : wants (q .profile) (q .rule) ≡ true
     here = T-true (wants (q .profile) (q .rule)) (both-left (wants (q .profile) (q .rule)) (allWant qs) t)
 
-    go : (b d : Bool) → within profile (q .profile) ≡ d → cond b (cond d (rule (q .rule)) unknown) (ruleIn profile qs s) ≡ rule r → (ruleIn profile qs s ≡ rule r → Wanting profile r)
+    go : (b d : Bool) → within profile (q .profile) ≡ d → cond b (cond d (rule (q .rule) (q .running)) unknown) (ruleIn profile qs s) ≡ rule r m → (ruleIn profile qs s ≡ rule r m → Wanting profile r)
         → Wanting profile r
     go true true w p later =
         let z : q .rule ≡ r = cc in
@@ -92,15 +93,15 @@ want-in profile (q ∷ qs) t s r e = go (sameBytes (q .text) s) (within profile 
     go true false w p later = impossible (cc)
     go false d w p later = later p
 
-name-wants : (profile : ℕ) (name : List ℕ) (r : Rule) → ruleOf profile name ≡ rule r → Wanting profile r
-unfolding names both wants allWant operandsBy headCount gaveScalar made tagOf firstOf secondOf sameTy or fits noMore less sameTys allYield isPreferred anyFits chosen judge formAt componentAt wrapped overSecond atSizes overSet ofFamilies judgeBy
-name-wants profile name r e = want-in profile names tt name r e
+name-wants : (profile : ℕ) (name : List ℕ) (r : Rule) (m : Bool) → ruleOf profile name ≡ rule r m → Wanting profile r
+unfolding names both sifted dropped wants allWant operandsBy headCount gaveScalar made tagOf firstOf secondOf sameTy or fits noMore less sameTys allYield isPreferred anyFits chosen judge formAt componentAt wrapped overSecond atSizes overSet ofFamilies judgeBy
+name-wants profile name r m e = want-in profile names tt name r m e
 
-by-rule : (profile : ℕ) (r : Rule) → Wanting profile r → operandsOf r ≡ 0 → (ts : List Ty) → Bare profile (givenBy r ts [])
+by-rule : (profile : ℕ) (r : Rule) → Wanting profile r → operandsOf r ≡ 0 → (ts : List Ty) → Bare profile (givenBy r ts [] [])
 unfolding Wanting wants operandsOf givenBy
 by-rule profile (ruling r) (first, l, t) e ts =
-    let u : (leb 1 0 || (leb 1 first && gaveScalar (judgeBy r []))) ≡ true = rw e at t in
-    let g = gave-scalar (judgeBy r []) (and-right (leb 1 first) _ u) in
+    let u : (leb 1 0 || (leb 1 first && gaveScalar (judgeBy r [] []))) ≡ true = rw e at t in
+    let g = gave-scalar (judgeBy r [] []) (and-right (leb 1 first) _ u) in
     let k = leb-true 1 first (and-left (leb 1 first) _ u) in
     scalarly (g .0) (g .1) (omega arith) (ap judgment (g .2))
 by-rule profile bitcast w e ts = absurd (omega arith)
@@ -109,5 +110,5 @@ by-rule profile ldexp w e ts = absurd (omega arith)
 by-rule profile barrier w e ts = silent refl
 
 -- A CALL WITHOUT OPERANDS, in a profile
-pub wants-none : (profile : ℕ) (name : List ℕ) (r : Rule) → ruleOf profile name ≡ rule r → operandsOf r ≡ 0 → (ts : List Ty) → Bare profile (givenBy r ts [])
-wants-none profile name r n e ts = by-rule profile r (name-wants profile name r n) e ts
+pub wants-none : (profile : ℕ) (name : List ℕ) (r : Rule) (m : Bool) → ruleOf profile name ≡ rule r m → operandsOf r ≡ 0 → (ts : List Ty) → Bare profile (givenBy r ts [] [])
+wants-none profile name r m n e ts = by-rule profile r (name-wants profile name r m n) e ts

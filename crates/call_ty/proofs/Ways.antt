@@ -1,8 +1,8 @@
 -- The ways out of a call of a builtin, each as the outcome that its definition gives. Assumes nothing.
 use Prim.Native.Nat.{ℕ, _≤_, _<_}
-use mathlib.Core.Path.{_≡_, refl, sym, _∙_, ap}
+use mathlib.Core.Path.{_≡_, refl, sym, _∙_, ap, subst}
 use mathlib.Core.Logic.{_≢_}
-use mathlib.Core.Bool.{true, false}
+use mathlib.Core.Bool.{Bool, true, false, _||_}
 use mathlib.Core.List.{List, map}
 use native.Mathlib.Omega.{arith}
 use lib.Dec.{eqb, ltb, leb}
@@ -10,33 +10,38 @@ use lib.ListN.{length, getD, length-map}
 use borrow.Author.Tests.{eq-eqb, ne-eqb, eqb-true, eqb-false, ltb-true, ltb-false, leb-true, leb-false}
 use Rattle.conv.specs.Types.{Ty, u32}
 use Rattle.conv.specs.Types.Ty.{scalar}
-use Rattle.overload.specs.Rows.{judgeRow, rowAt, operandCount, judgeBy}
+use Rattle.overload.specs.Overload.{or}
+use Rattle.overload.specs.Marks.{anyRunning, runningAbstract}
+use Rattle.overload.specs.Rows.{Row, rowAt, operandCount, judgeBy}
+use Rattle.overload.proofs.Marks.{judge-kept}
 use Rattle.overload.specs.Rows.Ruling.{byRow}
 use Rattle.overload.proofs.Counts.{count-few}
-use Rattle.overload.specs.inner.Code.{operand, codeOf}
+use Rattle.overload.specs.inner.Code.{operand, codeOf, judgeKept}
 use Rattle.overload.proofs.Operands.{and-left, allFormed, codesOf, judge-types}
 use Rattle.names.specs.Names.{Rule}
 use Rattle.names.specs.Names.Rule.{ruling, bitcast, arrayLength, ldexp, barrier}
 use Rattle.names.specs.Names.Named.{rule, unknown}
 use Rattle.names.specs.inner.Table.{numbered}
 use Rattle.names.proofs.Rules.{numbered-row, numbered-bitcast, numbered-length, numbered-ldexp, numbered-barrier}
-use Rattle.answer.specs.Answer.{accept, Accepted, WithoutValue}
+use Rattle.answer.specs.Answer.{accept, refuse, markedBy, Accepted, WithoutValue}
+use Rattle.answer.specs.declared.Reason.{Reason}
+use Rattle.answer.specs.declared.Typed.{Typed}
 use Rattle.table.specs.Table.{soundb, Sound}
 use Rattle.table.specs.Denote.{typeAt}
-use Rattle.table.specs.Placing.{Gave, turnedDown}
+use Rattle.table.specs.Placing.{Outcome, Gave, GaveMarked, turnedDown}
 use Rattle.answer.specs.declared.Answer.{Answer}
 use Rattle.answer.specs.declared.TypeNo.{TypeNo}
-use Rattle.answer.specs.declared.Reason.the-variants.{Unsound, NoSuchType, Reference, Unknown, Template, Operands, NoOverload}
+use Rattle.answer.specs.declared.Reason.the-variants.{Unsound, NoSuchType, Reference, Unknown, Template, Operands, NoOverload, RunningAbstract}
 use Rattle.table.proofs.KindLaws.{split}
 use Rattle.table.proofs.TypeLaws.{type-scalar}
 use Rattle.table.proofs.FormedLaws.{formed-at}
 use Rattle.table.proofs.PlacingLaws.{standing-outcome}
-use Rattle.table.proofs.Giving.{gave}
+use Rattle.table.proofs.Giving.{gave, gave-marked}
 use Rattle.ruled.specs.Call.{anyReference, judgedOutcome}
-use Rattle.call_ty.specs.Calls.{firstIn, wideNumeric, templateRight, operandsBy, operandsOf, ldexpTakes, judgeLdexp, withoutValue, givenBy, givenOutcome, byRule, callOutcome, allUnder, typeBuiltinFn}
+use Rattle.call_ty.specs.Calls.{firstIn, wideNumeric, templateRight, operandsBy, operandsOf, ldexpTakes, judgeLdexp, withoutValue, givenBy, givenOutcome, byRule, runsBy, callOutcome, allUnder, numbers, marksOf, types, typeBuiltinFn}
 use Rattle.call_ty.specs.inner.Codes.{Under, numericCode, ldexpCodes}
 use Rattle.call_ty.proofs.Parts.{numeric-by, ldexp-by}
-use Rattle.call_ty.proofs.Lists.{types, type-in}
+use Rattle.call_ty.proofs.Lists.{type-in}
 
 -- what the two makers of an accepted answer give
 pub gave-accepted : (t : TypeNo) {r : Answer} (w : List ℕ) (n : ℕ) → Accepted t n r → Gave (record { answer = accept (t .0) n; words = w }) r w
@@ -44,6 +49,14 @@ gave-accepted t w n a = gave (a .made) refl
 
 pub gave-none : {r : Answer} (w : List ℕ) (n : ℕ) → WithoutValue n r → Gave (withoutValue w n) r w
 gave-none w n a = gave (a .made) refl
+
+-- a refusal has no mark
+pub gave-unmarked : (reason : Reason) (place : ℕ) (w : List ℕ) (n : ℕ) (m : Bool) (r : Typed) → r ≡ markedBy false (refuse reason place n) → GaveMarked (turnedDown reason place w n) m r w
+gave-unmarked reason place w n m r e = gave-marked (gave refl refl) e
+
+-- the same outcome
+pub gave-as-marked : {o p : Outcome} {m : Bool} {r : Typed} {v : List ℕ} → o ≡ p → GaveMarked o m r v → GaveMarked p m r v
+gave-as-marked {m = m} {r = r} {v = v} e g = subst (λ (x : Outcome). GaveMarked x m r v) e g
 
 -- THE TEMPLATE LIST
 
@@ -98,39 +111,39 @@ module _ (place : ℕ) (w : List ℕ) (n : ℕ) (s : Sound w n) where
       ldexp-by (typeAt w a) (typeAt w b) (formed-at w n s a l) (formed-at w n s b m) ∙ (λ i. ldexpCodes (sym d i) (sym e i)) ∙ h in
       sym (rw k)
 
-  module _ (k : ℕ) (tplt args : List ℕ) where
+  module _ (k : ℕ) (tplt args : List ℕ) (ms : List Bool) where
     -- a ruled name, by the numbers of its operands
-    pub rule-row : k < 100 → (us : List Ty) → allFormed us ≡ true → (row : ℕ) → row ≡ k → (codes : List ℕ) → codes ≡ codesOf us
-        → judgedOutcome place w n (judgeRow (rowAt row) (map operand codes)) ≡ givenOutcome place w n (givenBy (numbered k) (types w tplt) us)
+    pub rule-row : k < 100 → (us : List Ty) → allFormed us ≡ true → runningAbstract us ms ≡ false → (running : Bool) → running ≡ anyRunning ms → (row : ℕ) → row ≡ k → (codes : List ℕ) → codes ≡ codesOf us
+        → judgedOutcome place w n (judgeKept running (rowAt row) (map operand codes)) ≡ givenOutcome place w n (givenBy (numbered k) (types w tplt) us ms)
     unfolding givenOutcome givenBy judgeBy
-    rule-row h us f row q codes e =
-        (λ i. judgedOutcome place w n (judgeRow (rowAt (q i)) (map operand (e i))))
-        ∙ ap (judgedOutcome place w n) (judge-types us f k)
-        ∙ ap (λ (r : Rule). givenOutcome place w n (givenBy r (types w tplt) us)) (sym (numbered-row k h))
+    rule-row h us f c running a row q codes e =
+        (λ i. judgedOutcome place w n (judgeKept (a i) (rowAt (q i)) (map operand (e i))))
+        ∙ ap (judgedOutcome place w n) (judge-types us f k (anyRunning ms) ∙ judge-kept (rowAt k) us ms c)
+        ∙ ap (λ (r : Rule). givenOutcome place w n (givenBy r (types w tplt) us ms)) (sym (numbered-row k h))
 
-    given-as : (r : Rule) → numbered k ≡ r → givenOutcome place w n (givenBy r (types w tplt) (types w args)) ≡ givenOutcome place w n (givenBy (numbered k) (types w tplt) (types w args))
-    given-as r e = ap (λ (r : Rule). givenOutcome place w n (givenBy r (types w tplt) (types w args))) (sym e)
+    given-as : (r : Rule) → numbered k ≡ r → givenOutcome place w n (givenBy r (types w tplt) (types w args) ms) ≡ givenOutcome place w n (givenBy (numbered k) (types w tplt) (types w args) ms)
+    given-as r e = ap (λ (r : Rule). givenOutcome place w n (givenBy r (types w tplt) (types w args) ms)) (sym e)
 
     pub rule-bitcast : k ≡ 100 → Under n tplt → length tplt ≡ 1
-        → record { answer = accept (getD tplt 0 0) n; words = w } ≡ givenOutcome place w n (givenBy (numbered k) (types w tplt) (types w args))
+        → record { answer = accept (getD tplt 0 0) n; words = w } ≡ givenOutcome place w n (givenBy (numbered k) (types w tplt) (types w args) ms)
     unfolding givenOutcome givenBy judgedOutcome
     rule-bitcast h u o =
         let l : 0 < length tplt = omega arith in
         sym (standing-outcome place w n s (getD tplt 0 0) (firstIn (types w tplt)) (u 0 l) (sym (type-in w tplt 0 l))) ∙ given-as bitcast (numbered-bitcast k h)
 
-    pub rule-length : k ≡ 101 → record { answer = accept u32 n; words = w } ≡ givenOutcome place w n (givenBy (numbered k) (types w tplt) (types w args))
+    pub rule-length : k ≡ 101 → record { answer = accept u32 n; words = w } ≡ givenOutcome place w n (givenBy (numbered k) (types w tplt) (types w args) ms)
     unfolding givenOutcome givenBy judgedOutcome
     rule-length h =
         let l = s .low in
         sym (standing-outcome place w n s u32 (scalar u32) (omega arith) (type-scalar w u32 (omega arith))) ∙ given-as arrayLength (numbered-length k h)
 
     pub rule-ldexp : k ≡ 102 → length args ≡ 2
-        → judgedOutcome place w n (judgeLdexp (typeAt w (getD args 0 0)) (typeAt w (getD args 1 0))) ≡ givenOutcome place w n (givenBy (numbered k) (types w tplt) (types w args))
+        → judgedOutcome place w n (judgeLdexp (typeAt w (getD args 0 0)) (typeAt w (getD args 1 0))) ≡ givenOutcome place w n (givenBy (numbered k) (types w tplt) (types w args) ms)
     unfolding givenOutcome givenBy
     rule-ldexp h o =
         (λ i. judgedOutcome place w n (judgeLdexp (sym (type-in w args 0 (omega arith)) i) (sym (type-in w args 1 (omega arith)) i))) ∙ given-as ldexp (numbered-ldexp k h)
 
-    pub rule-barrier : 100 ≤ k → k ≢ 100 → k ≢ 101 → k ≢ 102 → withoutValue w n ≡ givenOutcome place w n (givenBy (numbered k) (types w tplt) (types w args))
+    pub rule-barrier : 100 ≤ k → k ≢ 100 → k ≢ 101 → k ≢ 102 → withoutValue w n ≡ givenOutcome place w n (givenBy (numbered k) (types w tplt) (types w args) ms)
     unfolding givenOutcome givenBy
     rule-barrier h a b c = given-as barrier (numbered-barrier k (omega arith))
 
@@ -165,28 +178,43 @@ module _ (k : ℕ) where
 
 -- A CALL BY ITS RULE
 
-module _ (place : ℕ) (w : List ℕ) (n : ℕ) (r : Rule) (ts us : List Ty) where
-  pub by-template : templateRight r ts ≡ false → turnedDown Template place w n ≡ byRule place w n (rule r) ts us
+module _ (place : ℕ) (w : List ℕ) (n : ℕ) (r : Rule) (runs : Bool) (ts us : List Ty) (ms : List Bool) where
+  pub by-template : templateRight r ts ≡ false → turnedDown Template place w n ≡ byRule place w n (rule r runs) ts us ms
   unfolding byRule
   by-template h = sym (rw h)
 
   module _ (t : templateRight r ts ≡ true) where
-    pub by-count : length us ≢ operandsOf r → turnedDown Operands place w n ≡ byRule place w n (rule r) ts us
+    pub by-count : length us ≢ operandsOf r → turnedDown Operands place w n ≡ byRule place w n (rule r runs) ts us ms
     unfolding byRule
     by-count h = sym (rw (t, ne-eqb (length us) (operandsOf r) h))
 
     module _ (k : length us ≡ operandsOf r) where
-      pub by-reference : anyReference us ≡ true → turnedDown Reference place w n ≡ byRule place w n (rule r) ts us
+      pub by-reference : anyReference us ≡ true → turnedDown Reference place w n ≡ byRule place w n (rule r runs) ts us ms
       unfolding byRule
       by-reference h = sym (rw (t, eq-eqb (length us) (operandsOf r) k, h))
 
-      pub by-call : anyReference us ≡ false → givenOutcome place w n (givenBy r ts us) ≡ byRule place w n (rule r) ts us
+      pub by-clash : anyReference us ≡ false → runningAbstract us ms ≡ true → turnedDown RunningAbstract place w n ≡ byRule place w n (rule r runs) ts us ms
       unfolding byRule
-      by-call h = sym (rw (t, eq-eqb (length us) (operandsOf r) k, h))
+      by-clash h c = sym (rw (t, eq-eqb (length us) (operandsOf r) k, h, c))
 
-pub by-unknown : (place : ℕ) (w : List ℕ) (n : ℕ) (ts us : List Ty) → turnedDown Unknown place w n ≡ byRule place w n unknown ts us
+      pub by-call : anyReference us ≡ false → runningAbstract us ms ≡ false → givenOutcome place w n (givenBy r ts us ms) ≡ byRule place w n (rule r runs) ts us ms
+      unfolding byRule
+      by-call h c = sym (rw (t, eq-eqb (length us) (operandsOf r) k, h, c))
+
+-- whether the result is running plays no part in the outcome
+pub by-runs : (place : ℕ) (w : List ℕ) (n : ℕ) (r : Rule) (a b : Bool) (ts us : List Ty) (ms : List Bool) → byRule place w n (rule r a) ts us ms ≡ byRule place w n (rule r b) ts us ms
 unfolding byRule
-by-unknown place w n ts us = refl
+by-runs place w n r a b ts us ms = refl
+
+pub by-unknown : (place : ℕ) (w : List ℕ) (n : ℕ) (ts us : List Ty) (ms : List Bool) → turnedDown Unknown place w n ≡ byRule place w n unknown ts us ms
+unfolding byRule
+by-unknown place w n ts us ms = refl
+
+-- the mark of a result, as the code has it
+pub runs-by : (r : Rule) (runs : Bool) (ms : List Bool) → (runs || anyRunning ms) ≡ runsBy (rule r runs) ms
+unfolding runsBy or
+runs-by r true ms = refl
+runs-by r false ms = refl
 
 -- A SINGLE CALL
 
@@ -201,10 +229,10 @@ module _ (profile : ℕ) (w : List ℕ) (n : ℕ) (name tplt args : List ℕ) wh
     single-template h = sym (rw (s, h))
 
     module _ (t : allUnder n tplt ≡ true) where
-      pub single-operand : allUnder n args ≡ false → turnedDown NoSuchType 0 w n ≡ typeBuiltinFn profile w n name tplt args
+      pub single-operand : allUnder n (numbers args) ≡ false → turnedDown NoSuchType 0 w n ≡ typeBuiltinFn profile w n name tplt args
       unfolding typeBuiltinFn
       single-operand h = sym (rw (s, t, h))
 
-      pub single-call : allUnder n args ≡ true → callOutcome profile 0 w n name (types w tplt) (types w args) ≡ typeBuiltinFn profile w n name tplt args
+      pub single-call : allUnder n (numbers args) ≡ true → callOutcome profile 0 w n name (types w tplt) (types w (numbers args)) (marksOf args) ≡ typeBuiltinFn profile w n name tplt args
       unfolding typeBuiltinFn
       single-call h = sym (rw (s, t, h))

@@ -1,14 +1,16 @@
--- The builtins of documents 01 and 02, by their names, and what a call of one does in a profile. Assumes nothing.
+-- The builtins of documents 01 and 02, by their names, and what a call of one does in a profile, on operands with marks. Assumes nothing.
 use Prim.Native.Nat.{ℕ}
-use mathlib.Core.Bool.{Bool, true, _&&_, _||_, not, cond}
+use mathlib.Core.Bool.{Bool, true, false, _&&_, _||_, not, cond}
 use mathlib.Core.List.{List, [], _∷_, map}
 use lib.Dec.{eqb, ltb}
 use lib.ListN.{length, getD}
+use Rattle.held.specs.Held.{numberOf, markOf}
 use Rattle.conv.specs.Types.{Ty, bool, abstractInt, i32, u32, isFloat, isAbstract}
 use Rattle.conv.specs.Types.Ty.{scalar}
 use Rattle.conv.specs.Rank.{tagOf, componentOf}
-use Rattle.overload.specs.Overload.{Judged}
+use Rattle.overload.specs.Overload.{Judged, or}
 use Rattle.overload.specs.Overload.Judged.{gives, noneFits}
+use Rattle.overload.specs.Marks.{anyRunning, runningAbstract}
 use Rattle.overload.specs.Rows.{Ruling, operandCount, judgeBy}
 use Rattle.overload.specs.Rows.Ruling.{byRow, address, indirection}
 use Rattle.names.specs.Names.{Rule, Named, ruleOf}
@@ -17,7 +19,7 @@ use Rattle.names.specs.Names.Named.{rule, unknown}
 use Rattle.table.specs.Table.{soundb}
 use Rattle.table.specs.Denote.{typeAt}
 use Rattle.table.specs.Placing.{Outcome, turnedDown}
-use Rattle.answer.specs.declared.Reason.the-variants.{Unsound, NoSuchType, Reference, Unknown, Template, Operands}
+use Rattle.answer.specs.declared.Reason.the-variants.{Unsound, NoSuchType, Reference, Unknown, Template, Operands, RunningAbstract}
 use Rattle.answer.specs.declared.Answer.the-variants.{NoValue}
 use Rattle.ruled.specs.Call.{anyReference, judgedOutcome}
 
@@ -69,7 +71,7 @@ operandsOf arrayLength = 1
 operandsOf ldexp = 2
 operandsOf barrier = 0
 
--- THE RULES, on operands of which none is a reference
+-- THE RULES, on operands of which none is a reference, and none both running and abstract
 
 -- "`ldexp`: a float with AbstractInt or i32, or a float vector with such a vector of any width, both concrete or both abstract"
 unfoldable pub ldexpTakes : Ty → Ty → Bool
@@ -89,13 +91,13 @@ pub data Given : Type 0 where
   nothing : Given
 
 -- a ruled name by its overloads; `bitcast` gives its template type; "`arrayLength`, one operand, gives u32"; "storageBarrier, textureBarrier,
--- workgroupBarrier: no operand, no value"
-unfoldable pub givenBy : Rule → List Ty → List Ty → Given
-givenBy (ruling r) ts us = judgment (judgeBy r us)
-givenBy bitcast ts us = judgment (gives (firstIn ts))
-givenBy arrayLength ts us = judgment (gives (scalar u32))
-givenBy ldexp ts us = judgment (judgeLdexp (firstIn us) (secondIn us))
-givenBy barrier ts us = nothing
+-- workgroupBarrier: no operand, no value". Only overloads look at the operands' marks, ms
+unfoldable pub givenBy : Rule → List Ty → List Ty → List Bool → Given
+givenBy (ruling r) ts us ms = judgment (judgeBy r us ms)
+givenBy bitcast ts us ms = judgment (gives (firstIn ts))
+givenBy arrayLength ts us ms = judgment (gives (scalar u32))
+givenBy ldexp ts us ms = judgment (judgeLdexp (firstIn us) (secondIn us))
+givenBy barrier ts us ms = nothing
 
 -- 8, 13, 9 or the type's number; where there is no value the table stays as it is
 abbrev pub withoutValue : List ℕ → ℕ → Outcome
@@ -105,19 +107,26 @@ unfoldable pub givenOutcome : ℕ → List ℕ → ℕ → Given → Outcome
 givenOutcome place w n (judgment j) = judgedOutcome place w n j
 givenOutcome place w n nothing = withoutValue w n
 
--- A CALL ON LOADED OPERANDS, at a place: 4 a name that the profile has not, 5 the template list, 7 the operand count, 3 a reference offered, then its rule
+-- A CALL ON LOADED OPERANDS, at a place: 4 a name that the profile has not, 5 the template list, 7 the operand count, 3 a reference offered, 14 an operand both running and
+-- abstract at any depth, then its rule
 
-unfoldable pub byRule : ℕ → List ℕ → ℕ → Named → List Ty → List Ty → Outcome
-byRule place w n unknown ts us = turnedDown Unknown place w n
-byRule place w n (rule r) ts us =
+unfoldable pub byRule : ℕ → List ℕ → ℕ → Named → List Ty → List Ty → List Bool → Outcome
+byRule place w n unknown ts us ms = turnedDown Unknown place w n
+byRule place w n (rule r runs) ts us ms =
     cond (templateRight r ts)
     (cond (eqb (length us) (operandsOf r))
-    (cond (anyReference us) (turnedDown Reference place w n) (givenOutcome place w n (givenBy r ts us)))
+    (cond (anyReference us) (turnedDown Reference place w n)
+    (cond (runningAbstract us ms) (turnedDown RunningAbstract place w n) (givenOutcome place w n (givenBy r ts us ms))))
     (turnedDown Operands place w n))
     (turnedDown Template place w n)
 
-abbrev pub callOutcome : ℕ → ℕ → List ℕ → ℕ → List ℕ → List Ty → List Ty → Outcome
-callOutcome profile place w n name ts us = byRule place w n (ruleOf profile name) ts us
+abbrev pub callOutcome : ℕ → ℕ → List ℕ → ℕ → List ℕ → List Ty → List Ty → List Bool → Outcome
+callOutcome profile place w n name ts us ms = byRule place w n (ruleOf profile name) ts us ms
+
+-- "a result is const when all operands are. Derivatives, barriers, arrayLength and subgroup or quad calls give running results even so"
+unfoldable pub runsBy : Named → List Bool → Bool
+runsBy unknown ms = false
+runsBy (rule r runs) ms = or runs (anyRunning ms)
 
 -- A SINGLE CALL, at place 0: 1, then 2 over the template list and over the operands, before these
 
@@ -125,12 +134,25 @@ unfoldable pub allUnder : ℕ → List ℕ → Bool
 allUnder n [] = true
 allUnder n (t ∷ ts) = ltb t n && allUnder n ts
 
+-- the types' numbers and the marks of operands; the types of numbers
+abbrev pub numbers : List ℕ → List ℕ
+numbers args = map numberOf args
+
+abbrev pub marksOf : List ℕ → List Bool
+marksOf args = map markOf args
+
+abbrev pub types : List ℕ → List ℕ → List Ty
+types w ts = map (typeAt w) ts
+
 unfoldable pub typeBuiltinFn : ℕ → List ℕ → ℕ → List ℕ → List ℕ → List ℕ → Outcome
 typeBuiltinFn profile w n name tplt args =
     cond (soundb w n)
     (cond (allUnder n tplt)
-    (cond (allUnder n args)
-    (callOutcome profile 0 w n name (map (typeAt w) tplt) (map (typeAt w) args))
+    (cond (allUnder n (numbers args))
+    (callOutcome profile 0 w n name (types w tplt) (types w (numbers args)) (marksOf args))
     (turnedDown NoSuchType 0 w n))
     (turnedDown NoSuchType 0 w n))
     (turnedDown Unsound 0 w n)
+
+abbrev pub builtinRuns : ℕ → List ℕ → List ℕ → Bool
+builtinRuns profile name args = runsBy (ruleOf profile name) (marksOf args)

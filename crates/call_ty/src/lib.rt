@@ -7,19 +7,22 @@ use table::Answer;
 use table::Place;
 use table::Reason;
 use table::TypeNo;
+use table::Typed;
 ghost use mathlib.Core.Path.{_≡_};
-ghost use mathlib.Core.Bool.{true};
-ghost use mathlib.Core.List.{map};
+ghost use mathlib.Core.Bool.{true, false, cond};
 ghost use Prim.Native.Nat.{_<_, _≤_};
 ghost use lib.ListN.{length};
 ghost use Rattle.names.specs.inner.Table.{numbered, nameTable};
 ghost use Rattle.conv.specs.Types.{isFloat, isAbstract};
 ghost use Rattle.table.specs.Table.{Sound};
 ghost use Rattle.table.specs.Denote.{typeAt};
-ghost use Rattle.table.specs.Placing.{Gave};
+ghost use Rattle.table.specs.Placing.{Gave, GaveMarked};
+ghost use Rattle.answer.specs.Answer.{refuse, markedBy};
+ghost use Rattle.held.specs.Held.{numberOf};
+ghost use Rattle.overload.specs.Marks.{anyRunning, runningAbstract};
 ghost use Rattle.ruled.specs.Call.{judgedOutcome};
-ghost use Rattle.call_ty.specs.Calls.{templateRight, operandsOf, judgeLdexp, givenBy, givenOutcome, callOutcome, allUnder, typeBuiltinFn};
-ghost use Rattle.call_ty.specs.inner.Codes.{byNumber, Under, Loaded, numericCode, ldexpCodes};
+ghost use Rattle.call_ty.specs.Calls.{templateRight, operandsOf, judgeLdexp, givenBy, givenOutcome, callOutcome, allUnder, numbers, marksOf, types, typeBuiltinFn, builtinRuns};
+ghost use Rattle.call_ty.specs.inner.Codes.{byNumber, Under, numbersIf, Loaded, numericCode, ldexpCodes};
 
 // The most operands of a rule.
 const MOST: usize = 4;
@@ -85,13 +88,23 @@ fn operands_of(rule: u8) -> usize
     0
 }
 
-// Whether every number of the list is below n.
-fn all_under(list: &[u32], n: usize) -> bool
-    ensures { λ r. ⌜ r ≡ allUnder n (now (list .entry)) ⌝ }
+// A number of a list: a type's, or that of an operand.
+fn number_in(v: u32, held: bool) -> usize
+    ensures { λ r. ⌜ r ≡ cond held (numberOf v) v ⌝ }
+{
+    if held {
+        return held::number(v).0;
+    }
+    cast::word(v)
+}
+
+// Whether every number of the list is below n; the list is one of types, or of operands.
+fn all_under(list: &[u32], held: bool, n: usize) -> bool
+    ensures { λ r. ⌜ r ≡ allUnder n (numbersIf held (now (list .entry))) ⌝ }
 {
     let mut i = 0;
     while i < list.len() {
-        if n <= cast::word(list[i]) {
+        if n <= number_in(list[i], held) {
             return false;
         }
         i += 1;
@@ -99,10 +112,39 @@ fn all_under(list: &[u32], n: usize) -> bool
     true
 }
 
+// Whether an operand is running.
+pub fn any_running(args: &[u32]) -> bool
+    ensures { λ r. ⌜ r ≡ anyRunning (marksOf (now (args .entry))) ⌝ }
+{
+    let mut i = 0;
+    while i < args.len() {
+        if held::running(args[i]) {
+            return true;
+        }
+        i += 1;
+    }
+    false
+}
+
+// Whether an operand is both running and abstract at any depth.
+fn any_clashes(words: &[u32], n: usize, args: &[u32]) -> bool
+    requires { ⌜ Sound (now words) n × Under n (numbers (now args)) ⌝ }
+    ensures { λ r. ⌜ r ≡ runningAbstract (types (now (words .entry)) (numbers (now (args .entry)))) (marksOf (now (args .entry))) ⌝ }
+{
+    let mut i = 0;
+    while i < args.len() {
+        if ruled::clashes(words, n, args[i]) {
+            return true;
+        }
+        i += 1;
+    }
+    false
+}
+
 // The template list is as the rule wants it: one numeric scalar or vector for `bitcast`, none for every other.
 fn template_right(words: &[u32], n: usize, rule: u8, tplt: &[u32]) -> bool
     requires { ⌜ Sound (now words) n × Under n (now tplt) ⌝ }
-    ensures { λ r. ⌜ r ≡ templateRight (numbered rule) (map (typeAt (now (words .entry))) (now (tplt .entry))) ⌝ }
+    ensures { λ r. ⌜ r ≡ templateRight (numbered rule) (types (now (words .entry)) (now (tplt .entry))) ⌝ }
 {
     if rule != names::RULE_BITCAST {
         return tplt.len() == 0;
@@ -115,12 +157,12 @@ fn template_right(words: &[u32], n: usize, rule: u8, tplt: &[u32]) -> bool
 
 // The numbers of the operands, in their order; and whether none of them is a reference.
 fn load(words: &[u32], n: usize, args: &[u32], codes: &mut [u8]) -> bool
-    requires { ⌜ Sound (now words) n × Under n (now args) × (length (now args) ≤ length (now codes)) ⌝ }
-    ensures { λ r. ⌜ Loaded (map (typeAt (now (words .entry))) (now (args .entry))) r (now (codes .exit)) ⌝ }
+    requires { ⌜ Sound (now words) n × Under n (numbers (now args)) × (length (now args) ≤ length (now codes)) ⌝ }
+    ensures { λ r. ⌜ Loaded (types (now (words .entry)) (numbers (now (args .entry)))) r (now (codes .exit)) ⌝ }
 {
     let mut i = 0;
     while i < args.len() {
-        let x = ruled::code_at(words, n, cast::word(args[i]));
+        let x = ruled::code_at(words, n, held::number(args[i]).0);
         if x == REFERENCE {
             return false;
         }
@@ -145,8 +187,8 @@ fn ldexp_at(words: &[u32], n: usize, place: Place, a: usize, b: usize) -> Answer
 
 // A crate rule on loaded operands: each of its types stands in the table already.
 fn crate_rule(words: &[u32], n: usize, place: Place, rule: u8, tplt: &[u32], args: &[u32]) -> Answer
-    requires { ⌜ Sound (now words) n × Under n (now tplt) × Under n (now args) × (100 ≤ rule) × (templateRight (numbered rule) (map (typeAt (now words)) (now tplt)) ≡ true) × (length (now args) ≡ operandsOf (numbered rule)) ⌝ }
-    ensures { λ r. ⌜ Gave (givenOutcome (place .0) (now (words .entry)) n (givenBy (numbered rule) (map (typeAt (now (words .entry))) (now (tplt .entry))) (map (typeAt (now (words .entry))) (now (args .entry))))) r (now (words .entry)) ⌝ }
+    requires { ⌜ Sound (now words) n × Under n (now tplt) × Under n (numbers (now args)) × (100 ≤ rule) × (templateRight (numbered rule) (types (now words) (now tplt)) ≡ true) × (length (now args) ≡ operandsOf (numbered rule)) ⌝ }
+    ensures { λ r. ⌜ Gave (givenOutcome (place .0) (now (words .entry)) n (givenBy (numbered rule) (types (now (words .entry)) (now (tplt .entry))) (types (now (words .entry)) (numbers (now (args .entry)))) (marksOf (now (args .entry))))) r (now (words .entry)) ⌝ }
 {
     if rule == names::RULE_BITCAST {
         return table::accepted(TypeNo(cast::word(tplt[0])), n);
@@ -155,12 +197,18 @@ fn crate_rule(words: &[u32], n: usize, place: Place, rule: u8, tplt: &[u32], arg
         return table::accepted(TypeNo(table::U32), n);
     }
     if rule == names::RULE_LDEXP {
-        return ldexp_at(words, n, place, cast::word(args[0]), cast::word(args[1]));
+        return ldexp_at(
+            words,
+            n,
+            place,
+            held::number(args[0]).0,
+            held::number(args[1]).0,
+        );
     }
     table::no_value(n)
 }
 
-// A call of a builtin by its rule: 5, 7, 3, then the rule itself.
+// A call of a builtin by its rule: 5, 7, 3, 14, then the rule itself.
 fn by_rule(
     words: &mut [u32],
     n: usize,
@@ -169,8 +217,8 @@ fn by_rule(
     tplt: &[u32],
     args: &[u32],
 ) -> Answer
-    requires { ⌜ Sound (now words) n × Under n (now tplt) × Under n (now args) ⌝ }
-    ensures { λ r. ⌜ Gave (byNumber (place .0) (now (words .entry)) n rule (map (typeAt (now (words .entry))) (now (tplt .entry))) (map (typeAt (now (words .entry))) (now (args .entry)))) r (now (words .exit)) ⌝ }
+    requires { ⌜ Sound (now words) n × Under n (now tplt) × Under n (numbers (now args)) ⌝ }
+    ensures { λ r. ⌜ Gave (byNumber (place .0) (now (words .entry)) n rule (types (now (words .entry)) (now (tplt .entry))) (types (now (words .entry)) (numbers (now (args .entry)))) (marksOf (now (args .entry)))) r (now (words .exit)) ⌝ }
 {
     if !template_right(words, n, rule, tplt) {
         return table::refused(Reason::Template, place, n);
@@ -183,10 +231,21 @@ fn by_rule(
     if !load(words, n, args, &mut codes) {
         return table::refused(Reason::Reference, place, n);
     }
+    if any_clashes(words, n, args) {
+        return table::refused(Reason::RunningAbstract, place, n);
+    }
     if rule < names::RULE_BITCAST {
-        return ruled::judge_codes(words, n, place, cast::wide(rule), &codes[0..k]);
+        let running = any_running(args);
+        return ruled::judge_codes(words, n, place, cast::wide(rule), running, &codes[0..k]);
     }
     crate_rule(words, n, place, rule, tplt, args)
+}
+
+// A refusal at a place, which has no mark.
+fn unmarked(reason: Reason, place: Place, n: usize) -> Typed
+    ensures { λ r. ⌜ r ≡ markedBy false (refuse reason (place .0) n) ⌝ }
+{
+    table::marked(table::refused(reason, place, n), false)
 }
 
 // A call of a builtin of a profile on loaded operands, at a place; the table of names is lent as rows.
@@ -199,17 +258,20 @@ pub fn call_at(
     name: &[u8],
     tplt: &[u32],
     args: &[u32],
-) -> Answer
-    requires { ⌜ Sound (now words) n × Under n (now tplt) × Under n (now args) × (now rows ≡ nameTable) ⌝ }
-    ensures { λ r. ⌜ Gave (callOutcome profile (place .0) (now (words .entry)) n (now (name .entry)) (map (typeAt (now (words .entry))) (now (tplt .entry))) (map (typeAt (now (words .entry))) (now (args .entry)))) r (now (words .exit)) ⌝ }
+) -> Typed
+    requires { ⌜ Sound (now words) n × Under n (now tplt) × Under n (numbers (now args)) × (now rows ≡ nameTable) ⌝ }
+    ensures { λ r. ⌜ GaveMarked (callOutcome profile (place .0) (now (words .entry)) n (now (name .entry)) (types (now (words .entry)) (now (tplt .entry))) (types (now (words .entry)) (numbers (now (args .entry)))) (marksOf (now (args .entry)))) (builtinRuns profile (now (name .entry)) (now (args .entry))) r (now (words .exit)) ⌝ }
 {
     match names::rule_of(rows, profile, name) {
-        RuleNo::Is(rule) => by_rule(words, n, place, rule, tplt, args),
-        RuleNo::Unknown => table::refused(Reason::Unknown, place, n),
+        RuleNo::Is { rule, running } => {
+            let r = by_rule(words, n, place, rule, tplt, args);
+            table::marked(r, running | any_running(args))
+        }
+        RuleNo::Unknown => unmarked(Reason::Unknown, place, n),
     }
 }
 
-// For a host: the type of a call of the builtin with that name in that profile, that template list, empty for none, and those operands.
+// For a host: the type of a call of the builtin with that name in that profile, that template list, empty for none, and those operands, each a type's number with its mark.
 pub fn type_builtin_fn(
     words: &mut [u32],
     n: usize,
@@ -217,17 +279,17 @@ pub fn type_builtin_fn(
     name: &[u8],
     tplt: &[u32],
     args: &[u32],
-) -> Answer
-    ensures { λ r. ⌜ Gave (typeBuiltinFn profile (now (words .entry)) n (now (name .entry)) (now (tplt .entry)) (now (args .entry))) r (now (words .exit)) ⌝ }
+) -> Typed
+    ensures { λ r. ⌜ GaveMarked (typeBuiltinFn profile (now (words .entry)) n (now (name .entry)) (now (tplt .entry)) (now (args .entry))) (builtinRuns profile (now (name .entry)) (now (args .entry))) r (now (words .exit)) ⌝ }
 {
     if !table::sound(words, n) {
-        return table::refused(Reason::Unsound, Place(0), n);
+        return unmarked(Reason::Unsound, Place(0), n);
     }
-    if !all_under(tplt, n) {
-        return table::refused(Reason::NoSuchType, Place(0), n);
+    if !all_under(tplt, false, n) {
+        return unmarked(Reason::NoSuchType, Place(0), n);
     }
-    if !all_under(args, n) {
-        return table::refused(Reason::NoSuchType, Place(0), n);
+    if !all_under(args, true, n) {
+        return unmarked(Reason::NoSuchType, Place(0), n);
     }
     let rows = names::name_table();
     call_at(words, n, Place(0), &rows, profile, name, tplt, args)

@@ -4,7 +4,8 @@
 use Prim.Native.Nat.{ℕ, _+_, _-_, _<_, _≤_}
 use mathlib.Core.Path.{_≡_, refl, ap}
 use mathlib.Core.List.{List}
-use mathlib.Core.Bool.{Bool, true, false, _&&_, cond}
+use mathlib.Core.Logic.{_⊎_, inl, inr}
+use mathlib.Core.Bool.{Bool, true, false, _&&_, _||_, cond}
 use native.Mathlib.Omega.{arith}
 use lib.ListN.{length, getD, length-take, length-drop}
 use lib.Dec.{ltb, leb, eqb}
@@ -13,7 +14,7 @@ use Rattle.frame.specs.declared.Part.{Part}
 use Rattle.frame.specs.declared.Item.{Item}
 use Rattle.frame.specs.declared.Item.the-variants.{Push, Unary, Binary, Call, CallTemplate, Take, End, Bad}
 use Rattle.frame.specs.declared.Placed.{Placed}
-use Rattle.frame.specs.Frame.{place, typeNo, part, still, follows, payloadItem, payloadAt, itemAt, isItem, nameOf, namePart, Within, version, headerOk, headerSize, longest, lengthOf}
+use Rattle.frame.specs.Frame.{place, typeNo, part, still, follows, marking, markBytes, markAfter, pushOf, takeOf, runningMark, payloadItem, payloadAt, itemAt, isItem, nameOf, namePart, Within, version1, version2, knownVersion, marked, headerOk, headerSize, longest, lengthOf}
 
 -- a property of both sides, each where its test holds, is one of the choice
 pub cond-elim : {A : Type 0} (P : A → Type 0) (b : Bool) {x y : A} → (b ≡ true → P x) → (b ≡ false → P y) → P (cond b x y)
@@ -29,12 +30,12 @@ abbrev pub Named : Part → ℕ → ℕ → Type 0
 Named name at n = (name .start .0 + name .length ≡ n) × (1 ≤ name .length) × (name .length ≤ 32) × (at + 2 < name .start .0)
 
 abbrev pub NameEnds : Item → ℕ → ℕ → Type 0
-NameEnds (Push t) at n = Unit {0}
+NameEnds (Push t r) at n = Unit {0}
 NameEnds (Unary o) at n = Unit {0}
 NameEnds (Binary o) at n = Unit {0}
 NameEnds (Call count name) at n = Named name at n
 NameEnds (CallTemplate t count name) at n = Named name at n
-NameEnds (Take kind p q elem) at n = Unit {0}
+NameEnds (Take kind p q elem r) at n = Unit {0}
 NameEnds End at n = Unit {0}
 NameEnds Bad at n = Unit {0}
 
@@ -42,6 +43,11 @@ NameEnds Bad at n = Unit {0}
 module _ (at : ℕ) (p : List ℕ) (P : Placed → Type 0) (bad : P (still Bad at)) (item : (i : Item) → isItem i ≡ true → NameEnds i at (at + 2 + length p) → P (follows at p i)) where
   sized : (n : ℕ) (i : Item) → isItem i ≡ true → NameEnds i at (at + 2 + length p) → P (cond (eqb (length p) n) (follows at p i) (still Bad at))
   sized n i e h = cond-elim P (eqb (length p) n) (λ _. item i e h) (λ _. bad)
+
+  with-mark : (m : Bool) (n : ℕ) (i : Bool → Item) → ((r : Bool) → isItem (i r) ≡ true) → ((r : Bool) → NameEnds (i r) at (at + 2 + length p)) → P (marking at p m n i)
+  with-mark m n i e h =
+      cond-elim P (eqb (length p) (n + markBytes m)) (λ _. cond-elim P (leb (markAfter m p n) runningMark)
+      (λ _. let r = eqb (markAfter m p n) runningMark in item (i r) (e r) (h r)) (λ _. bad)) (λ _. bad)
 
   -- a name after k numbers
   abbrev name : ℕ → Part
@@ -53,15 +59,15 @@ module _ (at : ℕ) (p : List ℕ) (P : Placed → Type 0) (bad : P (still Bad a
       cond-elim P (ltb k (length p)) (λ a. cond-elim P (leb (length p) (k + 32))
       (λ b. item i e (h (omega (arith, ltb-true), omega (arith, ltb-true), omega (arith, leb-true), omega arith))) (λ _. bad)) (λ _. bad)
 
-  payload-elim : (k : ℕ) → P (payloadItem at p k)
+  payload-elim : (m : Bool) (k : ℕ) → P (payloadItem at p m k)
   unfolding payloadItem
-  payload-elim k =
-      cond-elim P (eqb k 1) (λ _. sized 1 (Push (typeNo (getD p 0 0))) refl tt) (λ _.
+  payload-elim m k =
+      cond-elim P (eqb k 1) (λ _. with-mark m 1 (pushOf p) (λ _. refl) (λ _. tt)) (λ _.
       cond-elim P (eqb k 2) (λ _. sized 1 (Unary (getD p 0 0)) refl tt) (λ _.
       cond-elim P (eqb k 3) (λ _. sized 1 (Binary (getD p 0 0)) refl tt) (λ _.
       cond-elim P (eqb k 4) (λ _. named 1 (Call (getD p 0 0) (name 1)) (omega arith) refl (λ h. h)) (λ _.
       cond-elim P (eqb k 5) (λ _. named 2 (CallTemplate (typeNo (getD p 0 0)) (getD p 1 0) (name 2)) (omega arith) refl (λ h. h)) (λ _.
-      cond-elim P (eqb k 6) (λ _. sized 7 (Take (getD p 0 0) _ (getD p 5 0) (getD p 6 0)) refl tt) (λ _. bad))))))
+      cond-elim P (eqb k 6) (λ _. with-mark m 7 (takeOf p) (λ _. refl) (λ _. tt)) (λ _. bad))))))
 
 -- an item i that stands at a place of a sheet, with the next place n
 pub record Framed (s : List ℕ) (at : ℕ) (i : Item) (n : ℕ) : Type 0 where
@@ -87,7 +93,7 @@ module _ (s : List ℕ) (at : ℕ) (P : Placed → Type 0) (bad : P (still Bad a
         after = omega arith;
         within = omega (arith, ltb-false, some);
         name = h;
-      })) (getD s (at + 1) 0)))))
+      })) (marked s) (getD s (at + 1) 0)))))
 
 -- an item stands where the answer is neither the end nor bad framing
 pub framed : (s : List ℕ) (at : ℕ) → isItem (itemAt s at .item) ≡ true → Framed s at (itemAt s at .item) (itemAt s at .next .0)
@@ -111,41 +117,45 @@ unfolding namePart
 name-within s at = item-elim s at (λ x. Within (length s) (nameOf (x .item))) (omega arith) (λ _. omega arith) (λ i n _ f. go i n f)
   where
     go : (i : Item) (n : ℕ) → Framed s at i n → Within (length s) (nameOf i)
-    go (Push t) n f = omega arith
+    go (Push t r) n f = omega arith
     go (Unary o) n f = omega arith
     go (Binary o) n f = omega arith
     go (Call count name) n f = omega (arith, f .name .0, f .within)
     go (CallTemplate t count name) n f = omega (arith, f .name .0, f .within)
-    go (Take kind p q elem) n f = omega arith
+    go (Take kind p q elem r) n f = omega arith
     go End n f = omega arith
     go Bad n f = omega arith
 
 -- what a right header says
-pub record Headed (v : ℕ) (s : List ℕ) : Type 0 where
-  pub first : getD s 0 0 ≡ v
+pub record Headed (s : List ℕ) : Type 0 where
+  pub first : (getD s 0 0 ≡ version1) ⊎ (getD s 0 0 ≡ version2)
   pub short : lengthOf s ≤ longest
   pub whole : length s ≡ headerSize + lengthOf s
 
-pub headed : (v : ℕ) (s : List ℕ) → headerOk v s ≡ true → Headed v s
+pub headed : (s : List ℕ) → headerOk s ≡ true → Headed s
 unfolding headerOk
-headed v s e =
+headed s e =
     let a = both (leb headerSize (length s)) _ e in
-    let b = both (eqb (getD s 0 0) v) _ (a .1) in
+    let b = both (knownVersion (getD s 0 0)) _ (a .1) in
     let d = both (leb (lengthOf s) longest) _ (b .1) in
-    record { first = eqb-true _ _ (b .0); short = leb-true _ _ (d .0); whole = eqb-true _ _ (d .1) }
+    record { first = one-of (eqb (getD s 0 0) version1) refl (b .0); short = leb-true _ _ (d .0); whole = eqb-true _ _ (d .1) }
   where
     both : (x y : Bool) → x && y ≡ true → (x ≡ true) × (y ≡ true)
     both true y h = (refl, h)
     both false y h = absurd (cc)
 
-pub headed-long : (s : List ℕ) → headerOk version s ≡ true → headerSize ≤ length s
-headed-long s e = omega (arith, headed version s e .whole)
+    one-of : (x : Bool) → eqb (getD s 0 0) version1 ≡ x → x || eqb (getD s 0 0) version2 ≡ true → (getD s 0 0 ≡ version1) ⊎ (getD s 0 0 ≡ version2)
+    one-of true h k = inl (eqb-true _ _ h)
+    one-of false h k = inr (eqb-true _ _ k)
+
+pub headed-long : (s : List ℕ) → headerOk s ≡ true → headerSize ≤ length s
+headed-long s e = omega (arith, headed s e .whole)
 
 -- in a sheet with a right header, an item ends after it begins and within 3 + L
-pub headed-next : (v : ℕ) (s : List ℕ) (at : ℕ) → headerOk v s ≡ true → isItem (itemAt s at .item) ≡ true
+pub headed-next : (s : List ℕ) (at : ℕ) → headerOk s ≡ true → isItem (itemAt s at .item) ≡ true
     → (at < itemAt s at .next .0) × (itemAt s at .next .0 ≤ headerSize + lengthOf s)
-headed-next v s at h e = (framed s at e .after, omega (arith, framed s at e .within, headed v s h .whole))
+headed-next s at h e = (framed s at e .after, omega (arith, framed s at e .within, headed s h .whole))
 
 -- and the end that no item runs past stands at 3 + L
-pub headed-end : (v : ℕ) (s : List ℕ) (at : ℕ) → headerOk v s ≡ true → itemAt s at .item ≡ End → at ≤ headerSize + lengthOf s → at ≡ headerSize + lengthOf s
-headed-end v s at h e k = omega (arith, at-end s at e, headed v s h .whole)
+pub headed-end : (s : List ℕ) (at : ℕ) → headerOk s ≡ true → itemAt s at .item ≡ End → at ≤ headerSize + lengthOf s → at ≡ headerSize + lengthOf s
+headed-end s at h e k = omega (arith, at-end s at e, headed s h .whole)

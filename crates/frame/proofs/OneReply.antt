@@ -8,24 +8,24 @@ use denote.Ref.{RefT, now}
 use Rattle.frame.specs.declared.Part.{Part}
 use Rattle.frame.specs.declared.Placed.{Placed}
 use Rattle.frame.specs.declared.Short.{Short}
-use Rattle.frame.specs.Frame.{version, headerOk, itemAt, namePart, IsPart}
+use Rattle.frame.specs.Frame.{headerOk, itemAt, namePart, IsPart}
 use Rattle.frame.specs.inner.Items.{sheetOf, shortOf, inItems}
 
 -- what equals one thing is one thing
 one : {A : Type 0} {x a b : A} → a ≡ x → b ≡ x → a ≡ b
 one p q = p ∙ sym q
 
-pub header-one : (s : List ℕ) {a b : Bool} → a ≡ headerOk version s → b ≡ headerOk version s → a ≡ b
+pub header-one : (s : List ℕ) {a b : Bool} → a ≡ headerOk s → b ≡ headerOk s → a ≡ b
 header-one s p q = one p q
 
 pub item-at-one : (s : List ℕ) (at : ℕ) {a b : Placed} → a ≡ itemAt s at → b ≡ itemAt s at → a ≡ b
 item-at-one s at p q = one p q
 
-pub item-in-one : (items : List ℕ) (at : ℕ) {a b : Placed} → a ≡ itemAt (sheetOf items) at → b ≡ itemAt (sheetOf items) at → a ≡ b
-item-in-one items at p q = one p q
+pub item-in-one : (v : ℕ) (items : List ℕ) (at : ℕ) {a b : Placed} → a ≡ itemAt (sheetOf v items) at → b ≡ itemAt (sheetOf v items) at → a ≡ b
+item-in-one v items at p q = one p q
 
-pub short-in-one : (items : List ℕ) (at : ℕ) {a b : Short} → a ≡ shortOf (itemAt (sheetOf items) at .item) → b ≡ shortOf (itemAt (sheetOf items) at .item) → a ≡ b
-short-in-one items at p q = one p q
+pub short-in-one : (v : ℕ) (items : List ℕ) (at : ℕ) {a b : Short} → a ≡ shortOf (itemAt (sheetOf v items) at) → b ≡ shortOf (itemAt (sheetOf v items) at) → a ≡ b
+short-in-one v items at p q = one p q
 
 pub call-part-one : (s : List ℕ) (at : ℕ) {a b : Part} → a ≡ namePart s at → b ≡ namePart s at → a ≡ b
 call-part-one s at p q = one p q

@@ -1,8 +1,8 @@
--- Document 01, "The sheet": the header, the items, and the name that a call shows. Assumes nothing.
+-- Document 01, "The sheet": the header, the items, and the name that a call shows; with sheet version 2 of document 02, K3. Assumes nothing.
 use Prim.Native.Nat.{ℕ, zero, suc, _+_, _-_, _*_, _≤_}
 use mathlib.Core.Path.{_≡_}
 use mathlib.Core.List.{List, [], _∷_}
-use mathlib.Core.Bool.{Bool, true, false, _&&_, cond}
+use mathlib.Core.Bool.{Bool, true, false, _&&_, _||_, cond}
 use lib.ListN.{length, getD, take, drop}
 use lib.Dec.{ltb, leb, eqb}
 use denote.Ref.{RefT, now}
@@ -20,9 +20,22 @@ be16 a b = a * 256 + b
 abbrev pub be32 : ℕ → ℕ → ℕ → ℕ → ℕ
 be32 a b c d = ((a * 256 + b) * 256 + c) * 256 + d
 
--- the version that is read
-abbrev pub version : ℕ
-version = 1
+-- the versions that are read
+abbrev pub version1 : ℕ
+version1 = 1
+
+abbrev pub version2 : ℕ
+version2 = 2
+
+abbrev pub knownVersion : ℕ → Bool
+knownVersion v = eqb v version1 || eqb v version2
+
+-- version 2 has marks; every other has none, also where the header is not judged. The version is byte 0
+abbrev pub marks : ℕ → Bool
+marks v = eqb v version2
+
+abbrev pub marked : List ℕ → Bool
+marked s = marks (getD s 0 0)
 
 -- the bytes of the header, and the most that may follow it
 abbrev pub headerSize : ℕ
@@ -36,8 +49,8 @@ abbrev pub lengthOf : List ℕ → ℕ
 lengthOf s = be16 (getD s 1 0) (getD s 2 0)
 
 -- no header of refusal 10: under three bytes, another version, L too large, or an input not of 3 + L bytes
-unfoldable pub headerOk : ℕ → List ℕ → Bool
-headerOk v s = leb headerSize (length s) && (eqb (getD s 0 0) v && (leb (lengthOf s) longest && eqb (length s) (headerSize + lengthOf s)))
+unfoldable pub headerOk : List ℕ → Bool
+headerOk s = leb headerSize (length s) && (knownVersion (getD s 0 0) && (leb (lengthOf s) longest && eqb (length s) (headerSize + lengthOf s)))
 
 abbrev pub place : ℕ → Place
 place n = record { 0 = n }
@@ -71,6 +84,24 @@ kindTemplate = 5
 abbrev pub kindTake : ℕ
 kindTake = 6
 
+-- a mark byte is "1 for running", else 0: no byte above 1 is a mark
+abbrev pub runningMark : ℕ
+runningMark = 1
+
+-- with marks (m) a mark byte stands after the n bytes of a payload; without there is no such byte, and the mark is 0
+abbrev pub markBytes : Bool → ℕ
+markBytes m = cond m 1 0
+
+abbrev pub markAfter : Bool → List ℕ → ℕ → ℕ
+markAfter m p n = cond m (getD p n 0) 0
+
+-- a push and a take, by their payload and what their mark says
+abbrev pub pushOf : List ℕ → Bool → Item
+pushOf p r = Push (typeNo (getD p 0 0)) r
+
+abbrev pub takeOf : List ℕ → Bool → Item
+takeOf p r = Take (getD p 0 0) (be32 (getD p 1 0) (getD p 2 0) (getD p 3 0) (getD p 4 0)) (getD p 5 0) (getD p 6 0) r
+
 -- "An item is a length byte (bytes following), a kind and a payload": the payload p begins two bytes after the place, and the next item begins where it ends
 module _ (at : ℕ) (p : List ℕ) where
   abbrev pub follows : Item → Placed
@@ -84,16 +115,28 @@ module _ (at : ℕ) (p : List ℕ) where
   abbrev pub naming : ℕ → (Part → Item) → Placed
   naming k i = cond (ltb k (length p)) (cond (leb (length p) (k + 32)) (follows (i (part (at + 2 + k) (length p - k)))) (still Bad at)) (still Bad at)
 
+  -- a payload of n bytes, and a mark byte where there are marks
+  abbrev pub marking : Bool → ℕ → (Bool → Item) → Placed
+  marking m n i =
+      cond (eqb (length p) (n + markBytes m))
+      (cond (leb (markAfter m p n) runningMark) (follows (i (eqb (markAfter m p n) runningMark))) (still Bad at)) (still Bad at)
+
+  abbrev pub pushItem : Bool → Placed
+  pushItem m = marking m 1 (pushOf p)
+
+  abbrev pub takeItem : Bool → Placed
+  takeItem m = marking m 7 (takeOf p)
+
   -- 1 push (type number); 2 unary and 3 binary (operator); 4 call (operand count, name); 5 call with template (type number, operand
-  -- count, name); 6 take (kind, p, q, elem). Numbers are one byte, p four, big-endian
-  unfoldable pub payloadItem : ℕ → Placed
-  payloadItem k =
-      cond (eqb k kindPush) (exactly 1 (Push (typeNo (getD p 0 0))))
+  -- count, name); 6 take (kind, p, q, elem); under version 2 (m) push and take end with a mark. Numbers are one byte, p four, big-endian
+  unfoldable pub payloadItem : Bool → ℕ → Placed
+  payloadItem m k =
+      cond (eqb k kindPush) (pushItem m)
       (cond (eqb k kindUnary) (exactly 1 (Unary (getD p 0 0)))
       (cond (eqb k kindBinary) (exactly 1 (Binary (getD p 0 0)))
       (cond (eqb k kindCall) (naming 1 (λ name. Call (getD p 0 0) name))
       (cond (eqb k kindTemplate) (naming 2 (λ name. CallTemplate (typeNo (getD p 0 0)) (getD p 1 0) name))
-      (cond (eqb k kindTake) (exactly 7 (Take (getD p 0 0) (be32 (getD p 1 0) (getD p 2 0) (getD p 3 0) (getD p 4 0)) (getD p 5 0) (getD p 6 0)))
+      (cond (eqb k kindTake) (takeItem m)
       (still Bad at))))))
 
 -- the payload of the item at a place: of the bytes that follow its length byte, those after the kind
@@ -108,16 +151,16 @@ itemAt s at =
     (cond (leb (length s) at) (still End at)
     (cond (eqb (getD s at 0) 0) (still Bad at)
     (cond (ltb (length s) (at + 1 + getD s at 0)) (still Bad at)
-    (payloadItem at (payloadAt s at) (getD s (at + 1) 0)))))
+    (payloadItem at (payloadAt s at) (marked s) (getD s (at + 1) 0)))))
 
 -- the part that a call shows as its name; for all else the empty part at the start of the sheet
 abbrev pub nameOf : Item → Part
-nameOf (Push t) = part 0 0
+nameOf (Push t r) = part 0 0
 nameOf (Unary o) = part 0 0
 nameOf (Binary o) = part 0 0
 nameOf (Call count name) = name
 nameOf (CallTemplate t count name) = name
-nameOf (Take kind p q elem) = part 0 0
+nameOf (Take kind p q elem r) = part 0 0
 nameOf End = part 0 0
 nameOf Bad = part 0 0
 
@@ -135,14 +178,25 @@ pub record IsPart (sheet : RefT (List ℕ)) (p : Part) (r : RefT (List ℕ)) : T
 
 -- whether an item stands there, and not the end or bad framing
 abbrev pub isItem : Item → Bool
-isItem (Push t) = true
+isItem (Push t r) = true
 isItem (Unary o) = true
 isItem (Binary o) = true
 isItem (Call count name) = true
 isItem (CallTemplate t count name) = true
-isItem (Take kind p q elem) = true
+isItem (Take kind p q elem r) = true
 isItem End = false
 isItem Bad = false
+
+-- what the mark of an item says; one that has no mark is not running
+abbrev pub isRunning : Item → Bool
+isRunning (Push t r) = r
+isRunning (Unary o) = false
+isRunning (Binary o) = false
+isRunning (Call count name) = false
+isRunning (CallTemplate t count name) = false
+isRunning (Take kind p q elem r) = r
+isRunning End = false
+isRunning Bad = false
 
 -- what stands from a place on, in n steps and no more: after an item comes what stands from the next place; the end and bad framing are the last
 unfoldable pub itemsWithin : ℕ → List ℕ → ℕ → List Placed

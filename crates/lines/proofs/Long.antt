@@ -12,18 +12,18 @@ use borrow.Author.Tests.{ltb-true, ltb-false}
 use Rattle.table.specs.Table.{scalars}
 use Rattle.table.specs.Placing.{Outcome}
 use Rattle.text.specs.Text.{ascii, decimalBy, decimal}
-use Rattle.frame.specs.Frame.{version, headerSize, longest, headerOk}
+use Rattle.frame.specs.Frame.{headerSize, longest, headerOk}
 use Rattle.frame.proofs.FrameLaws.{headed}
 use Rattle.sheet.proofs.Demand1.{sheet-header}
 use Rattle.lines.specs.Lines.{lackingPart, refusedLine, firstLine, secondLine, lineEnd, linesOf, start, report}
 use Rattle.lines.proofs.Valued.{start-sound}
 
 -- under a right header there are at most 60,003 bytes
-no-header : (s : List ℕ) → headerSize + longest < length s → headerOk version s ≡ false
-no-header s l = go (headerOk version s) refl
+no-header : (s : List ℕ) → headerSize + longest < length s → headerOk s ≡ false
+no-header s l = go (headerOk s) refl
   where
-    go : (b : Bool) → headerOk version s ≡ b → headerOk version s ≡ false
-    go true e = let h = headed version s e in absurd (omega arith)
+    go : (b : Bool) → headerOk s ≡ b → headerOk s ≡ false
+    go true e = let h = headed s e in absurd (omega arith)
     go false e = e
 
 -- the lines of every longer input

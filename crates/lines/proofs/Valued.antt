@@ -8,6 +8,7 @@ use lib.Dec.{eqb, ltb}
 use lib.ListN.{length, getD}
 use borrow.Author.Tests.{eqb-true, ltb-true, ltb-false}
 use Rattle.answer.specs.Answer.{usedOf, accept, refuse}
+use Rattle.held.specs.Held.{numberOf}
 use Rattle.table.specs.Tools.{allBelow}
 use Rattle.table.specs.Table.{scalars, entryOk, findIn, soundb, Sound}
 use Rattle.table.specs.Placing.{Outcome}
@@ -17,12 +18,13 @@ use Rattle.answer.specs.declared.Answer.{Answer}
 use Rattle.answer.specs.declared.Answer.the-variants.{Value, NoValue, Refused}
 use Rattle.table.proofs.SoundLaws.{sound-of}
 use Rattle.table.proofs.KindLaws.{split}
-use Rattle.frame.specs.Frame.{version, headerSize, headerOk, itemsFrom}
+use Rattle.frame.specs.Frame.{headerSize, headerOk, itemsFrom}
 use Rattle.frame.specs.declared.Placed.{Placed}
 use Rattle.names.specs.Names.{profiles}
 use Rattle.step.specs.Effect.{State, height, Effect, goes, silent, ends, stops, effectOf}
 use Rattle.sheet.specs.Machine.{endAnswer, leftAnswer, after, Turned, more, done, turnOf, onward, runItems, begun, typeSheet}
 use Rattle.step.specs.inner.Code.{Good}
+use Rattle.step.proofs.StackLaws.{value-under}
 use Rattle.step.proofs.Keeping.{EffectKept, item-kept}
 use Rattle.sheet.proofs.Running.{turn-kept, sheet-unheaded, sheet-unprofiled, sheet-runs}
 use Rattle.sheet.proofs.Demand1.{sheet-keeps}
@@ -36,12 +38,12 @@ module _ (profile : ℕ) (t : TypeNo) (m : ℕ) where
   at-end : (size : ℕ) (st : State) → Good st → endAnswer size (st .stack) (st .used) ≡ Value t m → t .0 < m
   at-end size st g = go (eqb (length (st .stack)) 1) refl
     where
-      go : (b : Bool) → eqb (length (st .stack)) 1 ≡ b → cond b (accept (getD (st .stack) 0 0) (st .used)) (refuse Stack size (st .used)) ≡ Value t m → t .0 < m
+      go : (b : Bool) → eqb (length (st .stack)) 1 ≡ b → cond b (accept (numberOf (getD (st .stack) 0 0)) (st .used)) (refuse Stack size (st .used)) ≡ Value t m → t .0 < m
       go true e h =
           let one = eqb-true (length (st .stack)) 1 e in
-          let x : t ≡ record { 0 = getD (st .stack) 0 0 } = cc in
+          let x : t ≡ record { 0 = numberOf (getD (st .stack) 0 0) } = cc in
           let y : m ≡ st .used = cc in
-          omega (arith, ap (λ (z : TypeNo). z .0) x, g .under 0 (omega arith))
+          omega (arith, ap (λ (z : TypeNo). z .0) x, value-under (st .used) (st .stack) (g .under) 0 (omega arith))
       go false e h = never (cc)
 
   -- a call without value gives none
@@ -80,7 +82,7 @@ module _ (profile : ℕ) (t : TypeNo) (m : ℕ) where
   module _ (w : List ℕ) (n : ℕ) (s : List ℕ) where
     pub sheet-valued : soundb w n ≡ true → typeSheet profile w n s .answer ≡ Value t m → t .0 < m
     sheet-valued h e =
-        split (headerOk version s)
+        split (headerOk s)
         (λ k.
         split (ltb profile profiles)
         (λ b.

@@ -103,12 +103,14 @@ fn scalars() -> [u32; 1024]
     words
 }
 
-// For a host: the two lines of a sheet that is typed over the seven scalars in a profile, from the start of the output; how many bytes they have.
+// For a host: the two lines of a sheet that is typed over the seven scalars in a profile, from the start of the output; how many bytes they have. They do not show the
+// mark of its value.
 pub fn answer_sheet(profile: u32, bytes: &[u8], out: &mut [u8]) -> usize
     ensures { λ r. ⌜ Put (now (out .entry)) 0 (report profile (now (bytes .entry))) r (now (out .exit)) ⌝ }
     ensures { λ r. ⌜ r ≤ linesRoom ⌝ }
 {
     let mut words = scalars();
-    let a = type_sheet(&mut words, table::SCALARS, profile, bytes);
+    let typed = type_sheet(&mut words, table::SCALARS, profile, bytes);
+    let a = typed.answer;
     write(&words, a, out)
 }

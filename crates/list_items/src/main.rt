@@ -1,4 +1,5 @@
-// Lists the items of a sheet given on standard input through the reader, one line each: the place of the item, its kind, its numbers and its name.
+// Lists the items of a sheet given on standard input through the reader, one line each: the place of the item, its kind, its numbers and its name, and whether what it
+// pushes is known only when running.
 use answer::Place;
 use frame::HEADER;
 use frame::Item;
@@ -20,15 +21,23 @@ fn after(word: &[u8], n: u8) {
     number(n as usize);
 }
 
+// The mark of a value that is pushed.
+fn mark(running: bool) {
+    if running {
+        text(b" running");
+    }
+}
+
 // Writes what stands at a place, and says whether an item stands there.
 fn line(sheet: &[u8], found: Placed) -> bool {
     let at = found.at;
     number(at.0);
     let item = found.item;
     match item {
-        Item::Push(t) => {
+        Item::Push { ty, running } => {
             text(b" push ");
-            number(t.0);
+            number(ty.0);
+            mark(running);
         }
         Item::Unary(o) => {
             after(b" unary ", o);
@@ -52,12 +61,19 @@ fn line(sheet: &[u8], found: Placed) -> bool {
             text(b" ");
             text(frame::call_name(sheet, at));
         }
-        Item::Take { kind, p, q, elem } => {
+        Item::Take {
+            kind,
+            p,
+            q,
+            elem,
+            running,
+        } => {
             after(b" take ", kind);
             text(b" ");
             number(p as usize);
             after(b" ", q);
             after(b" ", elem);
+            mark(running);
         }
         Item::End => {
             text(b" end\n");

@@ -3,12 +3,12 @@ use Prim.Native.Nat.{ℕ, _+_, _-_, _<_, _≤_, _^_}
 use mathlib.Core.Path.{_≡_, refl, sym, _∙_, ap, subst}
 use mathlib.Core.Logic.{_⊎_, inl, inr, _≢_, ⊎-elim}
 use denote.Enum.Declared.{tagOf}
-use types.Run.{OneOf}
+use package.types.Run.{OneOf}
 use Rattle.step.proofs.Did.{the-type}
-use mathlib.Core.Bool.{Bool, true, false, _||_}
-use mathlib.Core.List.{List, [], _∷_, map}
+use mathlib.Core.Bool.{Bool, true, false, not, _&&_, _||_}
+use mathlib.Core.List.{List, [], _∷_}
 use native.Mathlib.Omega.{arith}
-use lib.ListN.{length, getD, take, drop, set, length-drop, length-append}
+use lib.ListN.{length, getD, take, drop, set, length-drop, length-append, length-map}
 use lib.Seq.{length-take-le, getD-take, getD-drop}
 use borrow.Author.Tests.{lt-leb, le-leb}
 use Rattle.answer.specs.Answer.{accept}
@@ -22,9 +22,16 @@ use Rattle.table.proofs.Giving.{gave-whole}
 use Rattle.names.specs.Names.{Named, ruleOf}
 use Rattle.names.specs.Names.Named.{rule}
 use Rattle.names.specs.inner.Table.{numbered}
-use Rattle.call_ty.specs.Calls.{byRule}
+use Rattle.conv.specs.Types.{bool}
+use Rattle.conv.specs.Types.Ty.{scalar}
+use Rattle.held.specs.Held.{numberOf, valueOf}
+use Rattle.held.proofs.OneReply.{held}
+use Rattle.overload.specs.Overload.{or}
+use Rattle.overload.specs.Marks.{anyRunning}
+use Rattle.call_ty.specs.Calls.{byRule, runsBy, numbers, marksOf, types}
+use Rattle.frame.specs.Frame.{marked}
 use Rattle.call_ty.specs.inner.Codes.{Under}
-use Rattle.call_ty.proofs.Lists.{type-in}
+use Rattle.call_ty.proofs.Lists.{type-in, number-at}
 use Rattle.ops_ty.specs.Ops.{unaryOps, binaryOps}
 use Rattle.frame.specs.declared.Part.{Part}
 use Rattle.frame.specs.declared.Item.{Item}
@@ -34,13 +41,13 @@ use Rattle.step.specs.declared.Did.the-variants as did
 use Rattle.step.specs.Effect.{most, State, height, operands, below, goes, silent, stops, pushed, onto, bytesOf, unaryEffect, binaryEffect, callEffect, effectOf}
 use Rattle.step.specs.inner.Code.{stateOf, Ready, effectBy, Counted, Does}
 use Rattle.step.specs.Kept.{Grew}
-use Rattle.step.proofs.StackLaws.{sized, below-them, operands-lent, value-in, under-drop}
-use Rattle.step.proofs.Effects.{settled, settle-value, value-under}
+use Rattle.step.proofs.StackLaws.{sized, below-them, operands-lent, value-in, under-drop, under-values, mark-at}
+use Rattle.step.proofs.Effects.{settled, settle-value, value-below}
 use Rattle.step.proofs.Keeping.{item-kept}
-use Rattle.memo.specs.inner.Memo.{nothing, Question, codeOf, On, typed, keyOf, slotOf, Holds, Recalls, Recalled, Leaves, NotedStep, AfterStep}
+use Rattle.memo.specs.inner.Memo.{nothing, Question, codeOf, On, typed, digits, numbersIn, marksIn, keyOf, slotOf, Holds, Recalls, Recalled, Leaves, NotedStep, AfterStep}
 use Rattle.memo.specs.inner.Memo.Question.{binary, unary, builtin}
-use Rattle.memo.specs.inner.Asking.{Small, Coded, AskedBy, Asks, lastOf, KeyedBy, Keyed}
-use Rattle.memo.proofs.MemoLaws.{slot-with, value-noted, recalls-on, recalls-noted}
+use Rattle.memo.specs.inner.Asking.{Small, Coded, runsOn, AskedBy, Asks, lastOf, KeyedBy, Keyed}
+use Rattle.memo.proofs.MemoLaws.{slot-with, value-noted, recalls-on, recalls-noted, digits-many, digits-small, digits-numbers, digits-marks}
 
 impossible : {P : Type 0} → _≡_ {A = ℕ} 0 1 → P
 impossible e = absurd (omega arith)
@@ -65,18 +72,18 @@ on-some (binary op) k h = let a = h .0 in let b = h .1 in (omega arith, omega ar
 on-some (unary op) k h = let a = h .0 in let b = h .1 in (omega arith, omega arith, omega arith)
 on-some (builtin number) k h = let a = h .0 in (h .1, h .2, omega arith)
 
-module _ (profile : ℕ) (s : List ℕ) (i : Item) (code k : ℕ) (a : Asks profile s i code k) where
+module _ (profile : ℕ) (s : List ℕ) (i : Item) (code k : ℕ) (runs : Bool) (a : Asks profile s i code k runs) where
   pub asks-coded : Coded code k
   asks-coded = go (a .asks)
     where
-      go : (code ≡ 0) ⊎ AskedBy profile s i code k → Coded code k
+      go : (code ≡ 0) ⊎ AskedBy profile s i code k runs → Coded code k
       go (inl e) = record { coded = inl e }
       go (inr b) = let x = on-some (b .question) k (b .on) in record { coded = inr (rw (b .number) (x .2), x .0, x .1) }
 
-  asked-by : code ≢ 0 → AskedBy profile s i code k
+  asked-by : code ≢ 0 → AskedBy profile s i code k runs
   asked-by n = go (a .asks)
     where
-      go : (code ≡ 0) ⊎ AskedBy profile s i code k → AskedBy profile s i code k
+      go : (code ≡ 0) ⊎ AskedBy profile s i code k runs → AskedBy profile s i code k runs
       go (inl e) = absurd (n e)
       go (inr b) = b
 
@@ -87,10 +94,11 @@ coded-some code k c n = go (c .coded)
     go (inl e) = absurd (n e)
     go (inr b) = b
 
-keyed-by : (code k count : ℕ) (vals : List ℕ) (key base : ℕ) → Keyed code k count vals key base → key ≢ 0 → KeyedBy code k count vals key base
-keyed-by code k count vals key base c n = go (c .keyed)
+keyed-by : (code k : ℕ) (keeps runs : Bool) (count : ℕ) (vals : List ℕ) (key base : ℕ) (running : Bool) → Keyed code k keeps runs count vals key base running → key ≢ 0
+    → KeyedBy code k keeps runs count vals key base running
+keyed-by code k keeps runs count vals key base running c n = go (c .keyed)
   where
-    go : (key ≡ 0) ⊎ KeyedBy code k count vals key base → KeyedBy code k count vals key base
+    go : (key ≡ 0) ⊎ KeyedBy code k keeps runs count vals key base running → KeyedBy code k keeps runs count vals key base running
     go (inl e) = absurd (n e)
     go (inr b) = b
 
@@ -99,8 +107,51 @@ ready-small count vals used w ready =
     record {
       fits = omega (arith, ready .size, ready .fits);
       size = ready .size;
-      bytes = λ i h. let u = value-under (record { 0 = 0 }) count vals used w ready i h in let k = ready .good .sound .high in omega arith;
+      bytes = λ i h. let u = value-below (record { 0 = 0 }) count vals used w ready i h in let k = ready .good .sound .high in omega arith;
     }
+
+-- a key is small, and its operands begin within the stack
+module _ (count : ℕ) (vals : List ℕ) (used : ℕ) (w : List ℕ) (ready : Ready count vals used w) (code k : ℕ) (keeps runs : Bool) (key base : ℕ) (running : Bool)
+    (coded : Coded code k) (keys : Keyed code k keeps runs count vals key base running) (some : key ≢ 0) where
+  by : KeyedBy code k keeps runs count vals key base running
+  by = keyed-by code k keeps runs count vals key base running keys some
+
+  pub key-small : key < 2 ^ 35
+  key-small = by .small
+
+  pub base-room : (base < most) × (base < length vals)
+  base-room =
+      let a = coded-some code k coded (by .some) in
+      let b = by .enough in
+      let e = by .start in
+      (omega (arith, a .1, e, ready .fits), omega (arith, a .1, e, ready .size, ready .fits))
+
+-- a number that is recalled is a type's
+pub recalled-byte : (memo : List ℕ) (key t : ℕ) → Recalled memo key t → t ≢ nothing → t < 256
+recalled-byte memo key t r n = slot-with memo key t r n .0
+
+-- a key as a sheet asks for it that keeps marks, or keeps none
+pub keyed-in : (code k : ℕ) (keeps b runs : Bool) (count : ℕ) (vals : List ℕ) (key base : ℕ) (running : Bool) → keeps ≡ b → Keyed code k keeps runs count vals key base running
+    → Keyed code k b runs count vals key base running
+keyed-in code k keeps b runs count vals key base running e = subst (λ (x : Bool). Keyed code k x runs count vals key base running) e
+
+-- the mark, test by test
+module _ (keeps runs : Bool) (vs : List ℕ) where
+  pub unkept : not keeps ≡ true → false ≡ runsOn keeps runs vs
+  unkept h = go keeps h
+    where
+      go : (b : Bool) → not b ≡ true → false ≡ runsOn b runs vs
+      go true e = impossible (cc)
+      go false e = refl
+
+  pub kept : not keeps ≡ false → (r : Bool) → r ≡ anyRunning (marksOf vs) → (runs || r) ≡ runsOn keeps runs vs
+  unfolding or
+  kept h r e = go keeps runs h
+    where
+      go : (b c : Bool) → not b ≡ false → (c || r) ≡ runsOn b c vs
+      go true true k = refl
+      go true false k = e
+      go false c k = impossible (cc)
 
 -- WHICH ITEM ASKS WHAT
 
@@ -108,8 +159,12 @@ ready-small count vals used w ready =
 many : (st : State) (k : ℕ) → k ≤ height st → length (operands k st) ≡ k
 many st k h = length-drop (height st - k) (st .stack) ∙ (let z : height st - (height st - k) ≡ k = omega arith in z)
 
-pub binary-asks : (profile : ℕ) (s : List ℕ) (op : ℕ) → op < binaryOps → AskedBy profile s (Binary op) (op + 1) 2
-unfolding effectOf binaryEffect
+-- the type of a value
+type-value : (w vs : List ℕ) (i : ℕ) → i < length vs → getD (types w (numbers vs)) i (scalar bool) ≡ typeAt w (numberOf (getD vs i 0))
+type-value w vs i l = type-in w (numbers vs) i (omega (arith, length-map vs numberOf)) ∙ ap (typeAt w) (number-at vs i)
+
+pub binary-asks : (profile : ℕ) (s : List ℕ) (op : ℕ) → op < binaryOps → AskedBy profile s (Binary op) (op + 1) 2 false
+unfolding effectOf binaryEffect or
 binary-asks profile s op h =
     record {
       question = binary op;
@@ -117,11 +172,11 @@ binary-asks profile s op h =
       number = refl;
       effect = λ place st l _.
           let n = many st 2 l in
-          rw (le-leb 2 (height st) l, type-in (st .words) (operands 2 st) 0 (omega arith), type-in (st .words) (operands 2 st) 1 (omega arith));
+          rw (le-leb 2 (height st) l, type-value (st .words) (operands 2 st) 0 (omega arith), type-value (st .words) (operands 2 st) 1 (omega arith), mark-at (operands 2 st) 0, mark-at (operands 2 st) 1);
     }
 
-pub unary-asks : (profile : ℕ) (s : List ℕ) (op : ℕ) → op < unaryOps → AskedBy profile s (Unary op) (op + 19) 1
-unfolding effectOf unaryEffect
+pub unary-asks : (profile : ℕ) (s : List ℕ) (op : ℕ) → op < unaryOps → AskedBy profile s (Unary op) (op + 19) 1 false
+unfolding effectOf unaryEffect or
 unary-asks profile s op h =
     record {
       question = unary op;
@@ -129,26 +184,29 @@ unary-asks profile s op h =
       number = refl;
       effect = λ place st l _.
           let n = many st 1 l in
-          rw (le-leb 1 (height st) l, type-in (st .words) (operands 1 st) 0 (omega arith));
+          rw (le-leb 1 (height st) l, type-value (st .words) (operands 1 st) 0 (omega arith), mark-at (operands 1 st) 0);
     }
 
-pub call-asks : (profile : ℕ) (s : List ℕ) (name : Part) (k number : ℕ) → 1 ≤ k → k ≤ 3 → number < 128 → ruleOf profile (bytesOf s name) ≡ rule (numbered number) → AskedBy profile s (Call k name) (number + 24) k
-unfolding effectOf callEffect
-call-asks profile s name k number l m h e =
+pub call-asks : (profile : ℕ) (s : List ℕ) (name : Part) (k number : ℕ) (runs : Bool) → 1 ≤ k → k ≤ 3 → number < 128 → ruleOf profile (bytesOf s name) ≡ rule (numbered number) runs
+    → AskedBy profile s (Call k name) (number + 24) k runs
+unfolding effectOf callEffect byRule runsBy
+call-asks profile s name k number runs l m h e =
     record {
       question = builtin number;
       on = (h, l, m);
       number = refl;
       effect = λ place st g u.
           rw (le-leb k (height st) g, lt-leb most (height st - k) (omega arith))
-          (ap (λ (r : Named). onto (below k st) (byRule place (st .words) (st .used) r [] (map (typeAt (st .words)) (operands k st)))) e);
+          (ap (λ (r : Named). onto (below k st) (marked s && runsBy r (marksOf (operands k st)))
+          (byRule place (st .words) (st .used) r [] (types (st .words) (numbers (operands k st))) (marksOf (operands k st)))) e);
     }
 
 -- the code and the count as they were made
-pub call-asked : (profile : ℕ) (s : List ℕ) (name : Part) (k number code j : ℕ) → 1 ≤ k → k ≤ 3 → number < 128 → ruleOf profile (bytesOf s name) ≡ rule (numbered number) → code ≡ 24 + number → j ≡ k → Asks profile s (Call k name) code j
-call-asked profile s name k number code j l m h e c d =
+pub call-asked : (profile : ℕ) (s : List ℕ) (name : Part) (k number : ℕ) (runs : Bool) (code j : ℕ) → 1 ≤ k → k ≤ 3 → number < 128 → ruleOf profile (bytesOf s name) ≡ rule (numbered number) runs
+    → code ≡ 24 + number → j ≡ k → Asks profile s (Call k name) code j runs
+call-asked profile s name k number runs code j l m h e c d =
     let z : code ≡ number + 24 = omega arith in
-    record { asks = inr (rw (z, d) (call-asks profile s name k number l m h e)) }
+    record { asks = inr (rw (z, d) (call-asks profile s name k number runs l m h e)) }
 
 -- THE LAST VALUES of a slice
 
@@ -158,26 +216,28 @@ module _ (k count : ℕ) (vals : List ℕ) (small : Small count vals) (h : k ≤
       length-take-le (count - (count - k)) (drop (count - k) vals) (omega (arith, length-drop (count - k) vals, small .fits))
       ∙ (let z : count - (count - k) ≡ k = omega arith in z)
 
-  pub last-bytes : Under 256 (lastOf k count vals)
-  last-bytes i l =
+  pub last-bytes : Under 256 (numbers (lastOf k count vals))
+  last-bytes =
+      under-values 256 (lastOf k count vals)
+      (λ i l.
       let n : i < k = omega (arith, last-many, l) in
-      rw (getD-take (count - (count - k)) (drop (count - k) vals) i 0 (omega arith), getD-drop (count - k) vals i 0) (small .bytes (count - k + i) (omega arith))
+      rw (getD-take (count - (count - k)) (drop (count - k) vals) i 0 (omega arith), getD-drop (count - k) vals i 0) (small .bytes (count - k + i) (omega arith)))
 
 -- AN ITEM THAT ASKS, on the last values of a slice
 
-last-pushed : (vs : List ℕ) (t : ℕ) → getD (pushed vs t) (length vs) 0 ≡ t
-last-pushed [] t = refl
-last-pushed (x ∷ vs) t = last-pushed vs t
+last-pushed : (vs : List ℕ) (t : ℕ) (m : Bool) → getD (pushed vs t m) (length vs) 0 ≡ valueOf t m
+last-pushed [] t m = refl
+last-pushed (x ∷ vs) t m = last-pushed vs t m
 
-onto-went : (vs : List ℕ) (o : Outcome) (st : State) → onto vs o ≡ goes st
-    → (t : TypeNo) × (o .answer ≡ Value t (st .used)) × (o .words ≡ st .words) × (st .stack ≡ pushed vs (t .0))
+onto-went : (vs : List ℕ) (b : Bool) (o : Outcome) (st : State) → onto vs b o ≡ goes st
+    → (t : TypeNo) × (o .answer ≡ Value t (st .used)) × (o .words ≡ st .words) × (st .stack ≡ pushed vs (t .0) b)
 unfolding onto
-onto-went vs o st h = go (o .answer) refl
+onto-went vs b o st h = go (o .answer) refl
   where
-    go : (a : Answer) → o .answer ≡ a → (t : TypeNo) × (o .answer ≡ Value t (st .used)) × (o .words ≡ st .words) × (st .stack ≡ pushed vs (t .0))
+    go : (a : Answer) → o .answer ≡ a → (t : TypeNo) × (o .answer ≡ Value t (st .used)) × (o .words ≡ st .words) × (st .stack ≡ pushed vs (t .0) b)
     go (Value t m) e =
-        let q : goes (record { stack = pushed vs (t .0); used = m; words = o .words }) ≡ goes st = rw e at h in
-        let z : record { stack = pushed vs (t .0); used = m; words = o .words } ≡ st = cc in
+        let q : goes (record { stack = pushed vs (t .0) b; used = m; words = o .words }) ≡ goes st = rw e at h in
+        let z : record { stack = pushed vs (t .0) b; used = m; words = o .words } ≡ st = cc in
         (t, e ∙ ap (Value t) (ap (λ (x : State). x .used) z), ap (λ (x : State). x .words) z, sym (ap (λ (x : State). x .stack) z))
     go (NoValue m) e =
         let q : silent (record { stack = vs; used = m; words = o .words }) ≡ goes st = rw e at h in
@@ -198,15 +258,12 @@ module _ (profile count : ℕ) (vals : List ℕ) (used : ℕ) (w : List ℕ) (re
   recalls-step place (did.Ended c u) vals' v memo h r = tt
   recalls-step place (did.Refused x) vals' v memo h r = tt
 
-  module _ (code k key base : ℕ) (asks : Asks profile s i code k) (keys : Keyed code k count vals key base) (some : key ≢ 0) where
-    keyed : KeyedBy code k count vals key base
-    keyed = keyed-by code k count vals key base keys some
+  module _ (code k : ℕ) (runs : Bool) (key base : ℕ) (running : Bool) (asks : Asks profile s i code k runs) (keys : Keyed code k (marked s) runs count vals key base running) (some : key ≢ 0) where
+    keyed : KeyedBy code k (marked s) runs count vals key base running
+    keyed = keyed-by code k (marked s) runs count vals key base running keys some
 
-    asked : AskedBy profile s i code k
-    asked = asked-by profile s i code k asks (keyed .some)
-
-    pub key-small : key < 2 ^ 32
-    key-small = keyed .small
+    asked : AskedBy profile s i code k runs
+    asked = asked-by profile s i code k runs asks (keyed .some)
 
     fits : count ≤ length vals
     fits = omega (arith, ready .size, ready .fits)
@@ -220,56 +277,75 @@ module _ (profile count : ℕ) (vals : List ℕ) (used : ℕ) (w : List ℕ) (re
     abbrev vs : List ℕ
     vs = operands k st
 
-    on : On q (length vs)
-    on = subst (On q) (sym (many st k enough)) (asked .on)
+    abbrev ds : List ℕ
+    ds = digits vs
 
-    under : Under used vs
+    on : On q (length ds)
+    on = subst (On q) (sym (digits-many vs ∙ many st k enough)) (asked .on)
+
+    under : Under used (numbers vs)
     under = under-drop used (height st - k) (st .stack) (ready .good .under)
 
-    bytes : Under 256 vs
+    bytes : Under 256 (numbers vs)
     bytes j h = let a = under j h in let b = ready .good .sound .high in omega arith
 
-    is : key ≡ keyOf (codeOf q) vs
-    is = keyed .is ∙ ap (keyOf code) (sym (operands-lent count vals fits k (keyed .enough))) ∙ ap (λ (c : ℕ). keyOf c vs) (asked .number)
+    under-digits : Under used (numbersIn ds)
+    under-digits = rw (digits-numbers vs bytes) under
 
-    effect : (place : ℕ) → effectOf profile place st s i ≡ onto (take (count - k) vals) (typed place w used q (map (typeAt w) vs))
+    is : key ≡ keyOf (codeOf q) ds
+    is = keyed .is ∙ ap (λ (l : List ℕ). keyOf code (digits l)) (sym (operands-lent count vals fits k (keyed .enough))) ∙ ap (λ (c : ℕ). keyOf c ds) (asked .number)
+
+    mark : running ≡ runsOn (marked s) runs vs
+    mark = keyed .mark ∙ ap (runsOn (marked s) runs) (sym (operands-lent count vals fits k (keyed .enough)))
+
+    abbrev typing : ℕ → Outcome
+    typing place = typed place w used q (types w (numbersIn ds)) (marksIn ds)
+
+    effect : (place : ℕ) → effectOf profile place st s i ≡ onto (take (count - k) vals) running (typing place)
     effect place =
-        asked .effect place st enough (ready .good .high) ∙ ap (λ (l : List ℕ). onto l (typed place w used q (map (typeAt w) vs))) (below-them count vals fits k)
+        let b = take (count - k) vals in
+        asked .effect place st enough (ready .good .high)
+        ∙ ap (λ (l : List ℕ). onto l (runsOn (marked s) runs vs) (typed place w used q (types w (numbers vs)) (marksOf vs))) (below-them count vals fits k)
+        ∙ ap (λ (m : Bool). onto b m (typed place w used q (types w (numbers vs)) (marksOf vs))) (sym mark)
+        ∙ ap (λ (l : List ℕ). onto b running (typed place w used q (types w l) (marksOf vs))) (sym (digits-numbers vs bytes))
+        ∙ ap (λ (l : List Bool). onto b running (typed place w used q (types w (numbersIn ds)) l)) (sym (digits-marks vs bytes))
 
-    pub base-room : (base < most) × (base < length vals)
-    base-room = let a = on-some q k (asked .on) in let b = keyed .enough in let e = keyed .start in (omega (arith, a .0, e, ready .fits), omega (arith, a .0, e, fits))
+    room : (base < most) × (base < length vals)
+    room = base-room count vals used w ready code k (marked s) runs key base running (asks-coded profile s i code k runs asks) keys some
 
-    -- a value that was recalled is the one that typing gives
-    pub recalled-does : (memo : List ℕ) → Recalls memo w used → (t : ℕ) → Recalled memo key t → t ≢ nothing → (place : ℕ)
-        → Does (effectOf profile place st s i) (did.Went (base + 1) used) (set vals base t) w
-    recalled-does memo r t f n place =
+    -- a type that was recalled is the one that typing gives
+    pub recalled-does : (memo : List ℕ) → Recalls memo w used → (t : ℕ) → Recalled memo key t → t ≢ nothing → (v : ℕ) → v ≡ valueOf t running → (place : ℕ)
+        → Does (effectOf profile place st s i) (did.Went (base + 1) used) (set vals base v) w
+    recalled-does memo r t f n v y place =
         let z = slot-with memo key t f n in
-        let x = r .holds (z .1 .0) (z .1 .1) .holds q vs t on bytes (z .0) (z .1 .2 ∙ ap (λ (y : ℕ). slotOf y t) is) in
+        let x = r .holds (z .1 .0) (z .1 .1) .holds q ds t on (digits-small vs bytes) (z .0) (z .1 .2 ∙ ap (λ (y : ℕ). slotOf y t) is) in
         let o = x .2 place w used ∙ standing-outcome place w used (ready .good .sound) t (typeAt w t) (x .1) refl in
-        let g : Gave (typed place w used q (map (typeAt w) vs)) (accept t used) w = gave-whole (sym o) in
-        let d = settled (settle-value base vals (record { 0 = t }) used t refl (base-room .1) (base-room .0)) g in
-        record { effect = d .effect ∙ ap (λ (b : ℕ). onto (take b vals) (typed place w used q (map (typeAt w) vs))) (keyed .start) ∙ sym (effect place); counted = d .counted }
+        let g : Gave (typing place) (accept t used) w = gave-whole (sym o) in
+        let d = settled (settle-value base vals running (record { 0 = t }) used v y (room .1) (room .0)) g in
+        record { effect = d .effect ∙ ap (λ (b : ℕ). onto (take b vals) running (typing place)) (keyed .start) ∙ sym (effect place); counted = d .counted }
 
     -- what it left may be noted
     noting : (place c u : ℕ) (vals' v : List ℕ) → c ≤ length vals' → effectOf profile place st s i ≡ goes (stateOf c vals' u v)
-        → (1 ≤ c) × (getD vals' (c - 1) 0 < 256) × Grew w used v u × Holds v u (slotOf key (getD vals' (c - 1) 0))
+        → (1 ≤ c) × (numberOf (getD vals' (c - 1) 0) < 256) × Grew w used v u × Holds v u (slotOf key (numberOf (getD vals' (c - 1) 0)))
     noting place c u vals' v l h =
         let b = take (count - k) vals in
-        let x = onto-went b (typed place w used q (map (typeAt w) vs)) (stateOf c vals' u v) (sym (effect place) ∙ h) in
+        let x = onto-went b running (typing place) (stateOf c vals' u v) (sym (effect place) ∙ h) in
         let t = x .0 in
-        let y = value-noted place w used (ready .good .sound) t u q vs on under v (x .1) (x .2) in
-        let n : c ≡ length b + 1 = sym (sized c vals' l) ∙ ap length (x .3) ∙ length-append b (t .0 ∷ []) in
+        let y = value-noted place w used (ready .good .sound) t u q ds on (digits-small vs bytes) under-digits v (x .1) (x .2) in
+        let n : c ≡ length b + 1 = sym (sized c vals' l) ∙ ap length (x .3) ∙ length-append b (valueOf (t .0) running ∷ []) in
         let j : c - 1 ≡ length b = omega arith in
-        let e : getD vals' (c - 1) 0 ≡ t .0 = sym (value-in c vals' l (c - 1) (omega arith)) ∙ ap (λ (y : List ℕ). getD y (c - 1) 0) (x .3) ∙ ap (λ (m : ℕ). getD (pushed b (t .0)) m 0) j ∙ last-pushed b (t .0) in (
+        let f : getD vals' (c - 1) 0 ≡ valueOf (t .0) running = sym (value-in c vals' l (c - 1) (omega arith)) ∙ ap (λ (y : List ℕ). getD y (c - 1) 0) (x .3)
+        ∙ ap (λ (m : ℕ). getD (pushed b (t .0) running) m 0) j ∙ last-pushed b (t .0) running in
+        let e : numberOf (getD vals' (c - 1) 0) ≡ t .0 = ap numberOf f ∙ held (t .0) running (let a = y .0 in omega arith) in (
           omega arith,
           rw e (y .0),
           y .1,
-          subst (λ (z : ℕ). Holds v u (slotOf z (getD vals' (c - 1) 0))) (sym is) (subst (λ (z : ℕ). Holds v u (slotOf (keyOf (codeOf q) vs) z)) (sym e) (y .2)),
+          subst (λ (z : ℕ). Holds v u (slotOf z (numberOf (getD vals' (c - 1) 0)))) (sym is) (subst (λ (z : ℕ). Holds v u (slotOf (keyOf (codeOf q) ds) z)) (sym e) (y .2)),
         )
 
     module _ (place : ℕ) (vals' v : List ℕ) (size : length vals' ≡ most) where
       went : (c u : ℕ) → Does (effectOf profile place st s i) (did.Went c u) vals' v
-          → (c ≤ length vals') × ((1 ≤ c) × (getD vals' (c - 1) 0 < 256) × Grew w used v u × Holds v u (slotOf key (getD vals' (c - 1) 0)))
+          → (c ≤ length vals') × ((1 ≤ c) × (numberOf (getD vals' (c - 1) 0) < 256) × Grew w used v u × Holds v u (slotOf key (numberOf (getD vals' (c - 1) 0))))
       unfolding effectBy Counted
       went c u h =
           let m : c ≤ most = h .counted in
@@ -287,7 +363,7 @@ module _ (profile count : ℕ) (vals : List ℕ) (used : ℕ) (w : List ℕ) (re
       unfolding NotedStep AfterStep
       step-noted memo memo' r (did.Went c u) h n =
           let z = went c u h .1 in
-          recalls-noted memo v u key (getD vals' (c - 1) 0) memo' (recalls-on w used v u (z .2) memo r) (z .3) n
+          recalls-noted memo v u key (numberOf (getD vals' (c - 1) 0)) memo' (recalls-on w used v u (z .2) memo r) (z .3) n
       step-noted memo memo' r (did.Silent c u) h n = tt
       step-noted memo memo' r (did.Ended c u) h n = tt
       step-noted memo memo' r (did.Refused x) h n = tt

@@ -14,6 +14,6 @@ pub noted-one : (memo memo' : List ℕ) {e : Effect} {r q : Did} {vals vals' w w
     → effectBy r vals w ≡ effectBy q vals' w'
 noted-one memo memo' a b = step-one (a .0) (b .0)
 
-pub quick-one : {s : List ℕ} {at count : ℕ} {vals : List ℕ} {used : ℕ} {w : List ℕ} {r q : ℕ} {after after' : List ℕ} → WentAt s at count vals used w r after
-    → WentAt s at count vals used w q after' → goes (stateOf r after used w) ≡ goes (stateOf q after' used w)
+pub quick-one : {s : List ℕ} {at count : ℕ} {vals : List ℕ} {used : ℕ} {w : List ℕ} {r q n m : ℕ} {after after' : List ℕ} → WentAt s at count vals used w r n after
+    → WentAt s at count vals used w q m after' → goes (stateOf r after used w) ≡ goes (stateOf q after' used w)
 quick-one a b = sym (a .effect 0) ∙ b .effect 0

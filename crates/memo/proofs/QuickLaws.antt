@@ -2,23 +2,25 @@
 use Prim.Native.Nat.{ℕ, _+_, _<_, _≤_}
 use mathlib.Core.Path.{_≡_, refl, sym, _∙_, ap, subst}
 use mathlib.Core.Logic.{_⊎_, inl, inr, _≢_}
+use mathlib.Core.Bool.{Bool, false}
 use mathlib.Core.List.{List, []}
 use native.Mathlib.Omega.{arith}
 use lib.ListN.{length, set}
-use Rattle.frame.specs.Frame.{itemAt, kindPush, kindUnary, kindBinary}
+use Rattle.frame.specs.Frame.{marked, itemAt, kindPush, kindUnary, kindBinary}
 use Rattle.frame.specs.inner.Items.{short, shortOf, itemOf}
 use Rattle.frame.specs.declared.Short.{Short}
 use Rattle.frame.proofs.Reading.{short-item}
 use Rattle.frame.specs.declared.Item.{Item}
 use Rattle.frame.specs.declared.Item.the-variants.{Unary, Binary}
+use Rattle.held.specs.Held.{valueOf}
 use Rattle.ops_ty.specs.Ops.{unaryOps, binaryOps}
 use Rattle.step.specs.Effect.{most, State, goes, effectOf}
 use Rattle.step.specs.inner.Code.{stateOf, Ready, effectBy}
 use Rattle.step.proofs.Effects.{push-does}
 use Rattle.memo.specs.inner.Memo.{nothing, Recalls, Recalled}
 use Rattle.memo.specs.inner.Asking.{AskedBy, Asks, Keyed}
-use Rattle.memo.specs.inner.Quick.{AsksShort, Quick, QuickAt}
-use Rattle.memo.proofs.Asking.{binary-asks, unary-asks, base-room, recalled-does}
+use Rattle.memo.specs.inner.Quick.{AsksShort, Quick, QuickEver, QuickAt}
+use Rattle.memo.proofs.Asking.{binary-asks, unary-asks, recalled-does}
 
 impossible : {P : Type 0} → _≡_ {A = ℕ} 0 1 → P
 impossible e = absurd (omega arith)
@@ -33,47 +35,52 @@ item-unary : (x : Short) → x .kind ≡ kindUnary → itemOf x ≡ Unary (x .nu
 unfolding itemOf
 item-unary x e = rw e
 
-asks-as : (profile : ℕ) (s : List ℕ) (i j : Item) (a b k : ℕ) → i ≡ j → a ≡ b → AskedBy profile s i a k → Asks profile s j b k
+asks-as : (profile : ℕ) (s : List ℕ) (i j : Item) (a b k : ℕ) → i ≡ j → a ≡ b → AskedBy profile s i a k false → Asks profile s j b k false
 asks-as profile s i j a b k e f h = record { asks = inr (rw (← e, ← f) h) }
 
 module _ (x : Short) (code op : ℕ) (n : op ≡ x .number) where
-  pub short-binary : x .kind ≡ kindBinary → op < binaryOps → code ≡ 1 + op → AsksShort x code 2
+  pub short-binary : x .kind ≡ kindBinary → op < binaryOps → code ≡ 1 + op → AsksShort x code 2 false
   short-binary e h c =
       let z : x .number + 1 ≡ code = omega (arith, n, c) in
       record { asks = λ profile s. asks-as profile s (Binary (x .number)) (itemOf x) (x .number + 1) code 2 (sym (item-binary x e)) z (binary-asks profile s (x .number) (omega (arith, n))) }
 
-  pub short-unary : x .kind ≡ kindUnary → op < unaryOps → code ≡ 19 + op → AsksShort x code 1
+  pub short-unary : x .kind ≡ kindUnary → op < unaryOps → code ≡ 19 + op → AsksShort x code 1 false
   short-unary e h c =
       let z : x .number + 19 ≡ code = omega (arith, n, c) in
       record { asks = λ profile s. asks-as profile s (Unary (x .number)) (itemOf x) (x .number + 19) code 1 (sym (item-unary x e)) z (unary-asks profile s (x .number) (omega (arith, n))) }
 
-pub short-none : (x : Short) → AsksShort x 0 0
-short-none x = record { asks = λ profile s. record { asks = inl refl } }
+pub short-none : (x : Short) (code k : ℕ) (runs : Bool) → code ≡ 0 → AsksShort x code k runs
+short-none x code k runs e = record { asks = λ profile s. record { asks = inl e } }
 
 -- and the item that it stands for
-pub asks-binary : (profile : ℕ) (s : List ℕ) (op code k : ℕ) → AsksShort (short kindBinary op) code k → Asks profile s (Binary op) code k
-asks-binary profile s op code k a = subst (λ (i : Item). Asks profile s i code k) (item-binary (short kindBinary op) refl) (a .asks profile s)
+module _ (profile : ℕ) (s : List ℕ) (op code k : ℕ) (runs : Bool) where
+  pub asks-binary : AsksShort (short kindBinary op false 3) code k runs → Asks profile s (Binary op) code k runs
+  asks-binary a = subst (λ (i : Item). Asks profile s i code k runs) (item-binary (short kindBinary op false 3) refl) (a .asks profile s)
 
-pub asks-unary : (profile : ℕ) (s : List ℕ) (op code k : ℕ) → AsksShort (short kindUnary op) code k → Asks profile s (Unary op) code k
-asks-unary profile s op code k a = subst (λ (i : Item). Asks profile s i code k) (item-unary (short kindUnary op) refl) (a .asks profile s)
+  pub asks-unary : AsksShort (short kindUnary op false 3) code k runs → Asks profile s (Unary op) code k runs
+  asks-unary a = subst (λ (i : Item). Asks profile s i code k runs) (item-unary (short kindUnary op false 3) refl) (a .asks profile s)
 
 -- THE STACK AFTER IT
 
 module _ (count : ℕ) (vals : List ℕ) (used : ℕ) (w : List ℕ) (ready : Ready count vals used w) where
-  pub quick-push : (x : Short) (t v : ℕ) → t ≡ x .number → v ≡ t → x .kind ≡ kindPush → t < used → count < most → Quick x count vals used w (count + 1) (set vals count v)
+  pub quick-push : (x : Short) (t v : ℕ) → t ≡ x .number → v ≡ valueOf t (x .running) → x .kind ≡ kindPush → t < used → count < most
+      → QuickEver x count vals used w (count + 1) (set vals count v)
   unfolding effectOf itemOf effectBy
-  quick-push x t v n e k h f = record { went = inr (omega arith, omega arith, λ profile at s. rw (k, ← n) (sym (push-does (record { 0 = at }) count vals used w ready t v e h f .effect))) }
+  quick-push x t v n e k h f keeps =
+      record { went = inr (omega arith, omega arith, λ profile at s _. rw (k, ← n) (sym (push-does (record { 0 = at }) count vals used w ready t (x .running) v e h f .effect))) }
 
-  pub quick-recalled : (memo : List ℕ) → Recalls memo w used → (x : Short) (code k key base t : ℕ) → AsksShort x code k → Keyed code k count vals key base → key ≢ 0
-      → Recalled memo key t → t ≢ nothing → Quick x count vals used w (base + 1) (set vals base t)
+  pub quick-recalled : (memo : List ℕ) → Recalls memo w used → (keeps : Bool) (x : Short) (code k : ℕ) (runs : Bool) (key base : ℕ) (running : Bool) (t v : ℕ) → AsksShort x code k runs
+      → Keyed code k keeps runs count vals key base running → key ≢ 0 → (base < most) → Recalled memo key t → t ≢ nothing → v ≡ valueOf t running
+      → Quick keeps x count vals used w (base + 1) (set vals base v)
   unfolding effectBy
-  quick-recalled memo r x code k key base t a b m f n =
-      let room = base-room 0 count vals used w ready [] (itemOf x) code k key base (a .asks 0 []) b m in
+  quick-recalled memo r keeps x code k runs key base running t v a b m room f n y =
       record {
         went = inr (
           omega arith,
-          omega (arith, room .0),
-          λ profile at s. sym (recalled-does profile count vals used w ready s (itemOf x) code k key base (a .asks profile s) b m memo r t f n at .effect),
+          omega arith,
+          λ profile at s z.
+              let b' = subst (λ (h : Bool). Keyed code k h runs count vals key base running) (sym z) b in
+              sym (recalled-does profile count vals used w ready s (itemOf x) code k runs key base running (a .asks profile s) b' m memo r t f n v y at .effect),
         );
       }
 
@@ -82,21 +89,22 @@ bad-stays : (profile at : ℕ) (st st' : State) (s : List ℕ) (x : Short) → x
 unfolding effectOf itemOf
 bad-stays profile at st st' s x e h = let y = rw e at h in impossible (cc)
 
-pub quick-there : (s : List ℕ) (at : ℕ) (x : Short) (count : ℕ) (vals : List ℕ) (used : ℕ) (w : List ℕ) (r : ℕ) (after : List ℕ) → x ≡ shortOf (itemAt s at .item)
-    → Quick x count vals used w r after → QuickAt s at count vals used w r after
-quick-there s at x count vals used w r after h q = go (q .went)
-  where
-    go : ((r ≡ 0) × (after ≡ vals)) ⊎ ((1 ≤ r) × (r ≤ most) × ((profile k : ℕ) (t : List ℕ) → effectOf profile k (stateOf count vals used w) t (itemOf x) ≡ goes (stateOf r after used w)))
-        → QuickAt s at count vals used w r after
-    go (inl z) = record { went = inl z }
-    go (inr z) =
-        let e = short-item s at x h (λ k. bad-stays 0 at (stateOf count vals used w) (stateOf r after used w) s x k (z .2 0 at s)) in
-        record {
-          went = inr (record {
-            some = z .0;
-            high = z .1;
-            within = e .0;
-            next = e .1;
-            effect = λ profile. ap (effectOf profile at (stateOf count vals used w) s) (e .2) ∙ z .2 profile at s;
-          });
-        }
+module _ (s : List ℕ) (at : ℕ) (keeps : Bool) (z : marked s ≡ keeps) (x : Short) (count : ℕ) (vals : List ℕ) (used : ℕ) (w : List ℕ) (r : ℕ) (after : List ℕ) where
+  pub quick-there : x ≡ shortOf (itemAt s at) → Quick keeps x count vals used w r after → QuickAt s at count vals used w r (x .bytes) after
+  quick-there h q = go (q .went)
+    where
+      go : ((r ≡ 0) × (after ≡ vals))
+          ⊎ ((1 ≤ r) × (r ≤ most) × ((profile k : ℕ) (t : List ℕ) → marked t ≡ keeps → effectOf profile k (stateOf count vals used w) t (itemOf x) ≡ goes (stateOf r after used w)))
+          → QuickAt s at count vals used w r (x .bytes) after
+      go (inl a) = record { went = inl a }
+      go (inr a) =
+          let e = short-item s at x h (λ k. bad-stays 0 at (stateOf count vals used w) (stateOf r after used w) s x k (a .2 0 at s z)) in
+          record {
+            went = inr (record {
+              some = a .0;
+              high = a .1;
+              within = e .0;
+              next = e .1;
+              effect = λ profile. ap (effectOf profile at (stateOf count vals used w) s) (e .2) ∙ a .2 profile at s z;
+            });
+          }

@@ -1,4 +1,4 @@
-// What a run has met before: an operator or a call of a builtin that was typed on the same values gives the same value, which is recalled, and not typed again.
+// What a run has met before: an operator or a call of a builtin that was typed on the same values gives the same type, which is recalled, and not typed again.
 // The memo is lent as a slice.
 use cast::wide;
 use cast::wide32;
@@ -8,6 +8,7 @@ use frame::ITEM_PUSH;
 use frame::ITEM_UNARY;
 use frame::Item;
 use frame::Part;
+use frame::SHORT_BYTES;
 use frame::Short;
 use names::RuleNo;
 use step::Did;
@@ -17,21 +18,23 @@ use table::TypeNo;
 ghost use mathlib.Core.Path.{_≡_};
 ghost use Prim.Native.Nat.{_+_, _<_, _≤_, _^_};
 ghost use lib.ListN.{length};
-ghost use Rattle.frame.specs.Frame.{kindPush};
+ghost use Rattle.frame.specs.Frame.{kindPush, marks};
+ghost use Rattle.held.specs.Held.{numberOf};
+ghost use Rattle.call_ty.specs.Calls.{numbers};
 ghost use Rattle.frame.specs.inner.Items.{sheetOf, LiesIn, NameIn};
 ghost use Rattle.frame.specs.declared.Item.the-variants.{Call};
 ghost use Rattle.names.specs.inner.Table.{nameTable};
 ghost use Rattle.call_ty.specs.inner.Codes.{Under};
 ghost use Rattle.step.specs.Effect.{effectOf};
 ghost use Rattle.step.specs.inner.Code.{stateOf, Ready, Does};
-ghost use Rattle.memo.specs.inner.Memo.{keyOf, Recalls, Recalled, Noted, Leaves, NotedStep, AfterStep};
-ghost use Rattle.memo.specs.inner.Asking.{Small, Coded, Asks, Keyed};
-ghost use Rattle.memo.specs.inner.Quick.{AsksShort, Quick, QuickAt};
+ghost use Rattle.memo.specs.inner.Memo.{digitOf, digits, keyOf, Recalls, Recalled, Noted, Leaves, NotedStep, AfterStep};
+ghost use Rattle.memo.specs.inner.Asking.{Small, Coded, runsOn, Asks, Keyed};
+ghost use Rattle.memo.specs.inner.Quick.{AsksShort, Quick, QuickEver, QuickAt};
 
 // How many values the memo holds, and what it answers where it has none.
 pub const SLOTS: usize = 256;
 
-const NOTHING: u32 = 256;
+const NOTHING: usize = 256;
 
 // How many operators there are, below which number the rules of builtins are, and how many operands of a call are looked at.
 const BINARY_OPS: u32 = 18;
@@ -49,63 +52,92 @@ const UNARY_CODES: u32 = 19;
 
 const BUILTIN_CODES: u32 = 24;
 
-// What an item asks, by its code, and on how many values; 0 where the memo has nothing of its kind.
+// How a slot is found.
+const MIX_CODE: u64 = 9;
+
+const MIX_SECOND: u64 = 85;
+
+const MIX_THIRD: u64 = 37;
+
+// What an item asks, by its code, and on how many values, and whether its result is running even where they are const; 0 where the memo has nothing of its kind.
 pub struct Ask {
     pub code: u64,
     pub operands: usize,
+    pub runs: bool,
 }
 
-// What is asked and the values of its operands, as one number, and where on the stack they begin; 0 where nothing is asked, or values lack.
+// What is asked and the values of its operands, as one number, the first of its two slots, where on the stack the operands begin, and the mark of what it gives; the number is 0 where nothing is asked, or values lack.
 pub struct Key {
     pub number: u64,
+    pub slot: usize,
     pub base: usize,
+    pub running: bool,
+}
+
+// What a quick item left: how many values stand then, or 0 where it was not quick; and how many bytes it has.
+pub struct Went {
+    pub count: usize,
+    pub bytes: usize,
 }
 
 // THE MEMO
 
-// The first of the two slots of a key. Any would do: a slot says itself what it holds.
-fn slot_of(key: u64) -> usize
-    requires { ⌜ key < 2 ^ 32 ⌝ }
-    ensures { λ r. ⌜ r + 1 < 256 ⌝ }
+// The first of the two slots of what is asked on one to three operands. Any would do: a slot says itself what it holds. It is found beside the key, from the bytes of the operands as they stand: what is
+// read from the memo then waits for neither.
+fn mixed(code: u64, args: &[u32]) -> u64
+    requires { ⌜ (code < 256) × (1 ≤ length (now args)) ⌝ }
+    ensures { λ r. ⌜ r < 2 ^ 32 ⌝ }
 {
-    (key * 2654435761 / 33554432 % 128 * 2) as usize
+    let one = code * MIX_CODE + word64(args[0] % 256);
+    if args.len() < 2 {
+        return one;
+    }
+    let two = one + word64(args[1] % 256) * MIX_SECOND;
+    if args.len() < 3 {
+        return two;
+    }
+    two + word64(args[2] % 256) * MIX_THIRD
 }
 
-// The value that the memo has for a key, or NOTHING.
-fn recall(memo: &[u64], key: u64) -> u32
-    requires { ⌜ (length (now memo) ≡ 256) × (key < 2 ^ 32) ⌝ }
+fn slot_of(mix: u64) -> usize
+    ensures { λ r. ⌜ r + 1 < 256 ⌝ }
+{
+    (mix % 128 * 2) as usize
+}
+
+// The number of the type that the memo has for a key, or NOTHING.
+fn recall(memo: &[u64], slot: usize, key: u64) -> usize
+    requires { ⌜ (length (now memo) ≡ 256) × (slot + 1 < 256) ⌝ }
     ensures { λ r. ⌜ Recalled (now (memo .entry)) key r ⌝ }
 {
-    let i = slot_of(key);
-    let v = memo[i];
+    let v = memo[slot];
     if v / 256 == key {
-        return (v % 256) as u32;
+        return (v % 256) as usize;
     }
-    let u = memo[i + 1];
+    let u = memo[slot + 1];
     if u / 256 == key {
-        return (u % 256) as u32;
+        return (u % 256) as usize;
     }
     NOTHING
 }
 
-// Notes the value for a key in its first slot; what that had moves to the second.
-fn note(memo: &mut [u64], key: u64, t: u32)
-    requires { ⌜ (length (now memo) ≡ 256) × (key < 2 ^ 32) × (t < 256) ⌝ }
-    ensures { λ _. ⌜ Noted (now (memo .entry)) key t (now (memo .exit)) ⌝ }
+// Notes the type for a key in its first slot; what that had moves to the second.
+fn note(memo: &mut [u64], slot: usize, key: u64, t: TypeNo)
+    requires { ⌜ (length (now memo) ≡ 256) × (slot + 1 < 256) × (key < 2 ^ 35) × (t .0 < 256) ⌝ }
+    ensures { λ _. ⌜ Noted (now (memo .entry)) key (t .0) (now (memo .exit)) ⌝ }
 {
-    let i = slot_of(key);
-    memo[i + 1] = memo[i];
-    memo[i] = key * 256 + word64(t);
+    memo[slot + 1] = memo[slot];
+    memo[slot] = key * 256 + (t.0 as u64);
 }
 
 // What an item left, noted where it went.
-fn note_did(memo: &mut [u64], key: u64, d: Did, stack: &[u32])
-    requires { ⌜ (length (now memo) ≡ 256) × (key < 2 ^ 32) × Leaves d (now stack) ⌝ }
+fn note_did(memo: &mut [u64], slot: usize, key: u64, d: Did, stack: &[u32])
+    requires { ⌜ (length (now memo) ≡ 256) × (slot + 1 < 256) × (key < 2 ^ 35) × Leaves d (now stack) ⌝ }
     ensures { λ _. ⌜ NotedStep (now (memo .entry)) key d (now (stack .entry)) (now (memo .exit)) ⌝ }
 {
     match d {
         Did::Went { count, used: _ } => {
-            note(memo, key, stack[count - 1]);
+            note(memo, slot, key, held::number(stack[count - 1]));
         }
         _ => {}
     }
@@ -113,119 +145,147 @@ fn note_did(memo: &mut [u64], key: u64, d: Did, stack: &[u32])
 
 // WHAT IS ASKED
 
+fn no_ask() -> Ask
+    ensures { λ r. ⌜ r .code ≡ 0 ⌝ }
+{
+    Ask {
+        code: 0,
+        operands: 0,
+        runs: false,
+    }
+}
+
 fn asked_short(x: Short) -> Ask
-    ensures { λ r. ⌜ AsksShort x (r .code) (r .operands) ⌝ }
+    ensures { λ r. ⌜ AsksShort x (r .code) (r .operands) (r .runs) ⌝ }
 {
     let op = wide32(x.number);
     if x.kind == ITEM_BINARY {
         if BINARY_OPS <= op {
-            return Ask {
-                code: 0,
-                operands: 0,
-            };
+            return no_ask();
         }
         return Ask {
             code: word64(BINARY_CODES + op),
             operands: 2,
+            runs: false,
         };
     }
     if x.kind == ITEM_UNARY {
         if UNARY_OPS <= op {
-            return Ask {
-                code: 0,
-                operands: 0,
-            };
+            return no_ask();
         }
         return Ask {
             code: word64(UNARY_CODES + op),
             operands: 1,
+            runs: false,
         };
     }
-    Ask {
-        code: 0,
-        operands: 0,
-    }
+    no_ask()
 }
 
 // A call of a builtin asks by the rule of its name in a profile.
-fn asked_call(items: &[u8], rows: &[u8], profile: u32, name: Part, k: u8) -> Ask
+fn asked_call(version: u8, items: &[u8], rows: &[u8], profile: u32, name: Part, k: u8) -> Ask
     requires { ⌜ LiesIn (length (now items)) name × (now rows ≡ nameTable) ⌝ }
-    ensures { λ r. ⌜ Asks profile (sheetOf (now (items .entry))) (Call k name) (r .code) (r .operands) ⌝ }
+    ensures { λ r. ⌜ Asks profile (sheetOf version (now (items .entry))) (Call k name) (r .code) (r .operands) (r .runs) ⌝ }
 {
     if (k < 1) | (OPERANDS < k) {
-        return Ask {
-            code: 0,
-            operands: 0,
-        };
+        return no_ask();
     }
     match names::rule_of(rows, profile, frame::name_in(items, name)) {
-        RuleNo::Is(rule) => {
+        RuleNo::Is { rule, running } => {
             if RULES <= rule {
-                return Ask {
-                    code: 0,
-                    operands: 0,
-                };
+                return no_ask();
             }
             Ask {
                 code: word64(BUILTIN_CODES + wide32(rule)),
                 operands: wide(k),
+                runs: running,
             }
         }
-        RuleNo::Unknown => Ask {
-            code: 0,
-            operands: 0,
-        },
+        RuleNo::Unknown => no_ask(),
     }
 }
 
-fn asked(items: &[u8], rows: &[u8], profile: u32, item: Item) -> Ask
+fn asked(version: u8, items: &[u8], rows: &[u8], profile: u32, item: Item) -> Ask
     requires { ⌜ NameIn (length (now items)) item × (now rows ≡ nameTable) ⌝ }
-    ensures { λ r. ⌜ Asks profile (sheetOf (now (items .entry))) item (r .code) (r .operands) ⌝ }
+    ensures { λ r. ⌜ Asks profile (sheetOf version (now (items .entry))) item (r .code) (r .operands) (r .runs) ⌝ }
 {
     match item {
         Item::Unary(op) => asked_short(Short {
             kind: ITEM_UNARY,
             number: op,
+            running: false,
+            bytes: SHORT_BYTES,
         }),
         Item::Binary(op) => asked_short(Short {
             kind: ITEM_BINARY,
             number: op,
+            running: false,
+            bytes: SHORT_BYTES,
         }),
-        Item::Call { count: k, name } => asked_call(items, rows, profile, name, k),
-        _ => Ask {
-            code: 0,
-            operands: 0,
-        },
+        Item::Call { count: k, name } => asked_call(version, items, rows, profile, name, k),
+        _ => no_ask(),
     }
 }
 
-// A code and the values of its operands, as one number.
-fn key_on(code: u64, args: &[u32]) -> u64
-    requires { ⌜ (code < 256) × Under 256 (now args) × (1 ≤ length (now args)) × (length (now args) ≤ 3) ⌝ }
-    ensures { λ r. ⌜ (r ≡ keyOf code (now (args .entry))) × (r < 2 ^ 32) ⌝ }
+// The digit of an operand: the number of its type, and 256 more where it is running.
+fn digit(v: u32) -> u64
+    requires { ⌜ numberOf v < 256 ⌝ }
+    ensures { λ r. ⌜ (r ≡ digitOf v) × (r < 512) ⌝ }
 {
-    let one = code * 256 + word64(args[0]);
+    let t = held::number(v);
+    let number = t.0 as u64;
+    if held::running(v) {
+        return number + 256;
+    }
+    number
+}
+
+// A code and the digits of its operands, as one number.
+fn key_on(code: u64, args: &[u32]) -> u64
+    requires { ⌜ (code < 256) × Under 256 (numbers (now args)) × (1 ≤ length (now args)) × (length (now args) ≤ 3) ⌝ }
+    ensures { λ r. ⌜ (r ≡ keyOf code (digits (now (args .entry)))) × (r < 2 ^ 35) ⌝ }
+{
+    let one = code * 512 + digit(args[0]);
     if args.len() == 1 {
         return one;
     }
-    let two = one * 256 + word64(args[1]);
+    let two = one * 512 + digit(args[1]);
     if args.len() == 2 {
         return two;
     }
-    two * 256 + word64(args[2])
+    two * 512 + digit(args[2])
 }
 
-fn keyed(a: Ask, stack: &[u32], count: usize) -> Key
+// The mark of what is asked on these operands.
+fn runs_on(keeps: bool, runs: bool, args: &[u32]) -> bool
+    ensures { λ r. ⌜ r ≡ runsOn keeps runs (now (args .entry)) ⌝ }
+{
+    if !keeps {
+        return false;
+    }
+    runs | call_ty::any_running(args)
+}
+
+fn keyed(keeps: bool, a: Ask, stack: &[u32], count: usize) -> Key
     requires { ⌜ Small count (now stack) × Coded (a .code) (a .operands) ⌝ }
-    ensures { λ r. ⌜ Keyed (a .code) (a .operands) count (now (stack .entry)) (r .number) (r .base) ⌝ }
+    ensures { λ r. ⌜ Keyed (a .code) (a .operands) keeps (a .runs) count (now (stack .entry)) (r .number) (r .base) (r .running) × (r .slot + 1 < 256) ⌝ }
 {
     if (a.code == 0) | (count < a.operands) {
-        return Key { number: 0, base: 0 };
+        return Key {
+            number: 0,
+            slot: 0,
+            base: 0,
+            running: false,
+        };
     }
     let base = count - a.operands;
+    let number = key_on(a.code, &stack[base..count]);
+    let slot = slot_of(mixed(a.code, &stack[base..count]));
     Key {
-        number: key_on(a.code, &stack[base..count]),
+        number,
+        slot,
         base,
+        running: runs_on(keeps, a.runs, &stack[base..count]),
     }
 }
 
@@ -234,7 +294,7 @@ fn keyed(a: Ask, stack: &[u32], count: usize) -> Key
 // A push: how many values stand then, or 0 where it cannot be.
 fn quick_push(x: Short, stack: &mut [u32], count: usize, table: &[u32], used: usize) -> usize
     requires { ⌜ Ready count (now stack) used (now table) × (x .kind ≡ kindPush) ⌝ }
-    ensures { λ r. ⌜ Quick x count (now (stack .entry)) used (now (table .entry)) r (now (stack .exit)) ⌝ }
+    ensures { λ r. ⌜ QuickEver x count (now (stack .entry)) used (now (table .entry)) r (now (stack .exit)) ⌝ }
 {
     let t = TypeNo(wide(x.number));
     if used <= t.0 {
@@ -243,12 +303,13 @@ fn quick_push(x: Short, stack: &mut [u32], count: usize, table: &[u32], used: us
     if VALUES <= count {
         return 0;
     }
-    stack[count] = held::value(t);
+    stack[count] = held::value(t, x.running);
     count + 1
 }
 
 // The same of an operator, by the memo.
 fn quick(
+    keeps: bool,
     x: Short,
     stack: &mut [u32],
     count: usize,
@@ -257,26 +318,27 @@ fn quick(
     memo: &[u64],
 ) -> usize
     requires { ⌜ Ready count (now stack) used (now table) × Recalls (now memo) (now table) used ⌝ }
-    ensures { λ r. ⌜ Quick x count (now (stack .entry)) used (now (table .entry)) r (now (stack .exit)) ⌝ }
+    ensures { λ r. ⌜ Quick keeps x count (now (stack .entry)) used (now (table .entry)) r (now (stack .exit)) ⌝ }
 {
     if x.kind == ITEM_PUSH {
         return quick_push(x, stack, count, table, used);
     }
-    let a = keyed(asked_short(x), stack, count);
+    let a = keyed(keeps, asked_short(x), stack, count);
     if a.number == 0 {
         return 0;
     }
-    let t = recall(memo, a.number);
+    let t = recall(memo, a.slot, a.number);
     if t == NOTHING {
         return 0;
     }
     let base = a.base;
-    stack[base] = t;
+    stack[base] = held::value(TypeNo(t), a.running);
     base + 1
 }
 
 // The item at a place, where it is a quick one: how many values stand then; else 0.
 pub fn quick_at(
+    version: u8,
     items: &[u8],
     at: Place,
     stack: &mut [u32],
@@ -284,15 +346,29 @@ pub fn quick_at(
     table: &[u32],
     used: usize,
     memo: &[u64],
-) -> usize
+) -> Went
     requires { ⌜ Ready count (now stack) used (now table) × Recalls (now memo) (now table) used ⌝ }
-    ensures { λ r. ⌜ QuickAt (sheetOf (now (items .entry))) (at .0) count (now (stack .entry)) used (now (table .entry)) r (now (stack .exit)) ⌝ }
+    ensures { λ r. ⌜ QuickAt (sheetOf version (now (items .entry))) (at .0) count (now (stack .entry)) used (now (table .entry)) (r .count) (r .bytes) (now (stack .exit)) ⌝ }
 {
-    quick(frame::short_in(items, at), stack, count, table, used, memo)
+    let x = frame::short_in(version, items, at);
+    let left = quick(
+        step::keeps_marks(version),
+        x,
+        stack,
+        count,
+        table,
+        used,
+        memo,
+    );
+    Went {
+        count: left,
+        bytes: x.bytes,
+    }
 }
 
 // What stands at a place of the sheet: recalled where the memo has it, else typed, and noted. The memo is that of a run, which has one profile.
 pub fn noted_step(
+    version: u8,
     items: &[u8],
     rows: &[u8],
     profile: u32,
@@ -305,22 +381,49 @@ pub fn noted_step(
     memo: &mut [u64],
 ) -> Did
     requires { ⌜ Ready count (now stack) used (now table) × NameIn (length (now items)) item × Recalls (now memo) (now table) used × (now rows ≡ nameTable) ⌝ }
-    ensures { λ r. ⌜ Does (effectOf profile (at .0) (stateOf count (now (stack .entry)) used (now (table .entry))) (sheetOf (now (items .entry))) item) r (now (stack .exit)) (now (table .exit)) × AfterStep r (now (memo .exit)) (now (table .exit)) ⌝ }
+    ensures { λ r. ⌜ Does (effectOf profile (at .0) (stateOf count (now (stack .entry)) used (now (table .entry))) (sheetOf version (now (items .entry))) item) r (now (stack .exit)) (now (table .exit)) × AfterStep r (now (memo .exit)) (now (table .exit)) ⌝ }
 {
-    let a = keyed(asked(items, rows, profile, item), stack, count);
+    let a = keyed(
+        step::keeps_marks(version),
+        asked(version, items, rows, profile, item),
+        stack,
+        count,
+    );
     if a.number == 0 {
-        return step::step(items, rows, profile, item, at, stack, count, table, used);
+        return step::step(
+            version,
+            items,
+            rows,
+            profile,
+            item,
+            at,
+            stack,
+            count,
+            table,
+            used,
+        );
     }
-    let t = recall(memo, a.number);
+    let t = recall(memo, a.slot, a.number);
     if t != NOTHING {
         let base = a.base;
-        stack[base] = t;
+        stack[base] = held::value(TypeNo(t), a.running);
         return Did::Went {
             count: base + 1,
             used,
         };
     }
-    let d = step::step(items, rows, profile, item, at, stack, count, table, used);
-    note_did(memo, a.number, d, stack);
+    let d = step::step(
+        version,
+        items,
+        rows,
+        profile,
+        item,
+        at,
+        stack,
+        count,
+        table,
+        used,
+    );
+    note_did(memo, a.slot, a.number, d, stack);
     d
 }

@@ -1,10 +1,11 @@
--- The names as documents 01 and 02 list them, group by group: the table and this list give any bytes the same rule, whatever the profile; and profile 0 has the names of
--- document 01 alone. Every name of the one is computed to have its rule in the other, and a law carries that over to all bytes. Assumes nothing.
+-- The names as documents 01 and 02 list them, group by group, and those whose results are running even so: the table and these lists give any bytes the same rule and mark,
+-- whatever the profile; and profile 0 has the names of document 01 alone. Every name of the one is computed to have its rule in the other, and a law carries that over to
+-- all bytes. Assumes nothing.
 use Prim.Native.Nat.{ℕ}
 use Prim.Native.String.{String}
 use mathlib.Core.Path.{_≡_, refl, sym, _∙_}
 use native.Mathlib.Omega.{arith}
-use mathlib.Core.Bool.{Bool, true, false, cond}
+use mathlib.Core.Bool.{Bool, true, false, _||_, cond}
 use mathlib.Core.List.{List, [], _∷_, _++_, map}
 use lib.Dec.{eqb}
 use Rattle.conv.specs.Rank.{both}
@@ -26,18 +27,26 @@ words : List ℕ → List (List ℕ)
 words [] = [] ∷ []
 words (c ∷ cs) = cond (eqb c 32) ([] ∷ words cs) (ahead c (words cs))
 
-under : ℕ → Rule → List (List ℕ) → List Name
-under profile r [] = []
-under profile r (w ∷ ws) = record { text = w; profile = profile; rule = r } ∷ under profile r ws
+pub among : List ℕ → List (List ℕ) → Bool
+among s [] = false
+among s (w ∷ ws) = sameBytes w s || among s ws
+
+-- document 02, K3: "Derivatives, barriers, arrayLength and subgroup or quad calls give running results even so". These of document 01's names, since a barrier gives none
+pub runningEvenSo : List (List ℕ)
+runningEvenSo = words (ascii "dpdx dpdy fwidth dpdxCoarse dpdyCoarse fwidthCoarse dpdxFine dpdyFine fwidthFine arrayLength")
+
+under : ℕ → (List ℕ → Bool) → Rule → List (List ℕ) → List Name
+under profile running r [] = []
+under profile running r (w ∷ ws) = record { text = w; profile = profile; rule = r; running = running w } ∷ under profile running r ws
 
 abbrev group : Rule → String → List Name
-group r text = under 0 r (words (ascii text))
+group r text = under 0 (λ w. among w runningEvenSo) r (words (ascii text))
 
 abbrev ruledBy : Row → String → List Name
 ruledBy r text = group (ruling (byRow r)) text
 
 abbrev lanesBy : Row → String → List Name
-lanesBy r text = under 1 (ruling (byRow r)) (words (ascii text))
+lanesBy r text = under 1 (λ w. true) (ruling (byRow r)) (words (ascii text))
 
 -- "Ruled, 88"
 pub ruled : List Name
@@ -114,20 +123,20 @@ subgroups =
     ++ (lanesBy ofLane "subgroupBroadcast subgroupShuffle quadBroadcast"
     ++ lanesBy shuffling "subgroupShuffleDown subgroupShuffleUp subgroupShuffleXor")))))
 
--- every name of a list has its rule in another
+-- every name of a list has its rule, and its mark, in another
 abbrev Covers : ℕ → List Name → List Name → Type 0
 Covers profile rs other = map (λ (r : Name). ruleIn profile other (r .text)) rs ≡ map (λ (r : Name). ruleFor profile r) rs
 
-covered : (profile : ℕ) (rs other : List Name) → Covers profile rs other → (s : List ℕ) (R : Rule) → ruleIn profile rs s ≡ rule R → ruleIn profile other s ≡ rule R
+covered : (profile : ℕ) (rs other : List Name) → Covers profile rs other → (s : List ℕ) (R : Rule) (m : Bool) → ruleIn profile rs s ≡ rule R m → ruleIn profile other s ≡ rule R m
 unfolding ruleIn
-covered profile [] other c s R e = absurd (let z : _≡_ {A = ℕ} 0 1 = cc in omega arith)
-covered profile (r ∷ rs) other c s R e = go (sameBytes (r .text) s) refl e (covered profile rs other (cc) s R)
+covered profile [] other c s R m e = absurd (let z : _≡_ {A = ℕ} 0 1 = cc in omega arith)
+covered profile (r ∷ rs) other c s R m e = go (sameBytes (r .text) s) refl e (covered profile rs other (cc) s R m)
   where
     head : ruleIn profile other (r .text) ≡ ruleFor profile r
     head = cc
 
-    go : (b : Bool) → sameBytes (r .text) s ≡ b → cond b (ruleFor profile r) (ruleIn profile rs s) ≡ rule R → (ruleIn profile rs s ≡ rule R → ruleIn profile other s ≡ rule R)
-        → ruleIn profile other s ≡ rule R
+    go : (b : Bool) → sameBytes (r .text) s ≡ b → cond b (ruleFor profile r) (ruleIn profile rs s) ≡ rule R m → (ruleIn profile rs s ≡ rule R m → ruleIn profile other s ≡ rule R m)
+        → ruleIn profile other s ≡ rule R m
     go true p q later = rw (← same-bytes (r .text) s p) (head ∙ q)
     go false p q later = later q
 
@@ -135,16 +144,21 @@ same-rules : (profile : ℕ) (rs other : List Name) → Covers profile rs other 
 same-rules profile rs other t u s = go (ruleIn profile rs s) refl (ruleIn profile other s) refl
   where
     go : (a : Named) → ruleIn profile rs s ≡ a → (b : Named) → ruleIn profile other s ≡ b → ruleIn profile rs s ≡ ruleIn profile other s
-    go (rule R) p b q = p ∙ sym (covered profile rs other t s R p)
-    go unknown p (rule R) q = covered profile other rs u s R q ∙ sym q
+    go (rule R m) p b q = p ∙ sym (covered profile rs other t s R m p)
+    go unknown p (rule R m) q = covered profile other rs u s R m q ∙ sym q
     go unknown p unknown q = p ∙ sym q
 
--- THE TABLE SAYS WHAT THE DOCUMENTS SAY, of all bytes: in any profile the rule is that of the lists; in profile 0 that of document 01's alone
+-- THE TABLE SAYS WHAT THE DOCUMENTS SAY, of all bytes: in any profile the rule and the mark are those of the lists; in profile 0 those of document 01's alone
 
 pub as-documents : (profile : ℕ) (s : List ℕ) → ruleOf profile s ≡ ruleIn profile (document ++ subgroups) s
-unfolding ascii words ahead under ruled crateRules subgroups names both sameBytes ruleIn
+unfolding ascii words ahead among runningEvenSo under ruled crateRules subgroups names both sameBytes ruleIn
 as-documents profile s = same-rules profile names (document ++ subgroups) refl refl s
 
 pub as-document : (s : List ℕ) → ruleOf 0 s ≡ ruleIn 0 document s
-unfolding ascii words ahead under ruled crateRules names both sameBytes within ruleIn
+unfolding ascii words ahead among runningEvenSo under ruled crateRules names both sameBytes within ruleIn
 as-document s = same-rules 0 names document refl refl s
+
+-- RUNNING EVEN SO are the nine derivatives, arrayLength, the subgroup and quad names, and no other
+pub running-names : map (λ (r : Name). r .running) names ≡ map (λ (r : Name). among (r .text) (runningEvenSo ++ map (λ (r : Name). r .text) subgroups)) names
+unfolding ascii words ahead among runningEvenSo under subgroups names both sameBytes
+running-names = refl

@@ -145,8 +145,8 @@ unknown-profile profile s h = none-in profile names s h
 -- so a name that stands at a row has its rule, or none
 
 module _ (profile : ℕ) (s : List ℕ) (k : ℕ) (h : k < count) (e : nameAt k ≡ s) where
-  pub found-here : profile < profiles → at k .profile ≤ profile → ruleOf profile s ≡ rule (at k .rule)
-  found-here p l = found profile s k h e ∙ ap (λ (b : Bool). cond b (rule (at k .rule)) unknown) (has-name profile (at k .profile) p l)
+  pub found-here : profile < profiles → at k .profile ≤ profile → ruleOf profile s ≡ rule (at k .rule) (at k .running)
+  found-here p l = found profile s k h e ∙ ap (λ (b : Bool). cond b (rule (at k .rule) (at k .running)) unknown) (has-name profile (at k .profile) p l)
 
   pub found-later : profile < at k .profile → ruleOf profile s ≡ unknown
-  found-later l = found profile s k h e ∙ ap (λ (b : Bool). cond b (rule (at k .rule)) unknown) (lacks-name profile (at k .profile) l)
+  found-later l = found profile s k h e ∙ ap (λ (b : Bool). cond b (rule (at k .rule) (at k .running)) unknown) (lacks-name profile (at k .profile) l)

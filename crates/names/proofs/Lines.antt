@@ -3,11 +3,13 @@ use Prim.Native.Nat.{ℕ, zero, suc, _+_, _*_, _/_, _≤_, _<_}
 use native.Mathlib.Nat.{not-suc-le-zero, le-of-suc-le-suc}
 use native.Mathlib.Omega.{arith}
 use mathlib.Core.Path.{_≡_, refl, sym, _∙_, ap}
+use mathlib.Core.Bool.{Bool, true, false}
 use mathlib.Core.List.{List, [], _∷_, _++_}
+use lib.Dec.{eqb}
 use lib.ListN.{length, getD, length-append, List·getD-append}
-use lib.Seq.{getD-append-add, getD-at}
+use lib.Seq.{getD-append-add}
 use Rattle.names.specs.Names.{Name, names, noName, nameAt, count}
-use Rattle.names.specs.inner.Table.{ruleNumber, nameWidth, lineWidth, blank, filled, line, linesOf, nameTable}
+use Rattle.names.specs.inner.Table.{ruleNumber, nameWidth, lineWidth, blank, filled, markByte, line, linesOf, nameTable}
 
 -- inside of a list it does not matter what stands past its end
 pub getD-in : (s : List ℕ) (i d e : ℕ) → i < length s → getD s i d ≡ getD s i e
@@ -31,7 +33,7 @@ filled-at (suc w) (x ∷ xs) (suc i) l = filled-at w xs i (le-of-suc-le-suc l)
 
 line-length : (r : Name) → length (line r) ≡ lineWidth
 unfolding line
-line-length r = length-append (filled nameWidth (r .text)) _ ∙ ap (λ (k : ℕ). k + 2) (filled-length nameWidth (r .text))
+line-length r = length-append (filled nameWidth (r .text)) _ ∙ ap (λ (k : ℕ). k + 3) (filled-length nameWidth (r .text))
 
 lines-length : (rs : List Name) → length (linesOf rs) ≡ length rs * lineWidth
 unfolding linesOf
@@ -59,6 +61,10 @@ lines-at (r ∷ rs) (suc k) i h l =
 abbrev pub at : ℕ → Name
 at k = getD names k noName
 
+-- what follows the letters of a name
+abbrev columnsOf : Name → List ℕ
+columnsOf r = ruleNumber (r .rule) ∷ r .profile ∷ markByte (r .running) ∷ []
+
 module _ (rows : List ℕ) (lent : rows ≡ nameTable) where
   pub rows-length : length rows ≡ count * lineWidth
   unfolding nameTable
@@ -75,25 +81,33 @@ module _ (rows : List ℕ) (lent : rows ≡ nameTable) where
         let a = filled-length nameWidth (at k .text) in
         ap (λ (s : List ℕ). getD s (k * lineWidth + i) 0) lent
         ∙ lines-at names k i h (omega arith)
-        ∙ List·getD-append (filled nameWidth (at k .text)) (ruleNumber (at k .rule) ∷ at k .profile ∷ []) 0 i (omega arith)
+        ∙ List·getD-append (filled nameWidth (at k .text)) (columnsOf (at k)) 0 i (omega arith)
         ∙ filled-at nameWidth (at k .text) i l
 
-    -- and the number of its rule
-    pub number-at : getD rows (k * lineWidth + nameWidth) 0 ≡ ruleNumber (at k .rule)
+    -- and its columns
+    column-at : (j : ℕ) → j < 3 → getD rows (k * lineWidth + nameWidth + j) 0 ≡ getD (columnsOf (at k)) j 0
     unfolding nameTable line
-    number-at =
-        ap (λ (s : List ℕ). getD s (k * lineWidth + nameWidth) 0) lent
-        ∙ lines-at names k nameWidth h (omega arith)
-        ∙ getD-at (filled nameWidth (at k .text)) (ruleNumber (at k .rule)) (at k .profile ∷ []) 0 nameWidth (filled-length nameWidth (at k .text))
-
-    -- and its profile
-    pub profile-at : getD rows (k * lineWidth + nameWidth + 1) 0 ≡ at k .profile
-    unfolding nameTable line
-    profile-at =
+    column-at j l =
         let a = filled-length nameWidth (at k .text) in
-        let e : k * lineWidth + nameWidth + 1 ≡ k * lineWidth + 33 = omega arith in
-        ap (λ (j : ℕ). getD rows j 0) e
-        ∙ ap (λ (s : List ℕ). getD s (k * lineWidth + 33) 0) lent
-        ∙ lines-at names k 33 h (omega arith)
-        ∙ ap (λ (j : ℕ). getD (line (at k)) j 0) (let q : 33 ≡ length (filled nameWidth (at k .text)) + 1 = omega arith in q)
-        ∙ getD-append-add (filled nameWidth (at k .text)) (ruleNumber (at k .rule) ∷ at k .profile ∷ []) 1 0
+        let e : k * lineWidth + nameWidth + j ≡ k * lineWidth + (nameWidth + j) = omega arith in
+        let q : nameWidth + j ≡ length (filled nameWidth (at k .text)) + j = omega arith in
+        ap (λ (i : ℕ). getD rows i 0) e
+        ∙ ap (λ (s : List ℕ). getD s (k * lineWidth + (nameWidth + j)) 0) lent
+        ∙ lines-at names k (nameWidth + j) h (omega arith)
+        ∙ ap (λ (i : ℕ). getD (line (at k)) i 0) q
+        ∙ getD-append-add (filled nameWidth (at k .text)) (columnsOf (at k)) j 0
+
+    pub number-at : getD rows (k * lineWidth + nameWidth) 0 ≡ ruleNumber (at k .rule)
+    number-at =
+        let e : k * lineWidth + nameWidth ≡ k * lineWidth + nameWidth + 0 = omega arith in
+        ap (λ (i : ℕ). getD rows i 0) e ∙ column-at 0 (omega arith)
+
+    pub profile-at : getD rows (k * lineWidth + nameWidth + 1) 0 ≡ at k .profile
+    profile-at = column-at 1 (omega arith)
+
+    pub mark-at : eqb (getD rows (k * lineWidth + nameWidth + 2) 0) 1 ≡ at k .running
+    mark-at = ap (λ (b : ℕ). eqb b 1) (column-at 2 (omega arith)) ∙ of-byte (at k .running)
+      where
+        of-byte : (running : Bool) → eqb (markByte running) 1 ≡ running
+        of-byte true = refl
+        of-byte false = refl

@@ -23,7 +23,7 @@ unfolding names both
 columns k h = ltb→lt _ _ (below count (λ k. ltb (at k .profile) profiles) tt k h)
 
 -- a name of profile 0, in either
-pub of-both : (profile : ℕ) → profile < profiles → (k : ℕ) → k < count → at k .profile ≡ 0 → ruleOf profile (nameAt k) ≡ rule (at k .rule)
+pub of-both : (profile : ℕ) → profile < profiles → (k : ℕ) → k < count → at k .profile ≡ 0 → ruleOf profile (nameAt k) ≡ rule (at k .rule) (at k .running)
 of-both profile p k h z = found-here profile (nameAt k) k h refl p (omega (arith, z))
 
 -- BYTES ARE A NAME OR NONE

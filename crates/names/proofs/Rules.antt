@@ -20,21 +20,21 @@ use Rattle.names.specs.declared.RuleNo.the-variants.{Is, Unknown}
 abbrev Fixes : (Rule → Rule) → List Name → Type 0
 Fixes f rs = map (λ (r : Name). f (r .rule)) rs ≡ map (λ (r : Name). r .rule) rs
 
-fixed : (f : Rule → Rule) (profile : ℕ) (rs : List Name) → Fixes f rs → (s : List ℕ) (R : Rule) → ruleIn profile rs s ≡ rule R → f R ≡ R
+fixed : (f : Rule → Rule) (profile : ℕ) (rs : List Name) → Fixes f rs → (s : List ℕ) (R : Rule) {m : Bool} → ruleIn profile rs s ≡ rule R m → f R ≡ R
 unfolding ruleIn
 fixed f profile [] h s R e = absurd (let z : _≡_ {A = ℕ} 0 1 = cc in omega arith)
-fixed f profile (r ∷ rs) h s R e = go (sameBytes (r .text) s) (within profile (r .profile)) e (fixed f profile rs (cc) s R)
+fixed f profile (r ∷ rs) h s R {m} e = go (sameBytes (r .text) s) (within profile (r .profile)) e (fixed f profile rs (cc) s R)
   where
     head : f (r .rule) ≡ r .rule
     head = cc
 
-    go : (b d : Bool) → cond b (cond d (rule (r .rule)) unknown) (ruleIn profile rs s) ≡ rule R → (ruleIn profile rs s ≡ rule R → f R ≡ R) → f R ≡ R
+    go : (b d : Bool) → cond b (cond d (rule (r .rule) (r .running)) unknown) (ruleIn profile rs s) ≡ rule R m → (ruleIn profile rs s ≡ rule R m → f R ≡ R) → f R ≡ R
     go true true q later = let p : r .rule ≡ R = cc in rw p at head
     go true false q later = absurd (let z : _≡_ {A = ℕ} 0 1 = cc in omega arith)
     go false d q later = later q
 
 -- a rule that a name has is the one of its number
-pub rule-numbered : (profile : ℕ) (s : List ℕ) (R : Rule) → ruleOf profile s ≡ rule R → numbered (ruleNumber R) ≡ R
+pub rule-numbered : (profile : ℕ) (s : List ℕ) (R : Rule) {m : Bool} → ruleOf profile s ≡ rule R m → numbered (ruleNumber R) ≡ R
 unfolding names rulingNumber ruleNumber numbered rows rowAt
 rule-numbered profile s R e = fixed (λ (R : Rule). numbered (ruleNumber R)) profile names refl s R e
 
@@ -44,12 +44,16 @@ impossible : {P : Type 0} → _≡_ {A = ℕ} 0 1 → P
 impossible z = absurd (omega arith)
 
 module _ (profile : ℕ) (s : List ℕ) where
-  pub said-rule : (k : ℕ) → replied (ruleOf profile s) ≡ Is k → ruleOf profile s ≡ rule (numbered k)
+  pub said-rule : (k : ℕ) {m : Bool} → replied (ruleOf profile s) ≡ Is k m → ruleOf profile s ≡ rule (numbered k) m
   unfolding replied
-  said-rule k e = go (ruleOf profile s) refl e
+  said-rule k {m} e = go (ruleOf profile s) refl e
     where
-      go : (a : Named) → ruleOf profile s ≡ a → replied a ≡ Is k → ruleOf profile s ≡ rule (numbered k)
-      go (rule R) p q = let i : ruleNumber R ≡ k = cc in p ∙ ap rule (sym (rule-numbered profile s R p) ∙ ap numbered i)
+      go : (a : Named) → ruleOf profile s ≡ a → replied a ≡ Is k m → ruleOf profile s ≡ rule (numbered k) m
+      go (rule R d) p q =
+          let i : ruleNumber R ≡ k = cc in
+          let j : d ≡ m = cc in
+          let t : R ≡ numbered k = sym (rule-numbered profile s R p) ∙ ap numbered i in
+          p ∙ (λ x. rule (t x) (j x))
       go unknown p q = impossible (cc)
 
   pub said-unknown : replied (ruleOf profile s) ≡ Unknown → ruleOf profile s ≡ unknown
@@ -57,7 +61,7 @@ module _ (profile : ℕ) (s : List ℕ) where
   said-unknown e = go (ruleOf profile s) refl e
     where
       go : (a : Named) → ruleOf profile s ≡ a → replied a ≡ Unknown → ruleOf profile s ≡ unknown
-      go (rule R) p q = impossible (cc)
+      go (rule R d) p q = impossible (cc)
       go unknown p q = p
 
 -- a number by the tests that lead to its rule
@@ -95,11 +99,11 @@ again arrayLength = arrayLength
 again ldexp = ldexp
 again barrier = barrier
 
-name-again : (profile : ℕ) (s : List ℕ) (R : Rule) → ruleOf profile s ≡ rule R → again R ≡ R
+name-again : (profile : ℕ) (s : List ℕ) (R : Rule) {m : Bool} → ruleOf profile s ≡ rule R m → again R ≡ R
 unfolding names again rows rowAt
 name-again profile s R e = fixed again profile names refl s R e
 
-pub ruling-known : (profile : ℕ) (s : List ℕ) (r : Ruling) → ruleOf profile s ≡ rule (ruling r) → Known r
+pub ruling-known : (profile : ℕ) (s : List ℕ) (r : Ruling) {m : Bool} → ruleOf profile s ≡ rule (ruling r) m → Known r
 unfolding again Known
 ruling-known profile s (byRow r) e = let p : ruling (byRow (rowAt (r .number))) ≡ ruling (byRow r) = name-again profile s (ruling (byRow r)) e in cc
 ruling-known profile s address e = tt

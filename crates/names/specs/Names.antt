@@ -1,4 +1,5 @@
--- THE BUILTIN NAMES of document 01, "Builtins", and of document 02, K1: each with its profile and its rule, and the rule of any bytes that are offered as a name.
+-- THE BUILTIN NAMES of document 01, "Builtins", and of document 02, K1 and K3: each with its profile, its rule and whether its result is running, and the rule of any bytes
+-- that are offered as a name.
 -- Assumes nothing.
 use Prim.Native.Nat.{ℕ, _+_, _<_}
 use Prim.Native.String.{String}
@@ -17,22 +18,27 @@ pub data Rule : Type 0 where
   ruling : Ruling → Rule
   bitcast arrayLength ldexp barrier : Rule
 
--- a name: its bytes, the first profile that has it, and its rule
+-- a name: its bytes, the first profile that has it, its rule, and whether its result is running even where all operands are const
 pub record Name : Type 0 where
   pub text : List ℕ
   pub profile : ℕ
   pub rule : Rule
+  pub running : Bool
 
 -- a ruled name, with its row of `overload/specs/Rows.antt`; a name with a crate rule; and a name of profile 1
 
 abbrev pub ruled : String → Row → Name
-ruled text row = record { text = ascii text; profile = 0; rule = ruling (byRow row) }
+ruled text row = record { text = ascii text; profile = 0; rule = ruling (byRow row); running = false }
 
 abbrev pub crateRule : String → Rule → Name
-crateRule text rule = record { text = ascii text; profile = 0; rule = rule }
+crateRule text rule = record { text = ascii text; profile = 0; rule = rule; running = false }
 
 abbrev pub lanes : String → Row → Name
-lanes text row = record { text = ascii text; profile = 1; rule = ruling (byRow row) }
+lanes text row = record { text = ascii text; profile = 1; rule = ruling (byRow row); running = true }
+
+-- "Derivatives, barriers, arrayLength and subgroup or quad calls give running results even so": the last by their profile, and no barrier has a result
+abbrev pub whenRunning : Name → Name
+whenRunning r = record { text = r .text; profile = r .profile; rule = r .rule; running = true }
 
 -- "The 94 builtin names stand sorted by their bytes", and among them the 25 of subgroups and quads
 unfoldable pub names : List Name
@@ -42,7 +48,7 @@ names =
     ∷ ruled "acosh" oneFloat
     ∷ ruled "all" oneBool
     ∷ ruled "any" oneBool
-    ∷ crateRule "arrayLength" arrayLength
+    ∷ whenRunning (crateRule "arrayLength" arrayLength)
     ∷ ruled "asin" oneFloat
     ∷ ruled "asinh" oneFloat
     ∷ ruled "atan" oneFloat
@@ -63,12 +69,12 @@ names =
     ∷ ruled "dot" dotting
     ∷ ruled "dot4I8Packed" packedDotI32
     ∷ ruled "dot4U8Packed" packedDotU32
-    ∷ ruled "dpdx" oneF32
-    ∷ ruled "dpdxCoarse" oneF32
-    ∷ ruled "dpdxFine" oneF32
-    ∷ ruled "dpdy" oneF32
-    ∷ ruled "dpdyCoarse" oneF32
-    ∷ ruled "dpdyFine" oneF32
+    ∷ whenRunning (ruled "dpdx" oneF32)
+    ∷ whenRunning (ruled "dpdxCoarse" oneF32)
+    ∷ whenRunning (ruled "dpdxFine" oneF32)
+    ∷ whenRunning (ruled "dpdy" oneF32)
+    ∷ whenRunning (ruled "dpdyCoarse" oneF32)
+    ∷ whenRunning (ruled "dpdyFine" oneF32)
     ∷ ruled "exp" oneFloat
     ∷ ruled "exp2" oneFloat
     ∷ ruled "extractBits" extracting
@@ -79,9 +85,9 @@ names =
     ∷ ruled "fma" threeFloats
     ∷ ruled "fract" oneFloat
     ∷ ruled "frexp" frexpOf
-    ∷ ruled "fwidth" oneF32
-    ∷ ruled "fwidthCoarse" oneF32
-    ∷ ruled "fwidthFine" oneF32
+    ∷ whenRunning (ruled "fwidth" oneF32)
+    ∷ whenRunning (ruled "fwidthCoarse" oneF32)
+    ∷ whenRunning (ruled "fwidthFine" oneF32)
     ∷ ruled "insertBits" inserting
     ∷ ruled "inverseSqrt" oneFloat
     ∷ crateRule "ldexp" ldexp
@@ -174,12 +180,13 @@ sameBytes [] (y ∷ ys) = false
 sameBytes (x ∷ xs) [] = false
 sameBytes (x ∷ xs) (y ∷ ys) = both (eqb x y) (sameBytes xs ys)
 
+-- a rule, with whether the result is running even so; or none
 pub data Named : Type 0 where
-  rule : Rule → Named
+  rule : Rule → Bool → Named
   unknown : Named
 
 abbrev pub ruleFor : ℕ → Name → Named
-ruleFor profile r = cond (within profile (r .profile)) (rule (r .rule)) unknown
+ruleFor profile r = cond (within profile (r .profile)) (rule (r .rule) (r .running)) unknown
 
 unfoldable pub ruleIn : ℕ → List Name → List ℕ → Named
 ruleIn profile [] s = unknown
@@ -200,7 +207,7 @@ count = length names
 
 -- past the last stands an empty name
 abbrev pub noName : Name
-noName = record { text = []; profile = 0; rule = barrier }
+noName = record { text = []; profile = 0; rule = barrier; running = false }
 
 unfoldable pub nameAt : ℕ → List ℕ
 nameAt k = getD names k noName .text

@@ -1,4 +1,4 @@
-// Which rule the bytes that are offered as a builtin's name have in a profile.
+// Which rule the bytes that are offered as a builtin's name have in a profile, and whether the result is running even where all operands are const.
 mod tables;
 
 use tables::LINE_WIDTH;
@@ -26,8 +26,16 @@ pub const PROFILES: u32 = 2;
 // What names are filled up with: it is below every letter and digit.
 const BLANK: u8 = b' ';
 
+// Where a line's profile and its mark stand behind the number of its rule, and the mark of a result that is running.
+const PROFILE_AT: usize = 1;
+
+const MARK_AT: usize = 2;
+
+const MARK_RUNNING: u8 = 1;
+
+// The number of a rule, and whether its result is running even so.
 pub enum RuleNo {
-    Is(u8),
+    Is { rule: u8, running: bool },
     Unknown,
 }
 
@@ -85,7 +93,7 @@ fn row_of(rows: &[u8], name: &[u8], lines: usize) -> usize
     lines
 }
 
-// The number of the rule that the name with these bytes has in a profile. For the crates above, which lend the table: a host calls nothing of this crate.
+// The number of the rule that the name with these bytes has in a profile, and whether its result is running. For the crates above, which lend the table: a host calls nothing of this crate.
 pub fn rule_of(rows: &[u8], profile: u32, name: &[u8]) -> RuleNo
     requires { ⌜ now rows ≡ nameTable ⌝ }
     ensures { λ r. ⌜ r ≡ replied (ruleOf profile (now (name .entry))) ⌝ }
@@ -105,8 +113,11 @@ pub fn rule_of(rows: &[u8], profile: u32, name: &[u8]) -> RuleNo
         return RuleNo::Unknown;
     }
     let number = row * LINE_WIDTH + NAME_WIDTH;
-    if profile < cast::wide32(rows[number + 1]) {
+    if profile < cast::wide32(rows[number + PROFILE_AT]) {
         return RuleNo::Unknown;
     }
-    RuleNo::Is(rows[number])
+    RuleNo::Is {
+        rule: rows[number],
+        running: rows[number + MARK_AT] == MARK_RUNNING,
+    }
 }

@@ -5,3 +5,4 @@ pub mod Demand3
 pub mod OneReply
 pub mod Sixteen
 pub mod Growing
+pub mod Early

@@ -22,6 +22,8 @@ use Rattle.overload.proofs.Preference.{Sized, Beats, fine, allFine, or-
 use Rattle.overload.proofs.Families.{Good, good-in, every, every-at, every-in}
 use Rattle.overload.proofs.Fitting.{shape-of-fit, component-of-fit}
 use Rattle.overload.proofs.Listing.{Of, of-family, listed-of, to-listed}
+use Rattle.overload.specs.Marks.{passing}
+use Rattle.overload.proofs.Sieve.{narrow, narrow-good, ByT, to-narrow, narrow-preferred}
 use Rattle.overload.proofs.Demand3.{family-preferred}
 
 unfoldable anyOf : (ℕ → Bool) → List ℕ → Bool
@@ -184,26 +186,32 @@ module _ (row : ℕ) (xs : List Ty) where
           let m = ltb-false k l d in
           absurd (clash (familyAt row l) (familyAt row k) (good-in row l) (good-in row k) (pairs-at (rowAt row .families) (row-apart row) l k (omega arith) hk) xs o p mo mp ho hp)
 
+-- WHAT PASSES A TEST of a row
+module _ (row : ℕ) (xs : List Ty) (test : Overload → Bool) where
   -- what is preferred in a family of the row is preferred in the row
-  pub row-of-family : (k : ℕ) → k < length (rowAt row .families) → (o : Overload) → Preferred (listed (ofFamily (familyAt row k))) xs o → Preferred (ofRow (rowAt row)) xs o
+  pub row-of-family : (k : ℕ) → k < length (rowAt row .families) → (o : Overload) → Preferred (passing test (listed (ofFamily (familyAt row k)))) xs o → Preferred (passing test (ofRow (rowAt row))) xs o
   row-of-family k hk o q =
       record {
-        among = to-listed (rowAt row .families) k o hk (q .among);
+        among = (to-listed (rowAt row .families) k o hk (q .among .0), q .among .1);
         fitting = q .fitting;
         over = λ p m h.
-            let r = listed-of (rowAt row .families) p m in
-            let e = one-family (r .0) k (r .1) hk p o (r .2) (q .among) h (q .fitting) in
-            q .over p (subst (λ (l : ℕ). List·Memᴰ p (ofFamily (familyAt row l))) e (r .2)) h;
+            let r = listed-of (rowAt row .families) p (m .0) in
+            let e = one-family row xs (r .0) k (r .1) hk p o (r .2) (q .among .0) h (q .fitting) in
+            q .over p (subst (λ (l : ℕ). List·Memᴰ p (ofFamily (familyAt row l))) e (r .2), m .1) h;
       }
 
-  -- where an overload of a row fits one is preferred
-  pub some-preferred : (p : Overload) → ofRow (rowAt row) p → T (fits (p .params) xs) → (o : Overload) × Preferred (ofRow (rowAt row)) xs o
-  some-preferred p m h =
-      let r = listed-of (rowAt row .families) p m in
-      let q = family-preferred (familyAt row (r .0)) (good-in row (r .0)) xs p (r .2) h in
-      (q .0, row-of-family (r .0) (r .1) (q .0) (q .1))
+  -- by a test that goes by T in each family
+  module _ (flag : ℕ → Bool) (law : (k : ℕ) → ByT test (familyAt row k) (flag k)) where
+    -- where an overload that passes fits one is preferred
+    pub some-preferred : (p : Overload) → passing test (ofRow (rowAt row)) p → T (fits (p .params) xs) → (o : Overload) × Preferred (passing test (ofRow (rowAt row))) xs o
+    some-preferred p m h =
+        let r = listed-of (rowAt row .families) p (m .0) in
+        let k = r .0 in
+        let f = familyAt row k in
+        let q = family-preferred (narrow (flag k) f) (narrow-good (flag k) f (good-in row k)) xs p (to-narrow test f (flag k) (law k) p (r .2, m .1)) h in
+        (q .0, row-of-family k (r .1) (q .0) (narrow-preferred test f (flag k) (law k) xs (q .0) (q .1)))
 
-  -- REFUSAL 13 IS NEVER GIVEN
-  pub row-never : Resolved (ofRow (rowAt row)) xs nonePreferred → ⊥
-  unfolding Resolved
-  row-never q = let o = some-preferred (q .0 .0) (q .0 .1) (q .0 .2) in q .1 (o .0) (o .1)
+    -- REFUSAL 13 IS NEVER GIVEN
+    pub row-never : Resolved (passing test (ofRow (rowAt row))) xs nonePreferred → ⊥
+    unfolding Resolved
+    row-never q = let o = some-preferred (q .0 .0) (q .0 .1) (q .0 .2) in q .1 (o .0) (o .1)

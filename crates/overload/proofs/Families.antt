@@ -166,12 +166,16 @@ pub record Good (f : Family) : Type 0 where
   pub single : pivotNo f ≡ 3 → length (f .sizes) ≡ 1
   pub fair : (z : Size) → List·Memᴰ z (f .sizes) → Fair f z
 
-below-in : (set : List ℕ) → T (every below7 set) → (t : ℕ) → T (member t set) → t < 7
+-- a test of every member of a set
+pub every-member : (g : ℕ → Bool) (set : List ℕ) → T (every g set) → (t : ℕ) → T (member t set) → T (g t)
 unfolding every member
-below-in [] h t m = absurd m
-below-in (u ∷ us) h t m =
-    ⊎-elim (λ e. let q = eqb→eq t u e in let l = ltb→lt u 7 (both-left _ _ h) in omega arith) (λ n. below-in us (both-right (ltb u 7) _ h) t n)
+every-member g [] h t m = absurd m
+every-member g (u ∷ us) h t m =
+    ⊎-elim (λ e. subst (λ (k : ℕ). T (g k)) (sym (eqb→eq t u e)) (both-left _ _ h)) (λ n. every-member g us (both-right (g u) _ h) t n)
     (or-cases (eqb t u) (member t us) m)
+
+below-in : (set : List ℕ) → T (every below7 set) → (t : ℕ) → T (member t set) → t < 7
+below-in set h t m = ltb→lt t 7 (every-member below7 set h t m)
 
 good-of : (f : Family) → T (familyTest f) → Good f
 unfolding familyTest
@@ -203,7 +207,7 @@ good-in row k =
     (every-at familyTest noFamily (rowAt row .families) none-there (every-at rowsTest noRow rows no-rows computed row) k)
 
 -- and of all
-joined-every : (g : Family → Bool) (rs : List Row) → T (every (λ (r : Row). every g (r .families)) rs) → T (every g (joined rs))
+pub joined-every : (g : Family → Bool) (rs : List Row) → T (every (λ (r : Row). every g (r .families)) rs) → T (every g (joined rs))
 unfolding every joined
 joined-every g [] h = tt
 joined-every g (r ∷ rs) h = both-lists (r .families) (both-left _ _ h) (joined-every g rs (both-right (every g (r .families)) _ h))

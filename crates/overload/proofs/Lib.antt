@@ -3,12 +3,14 @@ pub mod Listing
 pub mod Families
 pub mod First
 pub mod Fitting
+pub mod Sieve
 pub mod Demand3
 pub mod Apart
 pub mod Places
 pub mod Counts
 pub mod ListedOnce
 pub mod Judge
+pub mod Marks
 pub mod Described
 pub mod Results
 pub mod Operands

@@ -14,8 +14,8 @@ use Rattle.conv.specs.Rank.Shape.{one, vector, matrix, other}
 use Rattle.conv.proofs.Finite.{below}
 use Rattle.conv.proofs.Made.{shape-made, component-made}
 use Rattle.overload.specs.Overload.Judged.{gives}
-use Rattle.overload.specs.Rows.{judgeRow, rowAt, operandCount}
-use Rattle.overload.specs.inner.Code.{shapeOfNo, shapeNo, operand, codeOf, outOf, judgedOf}
+use Rattle.overload.specs.Rows.{rowAt, operandCount}
+use Rattle.overload.specs.inner.Code.{shapeOfNo, shapeNo, operand, codeOf, kept, judgeKept, outOf, judgedOf}
 use Rattle.overload.specs.declared.Out.{Out}
 use Rattle.overload.specs.declared.Out.the-variants.{Plain, Frexp, Modf}
 use Rattle.overload.specs.declared.Resolution.{Resolution}
@@ -105,20 +105,20 @@ out-one (Modf x) (Modf y) f t g u e = ap Modf (same-number x y (small-fract x (f
 gives-one : {R Q : Ty} → gives R ≡ gives Q → R ≡ Q
 gives-one e = cc
 
-pub resolve-one : (row : ℕ) (xs : List ℕ) (r s : Resolution) → judgedOf r ≡ judgeRow (rowAt row) (map operand xs) → judgedOf s ≡ judgeRow (rowAt row) (map operand xs) → r ≡ s
+pub resolve-one : (row : ℕ) (running : Bool) (xs : List ℕ) (r s : Resolution) → judgedOf r ≡ judgeKept running (rowAt row) (map operand xs) → judgedOf s ≡ judgeKept running (rowAt row) (map operand xs) → r ≡ s
 unfolding judgedOf
-resolve-one row xs (Gives a) (Gives b) p q =
-    let f = gives-formed row (map operand xs) (outOf a) (sym p) in
-    let g = gives-formed row (map operand xs) (outOf b) (sym q) in
+resolve-one row running xs (Gives a) (Gives b) p q =
+    let f = gives-formed row (kept running) (map operand xs) (outOf a) (sym p) in
+    let g = gives-formed row (kept running) (map operand xs) (outOf b) (sym q) in
     ap Gives (out-one a b (f .0) (f .1) (g .0) (g .1) (gives-one (p ∙ sym q)))
-resolve-one row xs (Gives a) NoneFits p q = absurd (let e = p ∙ sym q in let z : _≡_ {A = ℕ} 0 1 = cc in omega arith)
-resolve-one row xs (Gives a) NonePreferred p q = absurd (let e = p ∙ sym q in let z : _≡_ {A = ℕ} 0 1 = cc in omega arith)
-resolve-one row xs NoneFits (Gives b) p q = absurd (let e = p ∙ sym q in let z : _≡_ {A = ℕ} 0 1 = cc in omega arith)
-resolve-one row xs NoneFits NoneFits p q = refl
-resolve-one row xs NoneFits NonePreferred p q = absurd (let e = p ∙ sym q in let z : _≡_ {A = ℕ} 0 1 = cc in omega arith)
-resolve-one row xs NonePreferred (Gives b) p q = absurd (let e = p ∙ sym q in let z : _≡_ {A = ℕ} 0 1 = cc in omega arith)
-resolve-one row xs NonePreferred NoneFits p q = absurd (let e = p ∙ sym q in let z : _≡_ {A = ℕ} 0 1 = cc in omega arith)
-resolve-one row xs NonePreferred NonePreferred p q = refl
+resolve-one row running xs (Gives a) NoneFits p q = absurd (let e = p ∙ sym q in let z : _≡_ {A = ℕ} 0 1 = cc in omega arith)
+resolve-one row running xs (Gives a) NonePreferred p q = absurd (let e = p ∙ sym q in let z : _≡_ {A = ℕ} 0 1 = cc in omega arith)
+resolve-one row running xs NoneFits (Gives b) p q = absurd (let e = p ∙ sym q in let z : _≡_ {A = ℕ} 0 1 = cc in omega arith)
+resolve-one row running xs NoneFits NoneFits p q = refl
+resolve-one row running xs NoneFits NonePreferred p q = absurd (let e = p ∙ sym q in let z : _≡_ {A = ℕ} 0 1 = cc in omega arith)
+resolve-one row running xs NonePreferred (Gives b) p q = absurd (let e = p ∙ sym q in let z : _≡_ {A = ℕ} 0 1 = cc in omega arith)
+resolve-one row running xs NonePreferred NoneFits p q = absurd (let e = p ∙ sym q in let z : _≡_ {A = ℕ} 0 1 = cc in omega arith)
+resolve-one row running xs NonePreferred NonePreferred p q = refl
 
 pub operand-count-one : (row r s : ℕ) → r ≡ operandCount (rowAt row) → s ≡ operandCount (rowAt row) → r ≡ s
 operand-count-one row r s p q = p ∙ sym q

@@ -16,14 +16,15 @@ use Rattle.conv.proofs.Finite.{both-left, both-right}
 use Rattle.conv.proofs.Made.{made-rank, shape-made}
 use Rattle.overload.specs.Overload.{Overload, fits, noMore, less, or, Preferred, Judged, Resolved}
 use Rattle.overload.specs.Overload.Judged.{gives, noneFits, nonePreferred}
-use Rattle.overload.specs.Rows.{Size, Pattern, formAt, componentAt, patternTy, overloadsOf, ofRow, judgeRow, rowAt}
-use Rattle.overload.specs.inner.Code.{shapeOfNo, shapeNo, operand, codeOf}
+use Rattle.overload.specs.Marks.{passing}
+use Rattle.overload.specs.Rows.{Size, Pattern, formAt, componentAt, patternTy, overloadsOf, ofRow, rowAt}
+use Rattle.overload.specs.inner.Code.{shapeOfNo, shapeNo, operand, codeOf, kept, judgeKept}
 use Rattle.overload.proofs.Preference.{Sized, fine, allFine, form-small, component-small}
 use Rattle.overload.proofs.Slots.{by-shape}
 use Rattle.overload.proofs.Families.{good-in}
 use Rattle.overload.proofs.Listing.{listed-of, of-family}
 use Rattle.overload.proofs.Apart.{familyAt, row-never}
-use Rattle.overload.proofs.Judge.{judge-resolved, judge-is}
+use Rattle.overload.proofs.Marks.{kept-in, kept-resolved, kept-is}
 
 -- THE NUMBER OF A TYPE
 
@@ -221,33 +222,33 @@ less-by (x ∷ xs) (p ∷ ps) [] m n f = refl
 less-by (x ∷ xs) (p ∷ ps) (q ∷ qs) m n f =
     (λ i. or (ltb (rank-alike x p (and-left _ _ f) (m .0) i) (rank-alike x q (and-left _ _ f) (n .0) i)) (less-by xs ps qs (m .1) (n .1) (and-right (formed x) _ f) i))
 
-module _ (ts : List Ty) (f : allFormed ts ≡ true) where
-  module _ (row : ℕ) where
-    -- what is preferred by the numbers is preferred by the types
-    pub preferred-types : (o : Overload) → Preferred (ofRow (rowAt row)) (map operand (codesOf ts)) o → Preferred (ofRow (rowAt row)) ts o
-    preferred-types o q =
-        let a = params-of row o (q .among) in
-        record {
-          among = q .among;
-          fitting = subst T (sym (fits-by (o .params) ts a f)) (q .fitting);
-          over = λ p m h.
-              let b = params-of row p m in
-              ⊎-elim inl (λ l. inr (subst T (sym (no-more-by ts (o .params) (p .params) a b f)) (l .0), subst T (sym (less-by ts (o .params) (p .params) a b f)) (l .1)))
-              (q .over p m (subst T (fits-by (p .params) ts b f) h));
-        }
+module _ (ts : List Ty) (f : allFormed ts ≡ true) (row : ℕ) (running : Bool) where
+  -- the overloads of a row that the engine looks at
+  abbrev Looked : Overload → Type 0
+  Looked = passing (kept running) (ofRow (rowAt row))
 
-    -- and every judgment by the numbers is one by the types
-    pub resolved-types : (r : Judged) → Resolved (ofRow (rowAt row)) (map operand (codesOf ts)) r → Resolved (ofRow (rowAt row)) ts r
-    unfolding Resolved
-    resolved-types (gives t) q = (q .0, preferred-types (q .0) (q .1), q .2)
-    resolved-types noneFits q = λ p m h. q p m (subst T (fits-by (p .params) ts (params-of row p m) f) h)
-    resolved-types nonePreferred q = absurd (row-never row (map operand (codesOf ts)) q)
+  -- what is preferred by the numbers is preferred by the types
+  pub preferred-types : (o : Overload) → Preferred (passing (kept running) (ofRow (rowAt row))) (map operand (codesOf ts)) o → Preferred (passing (kept running) (ofRow (rowAt row))) ts o
+  preferred-types o q =
+      let a = params-of row o (q .among .0) in
+      record {
+        among = q .among;
+        fitting = subst T (sym (fits-by (o .params) ts a f)) (q .fitting);
+        over = λ p m h.
+            let b = params-of row p (m .0) in
+            ⊎-elim inl (λ l. inr (subst T (sym (no-more-by ts (o .params) (p .params) a b f)) (l .0), subst T (sym (less-by ts (o .params) (p .params) a b f)) (l .1)))
+            (q .over p m (subst T (fits-by (p .params) ts b f) h));
+      }
 
-    -- REFUSAL 13 IS NEVER GIVEN: where overloads of a row fit one is preferred
-    pub never-thirteen : Resolved (ofRow (rowAt row)) ts nonePreferred → ⊥
-    never-thirteen q = row-never row ts q
+  -- and every judgment by the numbers is one by the types
+  resolved-types : (r : Judged) → Resolved Looked (map operand (codesOf ts)) r → Resolved Looked ts r
+  unfolding Resolved
+  resolved-types (gives t) q = (q .0, preferred-types (q .0) (q .1), q .2)
+  resolved-types noneFits q = λ p m h. q p m (subst T (fits-by (p .params) ts (params-of row p (m .0)) f) h)
+  resolved-types nonePreferred q = absurd (row-never row (map operand (codesOf ts)) (kept running) (λ k. running) (kept-in running row) q)
 
-    -- so the definition judges the types as it judges the numbers
-    pub judge-types : judgeRow (rowAt row) (map operand (codesOf ts)) ≡ judgeRow (rowAt row) ts
-    judge-types =
-        judge-is (overloadsOf (rowAt row)) ts (judgeRow (rowAt row) (map operand (codesOf ts))) (resolved-types (judgeRow (rowAt row) (map operand (codesOf ts))) (judge-resolved (overloadsOf (rowAt row)) (map operand (codesOf ts))))
+  -- so the definition judges the types as it judges the numbers
+  pub judge-types : judgeKept running (rowAt row) (map operand (codesOf ts)) ≡ judgeKept running (rowAt row) ts
+  judge-types =
+      kept-is row running ts (judgeKept running (rowAt row) (map operand (codesOf ts)))
+      (resolved-types (judgeKept running (rowAt row) (map operand (codesOf ts))) (kept-resolved row running (map operand (codesOf ts))))

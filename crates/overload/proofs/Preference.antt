@@ -75,6 +75,19 @@ module _ (set : Overload → Type 0) (xs : List Ty) where
   one-judgment nonePreferred noneFits a b = absurd (b (a .0 .0) (a .0 .1) (a .0 .2))
   one-judgment nonePreferred nonePreferred a b = refl
 
+-- two sets that have the same fitting overloads have one judgment
+module _ (set other : Overload → Type 0) (xs : List Ty) (to : (p : Overload) → T (fits (p .params) xs) → set p → other p) (back : (p : Overload) → T (fits (p .params) xs) → other p → set p) where
+  pub same-preferred : (o : Overload) → Preferred set xs o → Preferred other xs o
+  same-preferred o q = record { among = to o (q .fitting) (q .among); fitting = q .fitting; over = λ p m h. q .over p (back p h m) h }
+
+module _ (set other : Overload → Type 0) (xs : List Ty) (to : (p : Overload) → T (fits (p .params) xs) → set p → other p) (back : (p : Overload) → T (fits (p .params) xs) → other p → set p) where
+  pub same-resolved : (r : Judged) → Resolved set xs r → Resolved other xs r
+  unfolding Resolved
+  same-resolved (gives t) q = (q .0, same-preferred set other xs to back (q .0) (q .1), q .2)
+  same-resolved noneFits q = λ p m h. q p (back p h m) h
+  same-resolved nonePreferred q =
+      ((q .0 .0, to (q .0 .0) (q .0 .2) (q .0 .1), q .0 .2), λ o p. q .1 o (same-preferred other set xs back to o p))
+
 -- ONE PARAMETER
 
 pub pick-test : (b : Bool) (r : ℕ) → T (ltb (pick b r none) none) → T b

@@ -19,12 +19,13 @@ use Rattle.conv.proofs.Finite.{both-left, both-pair, implies, modus, below}
 use Rattle.conv.proofs.Made.{shape-made, same-shape-self}
 use Rattle.overload.specs.Overload.{Overload, or, fits, listed, Resolved}
 use Rattle.overload.specs.Overload.Judged.{noneFits}
+use Rattle.overload.specs.Marks.{passing}
 use Rattle.overload.specs.Rows.{Size, size, Form, Wrap, Family, Component, formAt, componentAt, patternTy, overload, wrapped, ofFamily, ofRow, rowAt, rows, overloadsOf}
 use Rattle.overload.specs.Rows.Form.{sized, left}
 use Rattle.overload.specs.Rows.Component.{ofT, ofI, expT, just}
 use Rattle.overload.specs.Rows.Wrap.{bare, inFrexp, inModf}
 use Rattle.overload.specs.inner.Code as code
-use Rattle.overload.specs.inner.Code.{shapeOfNo, shapeNo, operand, sizeNo, sizeOfNo, sameSize, memSize, sizesOf, formNo, formOfNo, componentNo, wrapNo, askedOf, familyOf, firstParam, lastParam, pivotNo, sizeAt, encode, digitOf, has, member, setOf, firstWith, preference, fitsAt, firstX, lastX, formsOf, placeOf, stopOf, noPlace, outOf, triedOf, judgedOf}
+use Rattle.overload.specs.inner.Code.{shapeOfNo, shapeNo, operand, sizeNo, sizeOfNo, sameSize, memSize, sizesOf, formNo, formOfNo, componentNo, wrapNo, askedOf, familyOf, firstParam, lastParam, pivotNo, sizeAt, encode, digitOf, has, member, setOf, firstWith, preference, fitsAt, firstX, lastX, formsOf, placeOf, stopOf, noPlace, kept, outOf, triedOf, judgedOf}
 use Rattle.overload.specs.declared.Out.{Out}
 use Rattle.overload.specs.declared.Tried.{Tried}
 use Rattle.overload.specs.declared.Tried.the-variants.{Fits, Not}
@@ -36,6 +37,8 @@ use Rattle.overload.proofs.Families.{Good, good, good-in, Fair, plainC,
 use Rattle.overload.proofs.Fitting.{nobody, firstTy, lastTy, sizeOfXs, forms-of-fit, first-shape, last-shape}
 use Rattle.overload.proofs.Listing.{of-family, listed-of}
 use Rattle.overload.proofs.Demand3.{Fitted, takes, count-apart, size-apart, no-T, no-I, small-T, small-I, first-preferred}
+use Rattle.overload.proofs.Sieve.{leftSet, narrow, narrow-good, narrow-resolved}
+use Rattle.overload.proofs.Marks.{kept-of}
 use Rattle.overload.proofs.Apart.{familyAt, row-of-family}
 use Rattle.overload.proofs.Places.{Way, way, place-within, stop-within}
 use Rattle.overload.proofs.Sets.{has-and}
@@ -223,22 +226,36 @@ module _ (t : Ty) where
 
 -- ONE FAMILY: it does not fit, or the preferred overload's result
 
-abbrev pub Family-judged : ℕ → List ℕ → Tried → Type 0
-Family-judged f xs r = Resolved (listed (ofFamily (familyOf f))) (map operand xs) (triedOf r)
+abbrev pub Family-judged : ℕ → Bool → List ℕ → Tried → Type 0
+Family-judged f running xs r = Resolved (passing (kept running) (listed (ofFamily (familyOf f)))) (map operand xs) (triedOf r)
 
-module _ (f : ℕ) (xs : List ℕ) where
-  pub not-so-many : digitOf f 0 ≢ length xs → Family-judged f xs Not
+module _ (f : ℕ) (running : Bool) (xs : List ℕ) where
+  abbrev fam : Family
+  fam = narrow running (familyOf f)
+
+  fam-good : Good (narrow running (familyOf f))
+  fam-good = narrow-good running (familyOf f) (good f)
+
+  fam-size : sizeOfXs (familyOf f) (map operand xs) ≡ sizeOfXs (narrow running (familyOf f)) (map operand xs)
+  unfolding pivotNo
+  fam-size = refl
+
+  judged : (r : Tried) → Resolved (listed (ofFamily fam)) (map operand xs) (triedOf r) → Family-judged f running xs r
+  judged r q = narrow-resolved (kept running) (familyOf f) running (kept-of running f) (map operand xs) (triedOf r) q
+
+  pub not-so-many : digitOf f 0 ≢ length xs → Family-judged f running xs Not
   unfolding triedOf
-  not-so-many h = count-apart (familyOf f) (good f) (map operand xs) (λ e. h (count-digit f ∙ sym e ∙ length-map xs operand))
+  not-so-many h = judged Not (count-apart fam fam-good (map operand xs) (λ e. h (count-digit f ∙ sym e ∙ length-map xs operand)))
 
   module _ (n : ℕ) (e : sizeOfNo n ≡ sizeOfXs (familyOf f) (map operand xs)) where
-    pub not-that-size : memSize (sizeOfNo n) (familyOf f .sizes) ≡ false → Family-judged f xs Not
+    pub not-that-size : memSize (sizeOfNo n) (familyOf f .sizes) ≡ false → Family-judged f running xs Not
     unfolding triedOf
     not-that-size h =
-        size-apart (familyOf f) (good f) (map operand xs)
+        judged Not
+        (size-apart fam fam-good (map operand xs)
         (λ m.
-        let k = subst (λ (z : Size). List·Memᴰ z (familyOf f .sizes)) (sym e) m in
-        subst T h (size-mem (sizeOfNo n) (familyOf f .sizes) (good f .fair (sizeOfNo n) k .sized) k))
+        let k = subst (λ (z : Size). List·Memᴰ z (familyOf f .sizes)) (sym (e ∙ fam-size)) m in
+        subst T h (size-mem (sizeOfNo n) (familyOf f .sizes) (good f .fair (sizeOfNo n) k .sized) k)))
 
     module _ (mn : T (memSize (sizeOfNo n) (familyOf f .sizes))) (P Q : ℕ) (law : (t i : ℕ) → t < 7 → i < 7 → fitsAt (familyOf f) n t i xs ≡ both (has P t) (has Q i)) where
       m : List·Memᴰ (sizeOfNo n) (familyOf f .sizes)
@@ -248,53 +265,54 @@ module _ (f : ℕ) (xs : List ℕ) where
       first-in : (set : List ℕ) (a s : ℕ) → ((t : ℕ) → t < 7 → has a t ≡ member t set) → firstWith preference (takes set (has s)) ≡ firstWith preference (has (bitAnd a s))
       first-in set a s e = same-first _ _ (λ t h. ap (λ (c : Bool). both c (has s t)) (sym (e t h)) ∙ sym (has-and a s t))
 
-      pub not-at-T : (a : ℕ) → ((t : ℕ) → t < 7 → has a t ≡ member t (familyOf f .set)) → firstWith preference (has (bitAnd a P)) ≡ none → Family-judged f xs Not
+      pub not-at-T : (a : ℕ) → ((t : ℕ) → t < 7 → has a t ≡ member t (leftSet running (familyOf f .set))) → firstWith preference (has (bitAnd a P)) ≡ none → Family-judged f running xs Not
       unfolding triedOf
-      not-at-T a ea q = no-T (familyOf f) (good f) (map operand xs) (sizeOfNo n) e m (has P) (has Q) law (first-in (familyOf f .set) a P ea ∙ q)
+      not-at-T a ea q = judged Not (no-T fam fam-good (map operand xs) (sizeOfNo n) (e ∙ fam-size) m (has P) (has Q) law (first-in (leftSet running (familyOf f .set)) a P ea ∙ q))
 
-      pub not-at-I : (b : ℕ) → ((i : ℕ) → i < 7 → has b i ≡ member i (familyOf f .second)) → firstWith preference (has (bitAnd b Q)) ≡ none → Family-judged f xs Not
+      pub not-at-I : (b : ℕ) → ((i : ℕ) → i < 7 → has b i ≡ member i (familyOf f .second)) → firstWith preference (has (bitAnd b Q)) ≡ none → Family-judged f running xs Not
       unfolding triedOf
-      not-at-I b eb q = no-I (familyOf f) (good f) (map operand xs) (sizeOfNo n) e m (has P) (has Q) law (first-in (familyOf f .second) b Q eb ∙ q)
+      not-at-I b eb q = judged Not (no-I fam fam-good (map operand xs) (sizeOfNo n) (e ∙ fam-size) m (has P) (has Q) law (first-in (familyOf f .second) b Q eb ∙ q))
 
-      module _ (a b : ℕ) (ea : (t : ℕ) → t < 7 → has a t ≡ member t (familyOf f .set)) (eb : (i : ℕ) → i < 7 → has b i ≡ member i (familyOf f .second))
+      module _ (a b : ℕ) (ea : (t : ℕ) → t < 7 → has a t ≡ member t (leftSet running (familyOf f .set))) (eb : (i : ℕ) → i < 7 → has b i ≡ member i (familyOf f .second))
           (t i : ℕ) (et : t ≡ firstWith preference (has (bitAnd a P))) (ei : i ≡ firstWith preference (has (bitAnd b Q))) (nt : t ≢ none) (ni : i ≢ none) where
-        first-T : firstWith preference (takes (familyOf f .set) (has P)) ≡ t
-        first-T = first-in (familyOf f .set) a P ea ∙ sym et
+        first-T : firstWith preference (takes (leftSet running (familyOf f .set)) (has P)) ≡ t
+        first-T = first-in (leftSet running (familyOf f .set)) a P ea ∙ sym et
 
         first-I : firstWith preference (takes (familyOf f .second) (has Q)) ≡ i
         first-I = first-in (familyOf f .second) b Q eb ∙ sym ei
 
         pub T-small : t < 7
-        T-small = small-T (familyOf f) (good f) (map operand xs) (sizeOfNo n) e m (has P) (has Q) law t i first-T first-I nt ni
+        T-small = small-T fam fam-good (map operand xs) (sizeOfNo n) (e ∙ fam-size) m (has P) (has Q) law t i first-T first-I nt ni
 
         pub I-small : i < 7
-        I-small = small-I (familyOf f) (good f) (map operand xs) (sizeOfNo n) e m (has P) (has Q) law t i first-T first-I nt ni
+        I-small = small-I fam fam-good (map operand xs) (sizeOfNo n) (e ∙ fam-size) m (has P) (has Q) law t i first-T first-I nt ni
 
-        pub it-fits : (o : Out) → outOf o ≡ wrapped (familyOf f .wrap) (patternTy (sizeOfNo n) t i (familyOf f .result)) → Family-judged f xs (Fits o)
+        pub it-fits : (o : Out) → outOf o ≡ wrapped (familyOf f .wrap) (patternTy (sizeOfNo n) t i (familyOf f .result)) → Family-judged f running xs (Fits o)
         unfolding triedOf Resolved
         it-fits o r =
-            (overload (familyOf f) t i (sizeOfNo n), first-preferred (familyOf f) (good f) (map operand xs) (sizeOfNo n) e m (has P) (has Q) law t i first-T first-I nt ni, r)
+            judged (Fits o)
+            (overload (familyOf f) t i (sizeOfNo n), first-preferred fam fam-good (map operand xs) (sizeOfNo n) (e ∙ fam-size) m (has P) (has Q) law t i first-T first-I nt ni, r)
 
 -- A ROW
 
-abbrev pub Row-judged : ℕ → List ℕ → Resolution → Type 0
-Row-judged row xs r = Resolved (ofRow (rowAt row)) (map operand xs) (judgedOf r)
+abbrev pub Row-judged : ℕ → Bool → List ℕ → Resolution → Type 0
+Row-judged row running xs r = Resolved (passing (kept running) (ofRow (rowAt row))) (map operand xs) (judgedOf r)
 
 -- the family at a place of a row does not fit
-abbrev pub Out-of : ℕ → List ℕ → ℕ → Type 0
-Out-of row xs k = Resolved (listed (ofFamily (familyAt row k))) (map operand xs) noneFits
+abbrev pub Out-of : ℕ → Bool → List ℕ → ℕ → Type 0
+Out-of row running xs k = Resolved (passing (kept running) (listed (ofFamily (familyAt row k)))) (map operand xs) noneFits
 
 -- the places of the families before k that are tried do not fit
-pub record Trying (row : ℕ) (xs : List ℕ) (place k : ℕ) : Type 0 where
+pub record Trying (row : ℕ) (running : Bool) (xs : List ℕ) (place k : ℕ) : Type 0 where
   pub from : place ≤ k
   pub within : k < length (rowAt row .families)
-  pub tried : (l : ℕ) → place ≤ l → l < k → Out-of row xs l
+  pub tried : (l : ℕ) → place ≤ l → l < k → Out-of row running xs l
 
 -- a shape from 13 on has no form that a family has
 pub other-form : (k : ℕ) → 13 ≤ k → formOf (shapeOfNo k) ≡ 3
 other-form k h = ap formOf (beyond k h)
 
-module _ (row : ℕ) (xs : List ℕ) where
+module _ (row : ℕ) (running : Bool) (xs : List ℕ) where
   forms-are : 3 * formOf (shapeOf (firstTy (map operand xs))) + formOf (shapeOf (lastTy (map operand xs))) ≡ formsOf xs
   forms-are = λ j. 3 * formOf (first-at xs j) + formOf (last-at xs j)
 
@@ -326,21 +344,21 @@ module _ (row : ℕ) (xs : List ℕ) where
             (way row (r .0) (q .z) (r .1) (q .inSizes));
       }
 
-  nothing : ((p : Overload) → Tried-at p → T (fits (p .params) (map operand xs)) → ⊥) → Row-judged row xs NoneFits
+  nothing : ((p : Overload) → Tried-at p → T (kept running p) → T (fits (p .params) (map operand xs)) → ⊥) → Row-judged row running xs NoneFits
   unfolding Resolved judgedOf
-  nothing n p m h = n p (tried-at p m h) h
+  nothing n p m h = n p (tried-at p (m .0) h) (m .1) h
 
-  pub first-apart : 13 ≤ firstX xs / 7 → Row-judged row xs NoneFits
-  first-apart h = nothing (λ p t k. let l = ltb→lt (formOf (shapeOfNo (firstX xs / 7))) 3 (t .first) in let e = other-form (firstX xs / 7) h in omega arith)
+  pub first-apart : 13 ≤ firstX xs / 7 → Row-judged row running xs NoneFits
+  first-apart h = nothing (λ p t g k. let l = ltb→lt (formOf (shapeOfNo (firstX xs / 7))) 3 (t .first) in let e = other-form (firstX xs / 7) h in omega arith)
 
-  pub last-apart : 13 ≤ lastX xs / 7 → Row-judged row xs NoneFits
-  last-apart h = nothing (λ p t k. let l = ltb→lt (formOf (shapeOfNo (lastX xs / 7))) 3 (t .last) in let e = other-form (lastX xs / 7) h in omega arith)
+  pub last-apart : 13 ≤ lastX xs / 7 → Row-judged row running xs NoneFits
+  last-apart h = nothing (λ p t g k. let l = ltb→lt (formOf (shapeOfNo (lastX xs / 7))) 3 (t .last) in let e = other-form (lastX xs / 7) h in omega arith)
 
   module _ (place : ℕ) (e : place ≡ placeOf (formsOf xs) (rowAt row .families) 0) where
-    pub no-place : place ≡ noPlace → Row-judged row xs NoneFits
-    no-place q = nothing (λ p t k. t .its-way .there (sym e ∙ q))
+    pub no-place : place ≡ noPlace → Row-judged row running xs NoneFits
+    no-place q = nothing (λ p t g k. t .its-way .there (sym e ∙ q))
 
-    pub first-try : place ≢ noPlace → Trying row xs place place
+    pub first-try : place ≢ noPlace → Trying row running xs place place
     first-try n =
         record {
           from = omega arith;
@@ -348,29 +366,29 @@ module _ (row : ℕ) (xs : List ℕ) where
           tried = λ l a b. absurd (omega arith);
         }
 
-    module _ (k : ℕ) (g : Trying row xs place k) where
-      before : Out-of row xs k → (l : ℕ) → place ≤ l → l < k + 1 → Out-of row xs l
-      before o l a b = ⊎-elim (λ q. subst (Out-of row xs) (sym q) o) (g .tried l a) (eq-or-lt-of-le (le-of-suc-le-suc (subst (λ (m : ℕ). l < m) (add-one k) b)))
+    module _ (k : ℕ) (g : Trying row running xs place k) where
+      before : Out-of row running xs k → (l : ℕ) → place ≤ l → l < k + 1 → Out-of row running xs l
+      before o l a b = ⊎-elim (λ q. subst (Out-of row running xs) (sym q) o) (g .tried l a) (eq-or-lt-of-le (le-of-suc-le-suc (subst (λ (m : ℕ). l < m) (add-one k) b)))
 
-      module _ (stop : ℕ) (s : stop ≡ stopOf (rowAt row .families)) (o : Out-of row xs k) where
-        pub next-try : k + 1 < stop → Trying row xs place (k + 1)
+      module _ (stop : ℕ) (s : stop ≡ stopOf (rowAt row .families)) (o : Out-of row running xs k) where
+        pub next-try : k + 1 < stop → Trying row running xs place (k + 1)
         next-try h = let l = stop-within (rowAt row .families) in let f = g .from in record { from = omega arith; within = omega arith; tried = before o }
 
-        out-of : (l : ℕ) → Out-of row xs l → (p : Overload) → List·Memᴰ p (ofFamily (familyAt row l)) → T (fits (p .params) (map operand xs)) → ⊥
+        out-of : (l : ℕ) → Out-of row running xs l → (p : Overload) → passing (kept running) (listed (ofFamily (familyAt row l))) p → T (fits (p .params) (map operand xs)) → ⊥
         unfolding Resolved
         out-of l n p m h = n p m h
 
-        pub all-tried : stop ≤ k + 1 → Row-judged row xs NoneFits
+        pub all-tried : stop ≤ k + 1 → Row-judged row running xs NoneFits
         all-tried h =
             nothing
-            (λ p t c.
+            (λ p t d c.
             let a = t .its-way .from in
             let f = g .from in
             out-of (t .k)
             (before o (t .k) (omega arith) (⊎-elim (λ b. omega arith) (λ b. omega arith) (t .its-way .upto)))
-            p (t .among) c)
+            p (t .among, d) c)
 
       -- the family that fits judges the row
-      pub family-judges : (o : Out) → Resolved (listed (ofFamily (familyAt row k))) (map operand xs) (triedOf (Fits o)) → Row-judged row xs (Gives o)
+      pub family-judges : (o : Out) → Resolved (passing (kept running) (listed (ofFamily (familyAt row k)))) (map operand xs) (triedOf (Fits o)) → Row-judged row running xs (Gives o)
       unfolding Resolved triedOf judgedOf
-      family-judges o q = (q .0, row-of-family row (map operand xs) k (g .within) (q .0) (q .1), q .2)
+      family-judges o q = (q .0, row-of-family row (map operand xs) (kept running) k (g .within) (q .0) (q .1), q .2)

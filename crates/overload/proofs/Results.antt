@@ -9,11 +9,13 @@ use lib.Dec.{T}
 use Rattle.conv.specs.Types.{Ty, formed, isRuntime, isFract}
 use Rattle.conv.specs.Rank.{both, made}
 use Rattle.conv.proofs.Finite.{both-left, both-right}
-use Rattle.overload.specs.Overload.{Overload, or, Resolved}
+use Rattle.overload.specs.Overload.{Overload, or, listed, judge, Resolved}
+use Rattle.overload.specs.Marks.{sifted}
 use Rattle.overload.specs.Overload.Judged.{gives}
-use Rattle.overload.specs.Rows.{Row, noRow, formAt, componentAt, wrapped, overSecond, atSizes, overSet, ofFamilies, overloadsOf, ofRow, judgeRow, rowAt, rows}
+use Rattle.overload.specs.Rows.{Row, noRow, formAt, componentAt, wrapped, overSecond, atSizes, overSet, ofFamilies, overloadsOf, rowAt, rows}
 use Rattle.overload.proofs.Families.{every, every-at}
 use Rattle.overload.proofs.Judge.{judge-resolved}
+use Rattle.overload.proofs.Sieve.{of-sifted}
 
 -- a result type is no array without count, which stands for types of another shape
 resultTest : Overload → Bool
@@ -48,14 +50,15 @@ pub T-true : (b : Bool) → T b → b ≡ true
 T-true true t = refl
 T-true false t = absurd t
 
-resolved-result : (row : ℕ) (ts : List Ty) (R : Ty) → Resolved (ofRow (rowAt row)) ts (gives R) → (o : Overload) × List·Memᴰ o (overloadsOf (rowAt row)) × (R ≡ o .result)
+resolved-result : (os : List Overload) (ts : List Ty) (R : Ty) → Resolved (listed os) ts (gives R) → (o : Overload) × List·Memᴰ o os × (R ≡ o .result)
 unfolding Resolved
-resolved-result row ts R q = (q .0, q .1 .among, q .2)
+resolved-result os ts R q = (q .0, q .1 .among, q .2)
 
--- what a row gives
-pub gives-formed : (row : ℕ) (ts : List Ty) (R : Ty) → judgeRow (rowAt row) ts ≡ gives R → (formed R ≡ true) × T (not (isRuntime R))
+-- what those overloads of a row give that pass a test
+pub gives-formed : (row : ℕ) (g : Overload → Bool) (ts : List Ty) (R : Ty) → judge (sifted g (overloadsOf (rowAt row))) ts ≡ gives R → (formed R ≡ true) × T (not (isRuntime R))
 unfolding resultTest
-gives-formed row ts R e =
-    let q = resolved-result row ts R (subst (Resolved (ofRow (rowAt row)) ts) e (judge-resolved (overloadsOf (rowAt row)) ts)) in
-    let t = result-at (overloadsOf (rowAt row)) (all-results row) (q .0) (q .1) in
+gives-formed row g ts R e =
+    let os = sifted g (overloadsOf (rowAt row)) in
+    let q = resolved-result os ts R (subst (Resolved (listed os) ts) e (judge-resolved os ts)) in
+    let t = result-at (overloadsOf (rowAt row)) (all-results row) (q .0) (of-sifted g (overloadsOf (rowAt row)) (q .0) (q .1) .0) in
     (ap formed (q .2) ∙ T-true (formed (q .0 .result)) (both-left _ _ t), subst (λ (r : Ty). T (not (isRuntime r))) (sym (q .2)) (both-right (formed (q .0 .result)) _ t))

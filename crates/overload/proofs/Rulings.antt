@@ -6,20 +6,22 @@ use mathlib.Core.Bool.{Bool, true, false, _&&_, not, cond}
 use mathlib.Core.List.{List, [], _∷_, map}
 use lib.ListN.{length, getD}
 use native.Mathlib.Omega.{arith}
-use mathlib.Core.Logic.{_≢_}
-use lib.Dec.{T, eqb, leb, eqb→eq}
+use mathlib.Core.Logic.{_≢_, ⊎-elim}
+use lib.Dec.{T, T-not, eqb, leb, eqb→eq}
 use borrow.Author.Tests.{eqb-false, le-leb, leb-true}
 use Rattle.conv.specs.Types.{Ty, formed, isValue, abstractTy, storage, handle, readWrite}
 use Rattle.conv.specs.Types.Ty.{scalar, vec, mat, array, runtime, atomic, ptr, ref, frexp, modf}
 use Rattle.conv.specs.Rank.{both, converts}
 use Rattle.conv.proofs.Finite.{both-right, below}
-use Rattle.overload.specs.Overload.{Overload, fits, Judged, Resolved}
+use Rattle.overload.specs.Overload.{Overload, or, fits, Judged, Resolved}
+use Rattle.overload.specs.Marks.{anyAbstract, remains, remaining}
 use Rattle.overload.specs.Overload.Judged.{gives, noneFits, nonePreferred}
 use Rattle.overload.specs.Rows.{Row, rows, noRow, rowAt, overloadsOf, ofRow, addressOf, indirectionOf, Ruling, overloadsBy, judgeRow, judgeAddress, judgeIndirection, alone, judgeBy, Known}
 use Rattle.overload.specs.Rows.Ruling.{byRow, address, indirection}
-use Rattle.overload.proofs.Judge.{judge-resolved}
-use Rattle.overload.proofs.Operands.{allFormed, and-left, and-right, never-thirteen}
-use Rattle.overload.proofs.Results.{gives-formed}
+use Rattle.overload.proofs.Preference.{or-cases, same-resolved}
+use Rattle.overload.proofs.Marks.{sifted-resolved, left-never, concrete-remains}
+use Rattle.overload.proofs.Operands.{allFormed, and-left, and-right}
+use Rattle.overload.proofs.Results.{T-true, gives-formed}
 use Rattle.overload.proofs.Described.{judge-address, judge-indirection, address-never, indirection-never}
 
 clash : {R : Ty} → noneFits ≡ gives R → ⊥
@@ -137,31 +139,69 @@ indirection-formed (frexp t) f R e = absurd (clash e)
 indirection-formed (modf t) f R e = absurd (clash e)
 
 -- what a known row gives is a type that there is, on any operands
-pub row-formed : (r : Row) → Known (byRow r) → (ts : List Ty) (R : Ty) → judgeBy (byRow r) ts ≡ gives R → formed R ≡ true
+pub row-formed : (r : Row) → Known (byRow r) → (ts : List Ty) (ms : List Bool) (R : Ty) → judgeBy (byRow r) ts ms ≡ gives R → formed R ≡ true
 unfolding judgeBy Known
-row-formed r k ts R e = gives-formed (r .number) ts R (ap (λ (x : Row). judgeRow x ts) k ∙ e) .0
+row-formed r k ts ms R e = gives-formed (r .number) (remains ms) ts R (ap (λ (x : Row). judgeRow x ts ms) k ∙ e) .0
 
--- EVERY RULING, on operands that are types
+-- NO OVERLOAD OF `&` AND `*` IS EVER DROPPED: a reference and a pointer are to types that are not abstract
 
-module _ (ts : List Ty) (f : allFormed ts ≡ true) where
-  -- the judgment is the one that the overloads have
-  pub ruling-resolved : (r : Ruling) → Resolved (overloadsBy r) ts (judgeBy r ts)
+deep : (a b c d : Bool) → (a && b && c && d) ≡ true → c ≡ true
+deep a b c d h = and-right (a && b) c (and-left (a && b && c) d h)
+
+clear : (b : Bool) → not b ≡ true → T b → ⊥
+clear b e h = T-not b (subst T (sym e) tt) h
+
+lent-concrete : (space access : ℕ) (t : Ty) → T (formed (ref space access t)) → T (anyAbstract (ref space access t ∷ [])) → ⊥
+unfolding anyAbstract abstractTy or rest
+lent-concrete space access t f h =
+    let g = and-right (leb space handle) (rest space access t) (sym (ref-parts space access t) ∙ T-true (formed (ref space access t)) f) in
+    clear (abstractTy t) (deep (leb access readWrite) (isValue t) (not (abstractTy t)) (formed t) g) (⊎-elim (λ a. a) (λ a. absurd a) (or-cases (abstractTy t) false h))
+
+pointed-concrete : (space access : ℕ) (t : Ty) → T (formed (ptr space access t)) → T (anyAbstract (ptr space access t ∷ [])) → ⊥
+unfolding anyAbstract abstractTy or rest
+pointed-concrete space access t f h =
+    let g = and-right (leb space storage) (rest space access t) (sym (ptr-parts space access t) ∙ T-true (formed (ptr space access t)) f) in
+    clear (abstractTy t) (deep (leb access readWrite) (isValue t) (not (abstractTy t)) (formed t) g) (⊎-elim (λ a. a) (λ a. absurd a) (or-cases (abstractTy t) false h))
+
+module _ (ms : List Bool) where
+  abbrev Stays : (Overload → Type 0) → Type 0
+  Stays set = (o : Overload) → set o → T (remains ms o)
+
+  address-stays : Stays addressOf
+  address-stays o m = concrete-remains o ms (λ h. lent-concrete (m .0) (m .1) (m .2) (m .4) (subst (λ (p : Overload). T (anyAbstract (p .params))) (m .5) h))
+
+  indirection-stays : Stays indirectionOf
+  indirection-stays o m = concrete-remains o ms (λ h. pointed-concrete (m .0) (m .1) (m .2) (m .3) (subst (λ (p : Overload). T (anyAbstract (p .params))) (m .4) h))
+
+  -- so a set of which nothing is dropped has the judgments that it had
+  module _ (set : Overload → Type 0) (stays : Stays set) (ts : List Ty) (j : Judged) where
+    to-left : Resolved set ts j → Resolved (remaining ms set) ts j
+    to-left q = same-resolved set (remaining ms set) ts (λ p f m. (m, stays p m)) (λ p f m. m .0) j q
+
+    of-left : Resolved (remaining ms set) ts j → Resolved set ts j
+    of-left q = same-resolved (remaining ms set) set ts (λ p f m. m .0) (λ p f m. (m, stays p m)) j q
+
+-- EVERY RULING, on operands that are types, whatever their marks
+
+module _ (ts : List Ty) (f : allFormed ts ≡ true) (ms : List Bool) where
+  -- the judgment is the one that the overloads have which remain
+  pub ruling-resolved : (r : Ruling) → Resolved (remaining ms (overloadsBy r)) ts (judgeBy r ts ms)
   unfolding overloadsBy judgeBy
-  ruling-resolved (byRow r) = judge-resolved (overloadsOf r) ts
-  ruling-resolved address = alone-resolved addressOf address-one judgeAddress judge-address ts f
-  ruling-resolved indirection = alone-resolved indirectionOf indirection-one judgeIndirection judge-indirection ts f
+  ruling-resolved (byRow r) = sifted-resolved (remains ms) (overloadsOf r) ts
+  ruling-resolved address = to-left ms addressOf (address-stays ms) ts _ (alone-resolved addressOf address-one judgeAddress judge-address ts f)
+  ruling-resolved indirection = to-left ms indirectionOf (indirection-stays ms) ts _ (alone-resolved indirectionOf indirection-one judgeIndirection judge-indirection ts f)
 
-  -- where an overload fits one is preferred to every other that fits: REFUSAL 13 IS NEVER GIVEN
-  pub ruling-never : (r : Ruling) → Known r → Resolved (overloadsBy r) ts nonePreferred → ⊥
+  -- where an overload fits that remains one is preferred to every other that does: REFUSAL 13 IS NEVER GIVEN
+  pub ruling-never : (r : Ruling) → Known r → Resolved (remaining ms (overloadsBy r)) ts nonePreferred → ⊥
   unfolding overloadsBy Known
-  ruling-never (byRow r) k q = never-thirteen ts f (r .number) (subst (λ (x : Row). Resolved (ofRow x) ts nonePreferred) (sym k) q)
-  ruling-never address k q = alone-never addressOf address-one address-never ts q
-  ruling-never indirection k q = alone-never indirectionOf indirection-one indirection-never ts q
+  ruling-never (byRow r) k q = left-never (r .number) ms ts (subst (λ (x : Row). Resolved (remaining ms (ofRow x)) ts nonePreferred) (sym k) q)
+  ruling-never address k q = alone-never addressOf address-one address-never ts (of-left ms addressOf (address-stays ms) ts nonePreferred q)
+  ruling-never indirection k q = alone-never indirectionOf indirection-one indirection-never ts (of-left ms indirectionOf (indirection-stays ms) ts nonePreferred q)
 
   -- what it gives is a type that there is
-  pub ruling-formed : (r : Ruling) → Known r → (R : Ty) → judgeBy r ts ≡ gives R → formed R ≡ true
+  pub ruling-formed : (r : Ruling) → Known r → (R : Ty) → judgeBy r ts ms ≡ gives R → formed R ≡ true
   unfolding judgeBy Known
-  ruling-formed (byRow r) k R e = row-formed r k ts R e
+  ruling-formed (byRow r) k R e = row-formed r k ts ms R e
   ruling-formed address k R e = alone-formed addressOf address-one judgeAddress address-formed ts f R e
   ruling-formed indirection k R e = alone-formed indirectionOf indirection-one judgeIndirection indirection-formed ts f R e
 

@@ -2,11 +2,12 @@
 use Prim.Native.Nat.{ℕ, _*_, _/_, _%_, _^_, _<_, _≤_}
 use native.Mathlib.Omega.{arith}
 use mathlib.Core.Path.{_≡_, refl, sym, _∙_, ap}
-use mathlib.Core.Bool.{Bool, true, false}
+use mathlib.Core.Bool.{Bool, true, false, not}
 use lib.Dec.{T, eqb, ltb, eqb→eq, ltb→lt}
 use mathlib.Core.Logic.{_≢_, ⊎-elim}
 use lib.Count.{trailingZeros, trailing-le}
 use lib.Bits.{bitAnd, and-shr, and-mod, and-le-l}
+use Rattle.conv.specs.Types.{isAbstract}
 use Rattle.conv.specs.Rank.{both, none}
 use Rattle.overload.specs.Overload.{or}
 use Rattle.overload.proofs.Preference.{or-cases}
@@ -46,6 +47,16 @@ has-none s h = is-no (has 0 s) (below 7 (λ s. same (has 0 s) false) tt s h)
 pub has-all : (s : ℕ) → s < 7 → has 127 s ≡ true
 unfolding has bit both same
 has-all s h = same-eq (has 127 s) true (below 7 (λ s. same (has 127 s) true) tt s h)
+
+pub both-yes : (a : Bool) → a ≡ both a true
+unfolding both
+both-yes true = refl
+both-yes false = refl
+
+-- and that of the concrete ones
+pub has-concrete : (s : ℕ) → s < 7 → has 109 s ≡ not (isAbstract s)
+unfolding has bit both same
+has-concrete s h = same-eq (has 109 s) (not (isAbstract s)) (below 7 (λ s. same (has 109 s) (not (isAbstract s))) tt s h)
 
 -- THE FIRST of a set, in the order of preference: the lowest bit
 firstTest : ℕ → Bool

@@ -1,3 +1,4 @@
 pub mod Overload
+pub mod Marks
 pub mod Rows
 pub mod inner

@@ -2,7 +2,7 @@
 use Prim.Native.Nat.{ℕ}
 use mathlib.Core.Path.{_≡_}
 use mathlib.Core.Logic.{_≢_}
-use mathlib.Core.Bool.{cond}
+use mathlib.Core.Bool.{Bool, cond}
 use lib.Dec.{T, eqb}
 use mathlib.Core.List.{List, [], _∷_, _++_, map}
 use lib.ListN.{getD, length}
@@ -11,6 +11,7 @@ use Rattle.conv.specs.Types.Ty.{scalar, vec, mat, array, runtime, atomic, ptr, 
 use Rattle.conv.specs.Rank.{Shape, columnsOf, rowsOf, made}
 use Rattle.conv.specs.Rank.Shape.{one, vector, matrix}
 use Rattle.overload.specs.Overload.{Overload, listed, Judged, judge}
+use Rattle.overload.specs.Marks.{remainingIn}
 use Rattle.overload.specs.Overload.Judged.{gives, noneFits}
 
 -- THE SIZE of an overload: a scalar, a vector's width, a matrix's columns and rows; for a product of matrices the shape of the result, and the inner count
@@ -471,10 +472,11 @@ overloadsBy (byRow r) = ofRow r
 overloadsBy address = addressOf
 overloadsBy indirection = indirectionOf
 
--- HOW A CALL IS JUDGED: a listed row by its overloads; unary `&` and `*` by their rule
+-- HOW A CALL IS JUDGED, by the types and the marks of its operands: a listed row by those of its overloads that remain; unary `&` and `*` by their rule, since no overload
+-- of theirs is ever dropped
 
-abbrev pub judgeRow : Row → List Ty → Judged
-judgeRow r ts = judge (overloadsOf r) ts
+abbrev pub judgeRow : Row → List Ty → List Bool → Judged
+judgeRow r ts ms = judge (remainingIn ms (overloadsOf r)) ts
 
 unfoldable pub judgeAddress : Ty → Judged
 judgeAddress (ref space access t) = cond (eqb space handle) noneFits (gives (ptr space access t))
@@ -506,10 +508,10 @@ alone j [] = noneFits
 alone j (t ∷ []) = j t
 alone j (t ∷ u ∷ us) = noneFits
 
-unfoldable pub judgeBy : Ruling → List Ty → Judged
-judgeBy (byRow r) ts = judgeRow r ts
-judgeBy address ts = alone judgeAddress ts
-judgeBy indirection ts = alone judgeIndirection ts
+unfoldable pub judgeBy : Ruling → List Ty → List Bool → Judged
+judgeBy (byRow r) ts ms = judgeRow r ts ms
+judgeBy address ts ms = alone judgeAddress ts
+judgeBy indirection ts ms = alone judgeIndirection ts
 
 -- the row of a ruling is one of `rows`, and stands there at its number
 unfoldable pub Known : Ruling → Type 0

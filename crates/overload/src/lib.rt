@@ -1,6 +1,7 @@
 // Overload resolution: the preferred overload of a row at operands, found without a search through the overloads.
 // An operand is a number: 7 times its shape plus its component. Shapes: scalar 0, vec2 to vec4 1 to 3, mat2x2 to mat4x4 4 to 12, any other type from 13 on.
-// Each operand gives the set of T at which it fits, a bit for each scalar; the first of their common T, in the order of preference, is the answer's.
+// Each operand gives the set of T at which it fits, a bit for each scalar; the first of their common T, in the order of preference, is the answer's. Where an operand is known only
+// when running, it is the first concrete one.
 mod tables;
 
 use cast::wide;
@@ -16,8 +17,9 @@ ghost use lib.ListN.{length};
 ghost use lib.Dec.{T, eqb};
 ghost use Rattle.conv.specs.Rank.{pick, both, none, formOf};
 ghost use Rattle.overload.specs.Overload.{Resolved, listed, or};
-ghost use Rattle.overload.specs.Rows.{ofFamily, patternTy, wrapped, judgeRow, rowAt, operandCount};
-ghost use Rattle.overload.specs.inner.Code.{shapeOfNo, operand, sizeOfNo, memSize, askedOf, familyOf, digitOf, sizeAt, sizesOf, has, firstWith, preference, reaches, allows, slotT, slotI, fitsAt, firstX, lastX, Word, Starts, outOf, triedOf, judgedOf};
+ghost use Rattle.overload.specs.Rows.{ofFamily, patternTy, wrapped, rowAt, operandCount};
+ghost use Rattle.overload.specs.Marks.{passing};
+ghost use Rattle.overload.specs.inner.Code.{shapeOfNo, operand, sizeOfNo, memSize, askedOf, familyOf, digitOf, sizeAt, sizesOf, has, firstWith, preference, reaches, allows, slotT, slotI, fitsAt, firstX, lastX, Word, Starts, kept, judgeKept, leftT, outOf, triedOf, judgedOf};
 
 // The digits of a family: the count of its parameters, its first parameter, its result, its wrapping, by which operands its size is found.
 const COUNT: usize = 0;
@@ -39,6 +41,8 @@ const NO_JOIN: u8 = 7;
 const SHAPES: u8 = 13;
 // The set of all scalars.
 const ALL: u64 = 0x7f;
+// The set of those that are not abstract.
+const CONCRETE: u64 = 0x6d;
 // No place in a row.
 const NO_PLACE: u64 = 15;
 
@@ -225,6 +229,17 @@ fn fit(f: u64, w: u64, n: u8, starts: u64, xs: &[u8]) -> Choices
     Choices(m & allowed(j), v)
 }
 
+// What is left of a set of T: the concrete ones where an operand is running.
+fn left_of(running: bool, set: u64) -> u64
+    requires { ⌜ set < 128 ⌝ }
+    ensures { λ r. ⌜ (r < 128) × ((t : ℕ) → t < 7 → has r t ≡ both (has set t) (leftT running t)) ⌝ }
+{
+    if running {
+        return set & CONCRETE;
+    }
+    set
+}
+
 // The first scalar of a set, in the order of preference, or NONE.
 fn first_of(w: u64) -> u8
     requires { ⌜ w < 128 ⌝ }
@@ -265,10 +280,10 @@ fn out_of(f: u64, w: u64, n: u8, starts: u64, t: u8, i: u8) -> Out
     Out::Modf(x)
 }
 
-// One family at operands, whose first and last have the shapes a and b.
-fn try_family(f: u64, a: u8, b: u8, xs: &[u8]) -> Tried
+// One family at operands, whose first and last have the shapes a and b, and of which one is running or none.
+fn try_family(f: u64, running: bool, a: u8, b: u8, xs: &[u8]) -> Tried
     requires { ⌜ (a < 13) × (b < 13) × (a ≡ firstX (now xs) / 7) × (b ≡ lastX (now xs) / 7) ⌝ }
-    ensures { λ r. ⌜ Resolved (listed (ofFamily (familyOf f))) (map operand (now (xs .entry))) (triedOf r) ⌝ }
+    ensures { λ r. ⌜ Resolved (passing (kept running) (listed (ofFamily (familyOf f)))) (map operand (now (xs .entry))) (triedOf r) ⌝ }
 {
     let w = tables::family_word(f);
     if wide(tables::digit(f, w, COUNT)) != xs.len() {
@@ -281,7 +296,8 @@ fn try_family(f: u64, a: u8, b: u8, xs: &[u8]) -> Tried
     }
     let starts = tables::starts_at(n);
     let sets = fit(f, w, n, starts, xs);
-    let t = first_of(tables::set_line(((w >> 56) % 16) as u8) & sets.0);
+    let left = left_of(running, tables::set_line(((w >> 56) % 16) as u8));
+    let t = first_of(left & sets.0);
     if t == NONE {
         return Tried::Not;
     }
@@ -299,9 +315,9 @@ pub fn operand_count(row: usize) -> usize
     ((tables::row_line(row) >> 48) % 16) as usize
 }
 
-// The judgment of a row at operands: that of the first of its families that fits.
-pub fn resolve(row: usize, xs: &[u8]) -> Resolution
-    ensures { λ r. ⌜ judgedOf r ≡ judgeRow (rowAt row) (map operand (now (xs .entry))) ⌝ }
+// The judgment of a row at operands, of which one is running or none: that of the first of its families that fits.
+pub fn resolve(row: usize, running: bool, xs: &[u8]) -> Resolution
+    ensures { λ r. ⌜ judgedOf r ≡ judgeKept running (rowAt row) (map operand (now (xs .entry))) ⌝ }
 {
     let a = first_shape(xs);
     if SHAPES <= a {
@@ -319,7 +335,7 @@ pub fn resolve(row: usize, xs: &[u8]) -> Resolution
     let start = (w >> 40) % 256;
     let stop = (w >> 36) % 16;
     loop {
-        let r = try_family(start + k, a, b, xs);
+        let r = try_family(start + k, running, a, b, xs);
         match r {
             Tried::Fits(out) => return Resolution::Gives(out),
             Tried::Not => {}

@@ -18,7 +18,7 @@ use Rattle.answer.specs.declared.Answer.the-variants.{Value, NoValue, Refused}
 use Rattle.table.proofs.KindLaws.{split}
 use Rattle.frame.specs.declared.Placed.{Placed}
 use Rattle.frame.specs.declared.Item.the-variants.{End}
-use Rattle.frame.specs.Frame.{itemAt, still, version, headerSize, headerOk}
+use Rattle.frame.specs.Frame.{itemAt, still, headerSize, headerOk}
 use Rattle.frame.proofs.FrameLaws.{framed}
 use Rattle.names.specs.Names.{profiles}
 use Rattle.step.specs.Effect.{State}
@@ -70,7 +70,7 @@ module _ (profile : ℕ) (w : List ℕ) (n : ℕ) (sheet : RefT (List ℕ)) {l :
   looked = visited profile s l (begun w n)
 
   -- over a sound table, under a right header and in a known profile, the run goes through the list that the steps find
-  pub run-visits : soundb w n ≡ true → headerOk version s ≡ true → profile < profiles → typeSheet profile w n s ≡ runItems profile s l (begun w n)
+  pub run-visits : soundb w n ≡ true → headerOk s ≡ true → profile < profiles → typeSheet profile w n s ≡ runItems profile s l (begun w n)
   run-visits h k p = sym (sheet-runs profile w n s h k p) ∙ ap (λ (x : List Placed). runItems profile s x (begun w n)) (sym (from-start sheet v))
 
   -- it looks at the front of that list: every item that it looks at is found by the steps, in the same order and with none between
@@ -82,7 +82,7 @@ module _ (profile : ℕ) (w : List ℕ) (n : ℕ) (sheet : RefT (List ℕ)) {l :
   accepted a no-refusal e =
       split (soundb w n)
       (λ h.
-      split (headerOk version s)
+      split (headerOk s)
       (λ k.
       split (ltb profile profiles)
       (λ b. ap (λ (o : Outcome). o .answer) (sym (run-visits h k (ltb-true profile profiles b))) ∙ e)

@@ -43,9 +43,10 @@ struct State {
     rows: u64,
 }
 
-// The character of the answer of a call in a profile.
+// The character of the answer of a call in a profile, on operands that are known early.
 fn answered_in(words: &mut [u32], used: usize, profile: u32, name: &[u8], args: &[u32]) -> u8 {
-    let a = call_ty::type_builtin_fn(words, used, profile, name, &args[0..0], args);
+    let typed = call_ty::type_builtin_fn(words, used, profile, name, &args[0..0], args);
+    let a = typed.answer;
     vectors::answer_char(words, a)
 }
 
@@ -143,11 +144,6 @@ fn after_line(words: &mut [u32], used: usize, s: &[u8], line: &[u8], state: Stat
     }
 }
 
-// The number of a type by its character.
-fn type_no(c: u8) -> u32 {
-    std::num::wrapping_sub_u8(c, vectors::FIRST) as u32
-}
-
 // Whether a single row agrees.
 fn single_agrees(words: &mut [u32], used: usize, line: &[u8]) -> bool {
     if line.len() <= SINGLE_NAME_AT {
@@ -155,10 +151,10 @@ fn single_agrees(words: &mut [u32], used: usize, line: &[u8]) -> bool {
     }
     let name = &line[SINGLE_NAME_AT..];
     let count = line[COUNT_AT];
-    let a = type_no(line[OPERANDS_AT]);
-    let b = type_no(line[OPERANDS_AT + 1]);
-    let c = type_no(line[OPERANDS_AT + 2]);
-    let d = type_no(line[OPERANDS_AT + 3]);
+    let a = vectors::type_no(line[OPERANDS_AT]);
+    let b = vectors::type_no(line[OPERANDS_AT + 1]);
+    let c = vectors::type_no(line[OPERANDS_AT + 2]);
+    let d = vectors::type_no(line[OPERANDS_AT + 3]);
     let operands = [a, b, c, d];
     if count == b'1' {
         return answered(words, used, name, &operands[0..1]) == line[1];

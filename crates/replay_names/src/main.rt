@@ -1,5 +1,6 @@
-// Replays names from standard input, a line each: three digits of the rule, a blank, or `+` for a name that profile 1 adds, and the name, as `012 acos` or
-// `047+subgroupAdd`; or `---`, a blank and bytes that are no name. Each is asked for in profile 0, in profile 1 and in two unknown ones, which have no name.
+// Replays names from standard input, a line each: three digits of the rule, a mark and the name, as `012 acos` or `047+subgroupAdd`; or `---`, a blank and
+// bytes that are no name. The mark is `*` where the result is running on const operands too, `+` where it is so and profile 1 adds the name, else a blank.
+// Each name is asked for in profile 0, in profile 1 and in two unknown ones, which have no name.
 // A line that begins with `#` ends a group: it is written with the group's counts.
 use names::RuleNo;
 ghost use mathlib.Core.Path.{_≡_};
@@ -11,10 +12,12 @@ const GROUP: u8 = b'#';
 
 const NO_RULE: u8 = b'-';
 
+const CONST: u8 = b' ';
+
 const ADDED: u8 = b'+';
 
 const ZERO: u8 = b'0';
-// Where the mark of a name of profile 1 stands in its line, and where the name begins.
+// Where the mark stands in a line, and where the name begins.
 const MARK_AT: usize = 3;
 
 const NAME_AT: usize = 4;
@@ -37,12 +40,13 @@ struct Tally {
     wrong: u64,
 }
 
-// Whether a reply is the one of a line's three digits.
-fn is_reply(reply: RuleNo, hundreds: u8, tens: u8, ones: u8) -> bool {
+// Whether a reply is the one of a line's three digits and mark.
+fn is_reply(reply: RuleNo, hundreds: u8, tens: u8, ones: u8, mark: u8) -> bool {
     match reply {
-        RuleNo::Is(n) => (ZERO + n / 100 == hundreds)
-            & (ZERO + n / 10 % 10 == tens)
-            & (ZERO + n % 10 == ones),
+        RuleNo::Is { rule, running } => (ZERO + rule / 100 == hundreds)
+            & (ZERO + rule / 10 % 10 == tens)
+            & (ZERO + rule % 10 == ones)
+            & (running == (mark != CONST)),
         RuleNo::Unknown => (hundreds == NO_RULE) & (tens == NO_RULE) & (ones == NO_RULE),
     }
 }
@@ -53,9 +57,9 @@ fn is_right(rows: &[u8], profile: u32, has: bool, line: &[u8]) -> bool
 {
     let reply = names::rule_of(rows, profile, &line[NAME_AT..]);
     if has {
-        return is_reply(reply, line[0], line[1], line[2]);
+        return is_reply(reply, line[0], line[1], line[2], line[MARK_AT]);
     }
-    is_reply(reply, NO_RULE, NO_RULE, NO_RULE)
+    is_reply(reply, NO_RULE, NO_RULE, NO_RULE, CONST)
 }
 
 fn judged(rows: &[u8], line: &[u8]) -> Verdict

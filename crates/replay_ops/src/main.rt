@@ -1,9 +1,11 @@
 // Replays the answers of another WGSL compiler for the operators, and writes how many rows agreed.
 // Standard input has a line for each of `!`, `-` and `~`, then for each binary operator a line for each left type. A line has a character for each of the
-// 55 types, as the one operand or the right one: the character of the result's type, or `.` for a refusal.
-use table::TypeNo;
+// 55 types, as the one operand or the right one: the character of the result's type, or `.` for a refusal. All operands are known early, and so is each result.
+use table::Typed;
 use vectors::TYPES;
 
+// The types of a line.
+const COLUMNS: u32 = 55;
 // How many lines are of unary operators, and how many there are in all.
 const UNARY: usize = 3;
 
@@ -11,23 +13,23 @@ const LINES: usize = 993;
 // A line with its end.
 const WIDTH: usize = 56;
 
-// The character of the answer for a line and a column of the input.
-fn answered(words: &mut [u32], used: usize, line: usize, column: usize) -> u8 {
+// The answer for a line and a column of the input.
+fn answered(words: &mut [u32], used: usize, line: usize, column: u32) -> Typed {
     if line < UNARY {
-        let a = ops_ty::type_unary_op(words, used, line, TypeNo(column));
-        return vectors::answer_char(words, a);
+        return ops_ty::type_unary_op(words, used, line, column);
     }
     let k = line - UNARY;
-    let b = ops_ty::type_binary_op(words, used, k / TYPES, TypeNo(k % TYPES), TypeNo(column));
-    vectors::answer_char(words, b)
+    ops_ty::type_binary_op(words, used, k / TYPES, (k % TYPES) as u32, column)
 }
 
 // Whether the answer is the one at that place of the input.
-fn agrees(words: &mut [u32], used: usize, s: &[u8], at: usize, line: usize, column: usize) -> bool {
+fn agrees(words: &mut [u32], used: usize, s: &[u8], at: usize, line: usize, column: u32) -> bool {
     if s.len() <= at {
         return false;
     }
-    answered(words, used, line, column) == s[at]
+    let typed = answered(words, used, line, column);
+    let a = typed.answer;
+    (vectors::answer_char(words, a) == s[at]) & !typed.running
 }
 
 // The rows of a line that agree, added to those before.
@@ -40,8 +42,8 @@ fn add_line(
     before: u64,
 ) -> u64 {
     let mut agreed = before;
-    for column in 0..TYPES {
-        let at = std::num::wrapping_add_usize(start, column);
+    for column in 0..COLUMNS {
+        let at = std::num::wrapping_add_usize(start, column as usize);
         agreed = vectors::counted(agreed, agrees(words, used, s, at, line, column));
     }
     agreed

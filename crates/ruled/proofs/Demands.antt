@@ -10,6 +10,7 @@ use borrow.Author.Tests.{le-leb}
 use Rattle.conv.specs.Types.{Ty, formed}
 use Rattle.overload.specs.Overload.{Overload, fits, Preferred, Judged, Resolved}
 use Rattle.overload.specs.Overload.Judged.{gives, noneFits, nonePreferred}
+use Rattle.overload.specs.Marks.{remaining, runningAbstract}
 use Rattle.overload.specs.Rows.{Ruling, overloadsBy, judgeBy, Known}
 use Rattle.overload.proofs.Operands.{allFormed}
 use Rattle.overload.proofs.Preference.{one-preferred}
@@ -21,7 +22,7 @@ use Rattle.table.specs.Enter.{free}
 use Rattle.table.specs.Placing.{Outcome, turnedDown, placed, entering}
 use Rattle.answer.specs.declared.TypeNo.{TypeNo}
 use Rattle.answer.specs.declared.Reason.{Reason}
-use Rattle.answer.specs.declared.Reason.the-variants.{NoOverload, Reference}
+use Rattle.answer.specs.declared.Reason.the-variants.{NoOverload, Reference, RunningAbstract}
 use Rattle.answer.specs.declared.Refusal.{Refusal}
 use Rattle.answer.specs.declared.Answer.the-variants.{Value, Refused}
 use Rattle.table.specs.Kept.{Kept}
@@ -43,9 +44,11 @@ module _ (w : List ℕ) (n : ℕ) (s : Sound w n) where
   kept-judged place noneFits f = kept-refused w n _ place
   kept-judged place nonePreferred f = kept-refused w n _ place
 
-  pub kept-ruled : (place : ℕ) (r : Ruling) (ts : List Ty) → ((R : Ty) → judgeBy r ts ≡ gives R → formed R ≡ true) → Kept w n (ruledOutcome place w n r ts)
+  pub kept-ruled : (place : ℕ) (r : Ruling) (ts : List Ty) (ms : List Bool) → ((R : Ty) → judgeBy r ts ms ≡ gives R → formed R ≡ true) → Kept w n (ruledOutcome place w n r ts ms)
   unfolding ruledOutcome
-  kept-ruled place r ts f = kept-by w n (offends r ts) _ _ (λ e. kept-refused w n _ place) (λ e. kept-judged place (judgeBy r ts) f)
+  kept-ruled place r ts ms f =
+      kept-by w n (offends r ts) _ _ (λ e. kept-refused w n _ place)
+      (λ e. kept-by w n (runningAbstract ts ms) _ _ (λ d. kept-refused w n _ place) (λ d. kept-judged place (judgeBy r ts ms) f))
 
 unfold-gives : (set : Overload → Type 0) (ts : List Ty) (R : Ty) → Resolved set ts (gives R) → (o : Overload) × Preferred set ts o × (R ≡ o .result)
 unfolding Resolved
@@ -120,20 +123,20 @@ module _ (place : ℕ) (w : List ℕ) (n : ℕ) (s : Sound w n) where
             alone = one-preferred set ts;
           }
 
-  -- A RULED CALL on operands that are types, none of them offered where it may not be
+  -- A RULED CALL on operands that are types, none of them offered where it may not be, and none both running and abstract: over the overloads that remain by the marks
 
-  module _ (r : Ruling) (known : Known r) (ts : List Ty) (f : allFormed ts ≡ true) (loaded : offends r ts ≡ false) where
-    ruled-is : judgedOutcome place w n (judgeBy r ts) ≡ ruledOutcome place w n r ts
-    ruled-is = ruled-judged place w n r ts loaded
+  module _ (r : Ruling) (known : Known r) (ts : List Ty) (f : allFormed ts ≡ true) (ms : List Bool) (loaded : offends r ts ≡ false) (apart : runningAbstract ts ms ≡ false) where
+    ruled-is : judgedOutcome place w n (judgeBy r ts ms) ≡ ruledOutcome place w n r ts ms
+    ruled-is = ruled-judged place w n r ts ms loaded apart
 
-    pub ruled-demand-3 : HasRoom (overloadsBy r) w n ts → Demand3 (overloadsBy r) ts (ruledOutcome place w n r ts)
+    pub ruled-demand-3 : HasRoom (remaining ms (overloadsBy r)) w n ts → Demand3 (remaining ms (overloadsBy r)) ts (ruledOutcome place w n r ts ms)
     ruled-demand-3 room =
-        subst (Demand3 (overloadsBy r) ts) ruled-is
-        (demand-3 (overloadsBy r) ts (ruling-never ts f r known) (judgeBy r ts) (ruling-resolved ts f r) (ruling-formed ts f r known) room)
+        subst (Demand3 (remaining ms (overloadsBy r)) ts) ruled-is
+        (demand-3 (remaining ms (overloadsBy r)) ts (ruling-never ts f ms r known) (judgeBy r ts ms) (ruling-resolved ts f ms r) (ruling-formed ts f ms r known) room)
 
-    -- no overload fits: refused with 8
-    pub ruled-none : ((p : Overload) → overloadsBy r p → T (fits (p .params) ts) → ⊥) → ruledOutcome place w n r ts ≡ turnedDown NoOverload place w n
-    ruled-none h = sym ruled-is ∙ judged-nothing (overloadsBy r) ts (ruling-never ts f r known) (judgeBy r ts) (ruling-resolved ts f r) h
+    -- no overload that remains fits: refused with 8
+    pub ruled-none : ((p : Overload) → remaining ms (overloadsBy r) p → T (fits (p .params) ts) → ⊥) → ruledOutcome place w n r ts ms ≡ turnedDown NoOverload place w n
+    ruled-none h = sym ruled-is ∙ judged-nothing (remaining ms (overloadsBy r)) ts (ruling-never ts f ms r known) (judgeBy r ts ms) (ruling-resolved ts f ms r) h
 
 -- REFUSAL 13 IS NEVER GIVEN, by what a call that is judged can end in
 
@@ -163,8 +166,10 @@ module _ (w : List ℕ) (n : ℕ) where
     never-judged place set ts never noneFits q f = never-refused NoOverload place (λ e. omega arith)
     never-judged place set ts never nonePreferred q f = absurd (never q)
 
-    pub never-ruled : (place : ℕ) (r : Ruling) → Known r → (ts : List Ty) → allFormed ts ≡ true → Never13 (ruledOutcome place w n r ts)
+    pub never-ruled : (place : ℕ) (r : Ruling) → Known r → (ts : List Ty) → allFormed ts ≡ true → (ms : List Bool) → Never13 (ruledOutcome place w n r ts ms)
     unfolding ruledOutcome
-    never-ruled place r k ts f =
+    never-ruled place r k ts f ms =
         never-by (offends r ts) _ _ (λ e. never-refused Reference place (λ e. omega arith))
-        (λ e. never-judged place (overloadsBy r) ts (ruling-never ts f r k) (judgeBy r ts) (ruling-resolved ts f r) (ruling-formed ts f r k))
+        (λ e.
+        never-by (runningAbstract ts ms) _ _ (λ d. never-refused RunningAbstract place (λ e. omega arith))
+        (λ d. never-judged place (remaining ms (overloadsBy r)) ts (ruling-never ts f ms r k) (judgeBy r ts ms) (ruling-resolved ts f ms r) (ruling-formed ts f ms r k)))

@@ -1,15 +1,17 @@
 -- How much room is missing (document 02, K2), of a ruled call: what lacks is what its result lacks. Assumes nothing.
 use Prim.Native.Nat.{ℕ}
 use mathlib.Core.Path.{refl}
+use mathlib.Core.Bool.{Bool}
 use mathlib.Core.List.{List}
 use Rattle.conv.specs.Types.{Ty}
 use Rattle.overload.specs.Overload.{Judged}
 use Rattle.overload.specs.Overload.Judged.{gives, noneFits, nonePreferred}
+use Rattle.overload.specs.Marks.{runningAbstract}
 use Rattle.overload.specs.Rows.{Ruling, judgeBy}
 use Rattle.table.specs.Table.{Sound}
 use Rattle.table.specs.Placing.{turnedDown}
 use Rattle.table.specs.Lacking.{Longer, Grown}
-use Rattle.answer.specs.declared.Reason.the-variants.{NoOverload, NonePreferred, Reference}
+use Rattle.answer.specs.declared.Reason.the-variants.{NoOverload, NonePreferred, Reference, RunningAbstract}
 use Rattle.table.proofs.Growing.{grown-refused, grown-test, grown-entering}
 use Rattle.ruled.specs.Call.{judgedOutcome, offends, ruledOutcome}
 
@@ -20,6 +22,8 @@ module _ (w v : List ℕ) (n k : ℕ) (l : Longer w v n k) (s : Sound w n) (plac
   grown-judged noneFits = grown-refused w n k NoOverload refl place _
   grown-judged nonePreferred = grown-refused w n k NonePreferred refl place _
 
-  pub grown-ruled : (r : Ruling) (ts : List Ty) → Grown w n k (ruledOutcome place w n r ts) (ruledOutcome place v n r ts)
+  pub grown-ruled : (r : Ruling) (ts : List Ty) (ms : List Bool) → Grown w n k (ruledOutcome place w n r ts ms) (ruledOutcome place v n r ts ms)
   unfolding ruledOutcome
-  grown-ruled r ts = grown-test w n k (offends r ts) _ _ _ _ (grown-refused w n k Reference refl place _) (grown-judged (judgeBy r ts))
+  grown-ruled r ts ms =
+      grown-test w n k (offends r ts) _ _ _ _ (grown-refused w n k Reference refl place _)
+      (grown-test w n k (runningAbstract ts ms) _ _ _ _ (grown-refused w n k RunningAbstract refl place _) (grown-judged (judgeBy r ts ms)))

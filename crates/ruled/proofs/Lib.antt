@@ -4,3 +4,4 @@ pub mod Loaded
 pub mod Demands
 pub mod OneReply
 pub mod Growing
+pub mod Early

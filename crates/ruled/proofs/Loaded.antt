@@ -2,7 +2,7 @@
 use Prim.Native.Nat.{ℕ, _+_, _-_, _*_, _<_}
 use mathlib.Core.Path.{_≡_, refl, sym, _∙_, ap}
 use mathlib.Core.Logic.{_≢_}
-use mathlib.Core.Bool.{true, false, _&&_}
+use mathlib.Core.Bool.{Bool, true, false, _&&_}
 use mathlib.Core.List.{List, map}
 use native.Mathlib.Omega.{arith}
 use lib.Dec.{eqb}
@@ -10,14 +10,16 @@ use borrow.Author.Tests.{ltb-true, eq-eqb, ne-eqb}
 use Rattle.conv.specs.Types.{Ty, formed, isWidth}
 use Rattle.conv.specs.Types.Ty.{scalar, vec, mat, array, runtime, atomic, ptr, ref, frexp, modf}
 use Rattle.conv.specs.Rank.{shapeOf, tagOf, isReference, isPointer}
+use Rattle.overload.specs.Marks.{anyRunning, runningAbstract}
 use Rattle.overload.specs.Rows.{Row, rowAt, Ruling, judgeRow, judgeBy}
 use Rattle.overload.specs.Rows.Ruling.{byRow}
-use Rattle.overload.specs.inner.Code.{operand, codeOf}
+use Rattle.overload.specs.inner.Code.{operand, codeOf, judgeKept}
+use Rattle.overload.proofs.Marks.{judge-kept}
 use Rattle.overload.proofs.Operands.{code-scalar, code-vec, code-mat, code-other, between, float-small, and-left, and-right, allFormed, codesOf, judge-types}
 use Rattle.table.specs.Table.{kindRef, kindPtr, entryAt, Sound}
 use Rattle.table.specs.Denote.{typeAt, kindOf}
 use Rattle.table.specs.Placing.{turnedDown}
-use Rattle.answer.specs.declared.Reason.the-variants.{Reference}
+use Rattle.answer.specs.declared.Reason.the-variants.{Reference, RunningAbstract}
 use Rattle.table.proofs.FormedLaws.{formed-at}
 use Rattle.table.proofs.TypeLaws.{kind-of}
 use Rattle.ruled.specs.Call.{offends, judgedOutcome, ruledOutcome}
@@ -55,7 +57,7 @@ code-ref (modf t) h = let e = code-other (modf t) refl in (omega arith, sym (rw 
 
 -- whether an operand is a reference, by its number
 module _ (w : List ℕ) (n : ℕ) (s : Sound w n) (t : ℕ) (l : t < n) (x : ℕ) (e : x ≡ codeOf (typeAt w t)) where
-  by-number : isReference (typeAt w t) ≡ eqb x 98
+  pub by-number : isReference (typeAt w t) ≡ eqb x 98
   by-number = code-ref (typeAt w t) (formed-at w n s t l) .1 ∙ ap (λ (k : ℕ). eqb k 98) (sym e)
 
   pub offered : x ≡ 98 → isReference (typeAt w t) ≡ true
@@ -87,18 +89,23 @@ module _ (w : List ℕ) (n : ℕ) (s : Sound w n) (t : ℕ) (l : t < n) where
 
 -- A RULED CALL by the numbers of its operands
 
-module _ (place : ℕ) (w : List ℕ) (n : ℕ) (r : Ruling) (ts : List Ty) where
-  pub ruled-reference : offends r ts ≡ true → turnedDown Reference place w n ≡ ruledOutcome place w n r ts
+module _ (place : ℕ) (w : List ℕ) (n : ℕ) (r : Ruling) (ts : List Ty) (ms : List Bool) where
+  pub ruled-reference : offends r ts ≡ true → turnedDown Reference place w n ≡ ruledOutcome place w n r ts ms
   unfolding ruledOutcome
   ruled-reference h = sym (rw h)
 
-  pub ruled-judged : offends r ts ≡ false → judgedOutcome place w n (judgeBy r ts) ≡ ruledOutcome place w n r ts
+  pub ruled-clash : offends r ts ≡ false → runningAbstract ts ms ≡ true → turnedDown RunningAbstract place w n ≡ ruledOutcome place w n r ts ms
   unfolding ruledOutcome
-  ruled-judged h = sym (rw h)
+  ruled-clash h k = sym (rw (h, k))
+
+  pub ruled-judged : offends r ts ≡ false → runningAbstract ts ms ≡ false → judgedOutcome place w n (judgeBy r ts ms) ≡ ruledOutcome place w n r ts ms
+  unfolding ruledOutcome
+  ruled-judged h k = sym (rw (h, k))
 
 -- a row, by the number under which the code knows it
-pub row-judged : (place : ℕ) (w : List ℕ) (n k : ℕ) (r : Row) (ts : List Ty) → rowAt k ≡ r → allFormed ts ≡ true → offends (byRow r) ts ≡ false
-    → judgedOutcome place w n (judgeRow (rowAt k) (map operand (codesOf ts))) ≡ ruledOutcome place w n (byRow r) ts
+pub row-judged : (place : ℕ) (w : List ℕ) (n k : ℕ) (r : Row) (ts : List Ty) (ms : List Bool) (running : Bool) → rowAt k ≡ r → allFormed ts ≡ true → offends (byRow r) ts ≡ false
+    → runningAbstract ts ms ≡ false → running ≡ anyRunning ms
+    → judgedOutcome place w n (judgeKept running (rowAt k) (map operand (codesOf ts))) ≡ ruledOutcome place w n (byRow r) ts ms
 unfolding judgeBy
-row-judged place w n k r ts e f h =
-    ap (judgedOutcome place w n) (judge-types ts f k ∙ ap (λ (x : Row). judgeRow x ts) e) ∙ ruled-judged place w n (byRow r) ts h
+row-judged place w n k r ts ms running e f h u q =
+    ap (judgedOutcome place w n) (judge-types ts f k running ∙ (λ i. judgeKept (q i) (e i) ts) ∙ judge-kept r ts ms u) ∙ ruled-judged place w n (byRow r) ts ms h u

@@ -2,14 +2,21 @@
 use Prim.Native.Nat.{ℕ}
 use mathlib.Core.Bool.{Bool, true, false, _&&_, _||_, not, cond}
 use mathlib.Core.List.{List, [], _∷_}
+use Rattle.held.specs.Held.{numberOf}
 use Rattle.conv.specs.Types.{Ty}
 use Rattle.conv.specs.Rank.{isReference}
 use Rattle.overload.specs.Overload.{Judged}
 use Rattle.overload.specs.Overload.Judged.{gives, noneFits, nonePreferred}
+use Rattle.overload.specs.Marks.{runningAbstract}
 use Rattle.overload.specs.Rows.{Ruling, judgeBy}
 use Rattle.overload.specs.Rows.Ruling.{byRow, address, indirection}
+use Rattle.table.specs.Denote.{typeAt}
 use Rattle.table.specs.Placing.{Outcome, turnedDown, entering}
-use Rattle.answer.specs.declared.Reason.the-variants.{Reference, NoOverload, NonePreferred}
+use Rattle.answer.specs.declared.Reason.the-variants.{Reference, NoOverload, NonePreferred, RunningAbstract}
+
+-- the type of an operand, which is a type's number with a mark
+abbrev pub operandTy : List ℕ → ℕ → Ty
+operandTy w v = typeAt w (numberOf v)
 
 unfoldable pub anyReference : List Ty → Bool
 anyReference [] = false
@@ -31,5 +38,8 @@ takesReference indirection = false
 abbrev pub offends : Ruling → List Ty → Bool
 offends r ts = not (takesReference r) && anyReference ts
 
-unfoldable pub ruledOutcome : ℕ → List ℕ → ℕ → Ruling → List Ty → Outcome
-ruledOutcome place w n r ts = cond (offends r ts) (turnedDown Reference place w n) (judgedOutcome place w n (judgeBy r ts))
+-- "14 for a running operand abstract at any depth, after 3"; ts are the operands' types, ms their marks
+unfoldable pub ruledOutcome : ℕ → List ℕ → ℕ → Ruling → List Ty → List Bool → Outcome
+ruledOutcome place w n r ts ms =
+    cond (offends r ts) (turnedDown Reference place w n)
+    (cond (runningAbstract ts ms) (turnedDown RunningAbstract place w n) (judgedOutcome place w n (judgeBy r ts ms)))

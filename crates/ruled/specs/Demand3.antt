@@ -1,6 +1,6 @@
 -- DEMAND 3, as the customer states it, of a call that is ruled by a set of overloads: "a call is accepted exactly when an overload fits, all operands converting to its
 -- parameters. The result is that of one fitting overload under which no operand costs more, by WGSL's conversion ranks, than under any other fitting overload; every
--- other costs more at some operand." Assumes nothing.
+-- other costs more at some operand." By document 02, K3, the set is what remains of the overloads by the operands' marks. Assumes nothing.
 use Prim.Native.Nat.{ℕ, _-_, _≤_}
 use mathlib.Core.Path.{_≡_}
 use mathlib.Core.List.{List}

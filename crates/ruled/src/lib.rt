@@ -11,17 +11,20 @@ use table::Reason;
 use table::TypeNo;
 ghost use mathlib.Core.Path.{_≡_};
 ghost use mathlib.Core.Bool.{true, not};
+ghost use Rattle.held.specs.Held.{numberOf, markOf};
 ghost use mathlib.Core.List.{map};
 ghost use Prim.Native.Nat.{_+_, _-_, _/_, _%_, _<_, _≤_};
 ghost use lib.Dec.{T};
-ghost use Rattle.conv.specs.Types.{formed, isRuntime};
-ghost use Rattle.overload.specs.Rows.{rowAt, judgeRow};
-ghost use Rattle.overload.specs.inner.Code.{operand, codeOf, outOf};
+ghost use Rattle.conv.specs.Types.{abstractTy, formed, isRuntime};
+ghost use Rattle.conv.specs.Rank.{both};
+ghost use Rattle.overload.specs.Marks.{anyRunning, runningAbstract};
+ghost use Rattle.overload.specs.Rows.{rowAt};
+ghost use Rattle.overload.specs.inner.Code.{operand, codeOf, judgeKept, outOf};
 ghost use Rattle.table.specs.Table.{Sound};
 ghost use Rattle.table.specs.Denote.{typeAt};
 ghost use Rattle.table.specs.Placing.{Gave, entering};
 ghost use Rattle.table.specs.declared.Entry.{Entry};
-ghost use Rattle.ruled.specs.Call.{judgedOutcome};
+ghost use Rattle.ruled.specs.Call.{operandTy, judgedOutcome};
 ghost use Rattle.ruled.specs.inner.Result.{ResultDone, PlainDone};
 
 // The number of a reference, and of any other type that is neither scalar nor vector nor matrix.
@@ -48,6 +51,17 @@ pub fn code_at(words: &[u32], n: usize, t: usize) -> u8
         return REFERENCE;
     }
     OTHER
+}
+
+// Whether an operand is running and abstract at any depth.
+pub fn clashes(words: &[u32], n: usize, v: u32) -> bool
+    requires { ⌜ Sound (now words) n × (numberOf v < n) ⌝ }
+    ensures { λ r. ⌜ r ≡ both (markOf v) (abstractTy (operandTy (now (words .entry)) v)) ⌝ }
+{
+    if !held::running(v) {
+        return false;
+    }
+    table::abstract_at(words, n, held::number(v).0)
 }
 
 // The entry of the vector of that number.
@@ -136,12 +150,19 @@ fn enter_out(words: &mut [u32], n: usize, place: Place, out: Out) -> Answer
     }
 }
 
-// The answer of a row at operands by their numbers: refusal 8, 13 or 9, or the result's number.
-pub fn judge_codes(words: &mut [u32], n: usize, place: Place, row: usize, codes: &[u8]) -> Answer
+// The answer of a row at operands by their numbers, of which one is running or none: refusal 8, 13 or 9, or the result's number.
+pub fn judge_codes(
+    words: &mut [u32],
+    n: usize,
+    place: Place,
+    row: usize,
+    running: bool,
+    codes: &[u8],
+) -> Answer
     requires { ⌜ Sound (now words) n ⌝ }
-    ensures { λ r. ⌜ Gave (judgedOutcome (place .0) (now (words .entry)) n (judgeRow (rowAt row) (map operand (now (codes .entry))))) r (now (words .exit)) ⌝ }
+    ensures { λ r. ⌜ Gave (judgedOutcome (place .0) (now (words .entry)) n (judgeKept running (rowAt row) (map operand (now (codes .entry))))) r (now (words .exit)) ⌝ }
 {
-    let j = overload::resolve(row, codes);
+    let j = overload::resolve(row, running, codes);
     match j {
         Resolution::Gives(out) => enter_out(words, n, place, out),
         Resolution::NoneFits => table::refused(Reason::NoOverload, place, n),

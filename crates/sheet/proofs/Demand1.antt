@@ -9,6 +9,7 @@ use native.Mathlib.Omega.{arith}
 use lib.Dec.{eqb, ltb}
 use borrow.Author.Tests.{ltb-true, ltb-false}
 use lib.ListN.{length, getD}
+use Rattle.held.specs.Held.{numberOf}
 use Rattle.answer.specs.Answer.{usedOf, accept, refuse}
 use Rattle.table.specs.Table.{soundb, Sound}
 use Rattle.table.specs.Denote.{typeAt}
@@ -19,7 +20,7 @@ use Rattle.answer.specs.declared.Answer.the-variants.{NoValue}
 use Rattle.table.proofs.SoundLaws.{sound-of}
 use Rattle.table.proofs.TypeLaws.{type-keeps}
 use Rattle.table.proofs.KindLaws.{split}
-use Rattle.frame.specs.Frame.{version, headerSize, headerOk, itemsFrom}
+use Rattle.frame.specs.Frame.{headerSize, headerOk, itemsFrom}
 use Rattle.frame.specs.declared.Placed.{Placed}
 use Rattle.names.specs.Names.{profiles}
 use Rattle.step.specs.Effect.{State, height, Effect, goes, silent, ends, stops, effectOf}
@@ -59,7 +60,7 @@ count-left size place next high used = go (eqb high 0 && eqb next size)
 count-end : (size : ℕ) (vs : List ℕ) (used : ℕ) → usedOf (endAnswer size vs used) ≡ used
 count-end size vs used = go (eqb (length vs) 1)
   where
-    go : (b : Bool) → usedOf (cond b (accept (getD vs 0 0) used) (refuse Stack size used)) ≡ used
+    go : (b : Bool) → usedOf (cond b (accept (numberOf (getD vs 0 0)) used) (refuse Stack size used)) ≡ used
     go true = refl
     go false = refl
 
@@ -178,7 +179,7 @@ module _ (profile : ℕ) (w : List ℕ) (n : ℕ) (s : List ℕ) where
   begun-good h = record { sound = h; under = λ i k. absurd (omega arith); high = omega arith }
 
   -- over a sound table, under a right header and in a known profile, the words and the count afterwards are those of the accepted items, whatever is answered
-  pub sheet-reached : soundb w n ≡ true → headerOk version s ≡ true → profile < profiles → (o .words ≡ last .words) × (usedOf (o .answer) ≡ last .used)
+  pub sheet-reached : soundb w n ≡ true → headerOk s ≡ true → profile < profiles → (o .words ≡ last .words) × (usedOf (o .answer) ≡ last .used)
   sheet-reached h k p =
       let r = ran profile s (itemsFrom s headerSize) (begun w n) (begun-good (sound-of w n h)) in
       let q = sheet-runs profile w n s h k p in
@@ -187,7 +188,7 @@ module _ (profile : ℕ) (w : List ℕ) (n : ℕ) (s : List ℕ) where
   -- the table stays sound, the count is that of the entries really there, and the earlier entries stay at their numbers with their words
   pub sheet-keeps : soundb w n ≡ true → Sound (o .words) (usedOf (o .answer)) × Grew w n (o .words) (usedOf (o .answer))
   sheet-keeps h =
-      split (headerOk version s)
+      split (headerOk s)
       (λ k.
       split (ltb profile profiles)
       (λ b.
@@ -198,7 +199,7 @@ module _ (profile : ℕ) (w : List ℕ) (n : ℕ) (s : List ℕ) where
       (λ k. let q = sheet-unheaded profile w n s h k in (rw (← q) (sound-of w n h), rw (← q) (grew-none w n)))
 
   -- every entry that the sheet added was added by an accepted item whose result needs it, whatever is answered
-  pub sheet-adds : soundb w n ≡ true → headerOk version s ≡ true → profile < profiles → (i : ℕ) → n ≤ i → i < usedOf (o .answer) → AddedBy profile s (itemsFrom s headerSize) (begun w n) i
+  pub sheet-adds : soundb w n ≡ true → headerOk s ≡ true → profile < profiles → (i : ℕ) → n ≤ i → i < usedOf (o .answer) → AddedBy profile s (itemsFrom s headerSize) (begun w n) i
   sheet-adds h k p i l m =
       let q = sheet-reached h k p .1 in
       run-adds profile s (itemsFrom s headerSize) (begun w n) (begun-good (sound-of w n h)) i l (omega (arith, q))
@@ -211,8 +212,8 @@ module _ (profile : ℕ) (w : List ℕ) (n : ℕ) (s : List ℕ) where
   pub sheet-refused : soundb w n ≡ false → o ≡ turnedDown Unsound 0 w n
   sheet-refused h = sym (sheet-unsound profile w n s h)
 
-  pub sheet-header : soundb w n ≡ true → headerOk version s ≡ false → o ≡ turnedDown Framing 0 w n
+  pub sheet-header : soundb w n ≡ true → headerOk s ≡ false → o ≡ turnedDown Framing 0 w n
   sheet-header h k = sym (sheet-unheaded profile w n s h k)
 
-  pub sheet-profile : soundb w n ≡ true → headerOk version s ≡ true → profiles ≤ profile → o ≡ turnedDown Unknown 0 w n
+  pub sheet-profile : soundb w n ≡ true → headerOk s ≡ true → profiles ≤ profile → o ≡ turnedDown Unknown 0 w n
   sheet-profile h k p = sym (sheet-unprofiled profile w n s h k p)

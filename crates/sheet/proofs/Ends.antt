@@ -11,7 +11,7 @@ use Rattle.table.specs.Placing.{turnedDown}
 use Rattle.answer.specs.declared.Reason.the-variants.{Stack}
 use Rattle.frame.specs.declared.Item.the-variants.{End}
 use Rattle.frame.specs.declared.Placed.{Placed}
-use Rattle.frame.specs.Frame.{itemAt, still, version, headerSize, headerOk}
+use Rattle.frame.specs.Frame.{itemAt, still, headerSize, headerOk}
 use Rattle.names.specs.Names.{profiles}
 use Rattle.step.specs.Effect.{effectOf}
 use Rattle.sheet.specs.Machine.{after, done, turnOf, begun, typeSheet}
@@ -26,7 +26,7 @@ module _ (profile : ℕ) (w : List ℕ) (n : ℕ) (s : List ℕ) (e : length s �
   unfolding turnOf after effectOf
   at-once = ap (λ (k : ℕ). done (turnedDown Stack k w n)) e
 
-  pub sheet-empty : soundb w n ≡ true → headerOk version s ≡ true → profile < profiles → typeSheet profile w n s ≡ turnedDown Stack headerSize w n
+  pub sheet-empty : soundb w n ≡ true → headerOk s ≡ true → profile < profiles → typeSheet profile w n s ≡ turnedDown Stack headerSize w n
   sheet-empty h k p =
       sym (sheet-runs profile w n s h k p)
       ∙ run-done profile s headerSize (begun w n) (turnedDown Stack headerSize w n) (ap (λ (x : Placed). turnOf profile s x (begun w n)) no-item ∙ at-once)

@@ -1,20 +1,22 @@
--- No item looks at the header: two sheets with the same bytes after it run alike. Assumes nothing.
+-- Of the header, an item looks only at whether its version has marks: two such sheets with the same bytes after it run alike. Assumes nothing.
 use Prim.Native.Nat.{ℕ, zero, suc, _≤_}
 use mathlib.Core.Path.{_≡_, refl, _∙_, ap}
 use mathlib.Core.Bool.{Bool, true, false, cond}
 use mathlib.Core.List.{List, [], _∷_}
 use native.Mathlib.Omega.{arith}
 use lib.ListN.{length, take}
-use Rattle.table.specs.Placing.{Outcome}
+use Rattle.answer.specs.Answer.{numbersOf, markedBy}
+use Rattle.answer.specs.declared.Typed.{Typed}
+use Rattle.table.specs.Placing.{Outcome, GaveMarked}
 use Rattle.frame.specs.declared.Part.{Part}
 use Rattle.frame.specs.declared.Item.{Item}
 use Rattle.frame.specs.declared.Item.the-variants.{Push, Unary, Binary, Call, CallTemplate, Take, End, Bad}
 use Rattle.frame.specs.declared.Placed.{Placed}
-use Rattle.frame.specs.Frame.{headerSize, itemAt, isItem, itemsWithin, itemsFrom}
+use Rattle.frame.specs.Frame.{marked, headerSize, itemAt, isItem, itemsWithin, itemsFrom}
 use Rattle.frame.proofs.FrameLaws.{Framed, item-elim}
 use Rattle.frame.proofs.Parts.{Alike, alike-from, items-alike}
-use Rattle.step.specs.Effect.{State, Effect, goes, silent, ends, stops, bytesOf, callEffect, templateEffect, effectOf}
-use Rattle.sheet.specs.Machine.{Turned, more, done, after, turnOf, onward, runItems}
+use Rattle.step.specs.Effect.{State, Effect, goes, silent, ends, stops, bytesOf, unaryEffect, binaryEffect, callEffect, templateEffect, effectOf}
+use Rattle.sheet.specs.Machine.{Turned, more, done, after, turnOf, onward, runItems, endMark, onwardMark, runsItems, begun}
 
 module _ (profile : ℕ) (s t : List ℕ) (a : Alike s t) where
   name-alike : (name : Part) → headerSize ≤ name .start .0 → bytesOf s name ≡ bytesOf t name
@@ -25,12 +27,15 @@ module _ (profile : ℕ) (s t : List ℕ) (a : Alike s t) where
   effect-alike at place st = item-elim s at (λ x. effectOf profile place st s (x .item) ≡ effectOf profile place st t (x .item)) refl (λ _. refl) (λ i n _ f. go i n f)
     where
       go : (i : Item) (n : ℕ) → Framed s at i n → effectOf profile place st s i ≡ effectOf profile place st t i
-      go (Push x) n f = refl
-      go (Unary o) n f = refl
-      go (Binary o) n f = refl
-      go (Call k name) n f = ap (λ (b : List ℕ). callEffect profile place st b k) (name-alike name (omega (arith, f .name .3, f .begins)))
-      go (CallTemplate x k name) n f = ap (λ (b : List ℕ). templateEffect profile place st b (x .0) k) (name-alike name (omega (arith, f .name .3, f .begins)))
-      go (Take kind p q elem) n f = refl
+      go (Push x m) n f = refl
+      go (Unary o) n f = ap (λ (m : Bool). unaryEffect m place st o) (a .marking)
+      go (Binary o) n f = ap (λ (m : Bool). binaryEffect m place st o) (a .marking)
+      go (Call k name) n f =
+          ap (λ (b : List ℕ). callEffect (marked s) profile place st b k) (name-alike name (omega (arith, f .name .3, f .begins))) ∙ ap (λ (m : Bool). callEffect m profile place st (bytesOf t name) k) (a .marking)
+      go (CallTemplate x k name) n f =
+          ap (λ (b : List ℕ). templateEffect (marked s) profile place st b (x .0) k) (name-alike name (omega (arith, f .name .3, f .begins)))
+          ∙ ap (λ (m : Bool). templateEffect m profile place st (bytesOf t name) (x .0) k) (a .marking)
+      go (Take kind p q elem m) n f = refl
       go End n f = refl
       go Bad n f = refl
 
@@ -75,3 +80,51 @@ module _ (profile : ℕ) (s t : List ℕ) (a : Alike s t) where
   pub run-alike : (at : ℕ) (st : State) → runItems profile s (itemsFrom s at) st ≡ runItems profile t (itemsFrom t at) st
   unfolding itemsFrom
   run-alike at st = within-alike (length s) at st ∙ ap (λ (l : List Placed). runItems profile t l st) (items-alike a at)
+
+  -- AND WITH ONE MARK
+
+  onward-marked : (u : Turned) (m : Bool) (f g : State → Bool) → ((st : State) → f st ≡ g st) → onwardMark u m f ≡ onwardMark u m g
+  unfolding onwardMark
+  onward-marked (more st) m f g h = h st
+  onward-marked (done o) m f g h = refl
+
+  rest-marked : (b : Bool) (l : List Placed) (st : State) → runsItems profile s [] st ≡ runsItems profile t [] st → runsItems profile s l st ≡ runsItems profile t l st → runsItems profile s (cond b l []) st ≡ runsItems profile t (cond b l []) st
+  rest-marked true l st e f = f
+  rest-marked false l st e f = e
+
+  none-marked : (st : State) → runsItems profile s [] st ≡ runsItems profile t [] st
+  unfolding runsItems
+  none-marked st = refl
+
+  one-marked : (at : ℕ) (l : List Placed) (st : State) → ((st' : State) → runsItems profile s l st' ≡ runsItems profile t l st') → runsItems profile s (itemAt s at ∷ l) st ≡ runsItems profile t (itemAt s at ∷ l) st
+  unfolding runsItems
+  one-marked at l st h =
+      let x = itemAt s at in
+      let m = endMark (effectOf profile (x .at .0) st s (x .item)) in
+      onward-marked (turnOf profile s x st) m (runsItems profile s l) (runsItems profile t l) h
+      ∙ ap (λ (u : Turned). onwardMark u m (runsItems profile t l)) (turn-alike at st)
+      ∙ ap (λ (e : Effect). onwardMark (turnOf profile t x st) (endMark e) (runsItems profile t l)) (effect-alike at (x .at .0) st)
+
+  within-marked : (n at : ℕ) (st : State) → runsItems profile s (itemsWithin n s at) st ≡ runsItems profile t (itemsWithin n s at) st
+  unfolding itemsWithin
+  within-marked zero at st = one-marked at [] st none-marked
+  within-marked (suc n) at st =
+      one-marked at (cond (isItem (itemAt s at .item)) (itemsWithin n s (itemAt s at .next .0)) []) st
+      (λ st'. rest-marked (isItem (itemAt s at .item)) (itemsWithin n s (itemAt s at .next .0)) st' (none-marked st') (within-marked n (itemAt s at .next .0) st'))
+
+  pub mark-alike : (at : ℕ) (st : State) → runsItems profile s (itemsFrom s at) st ≡ runsItems profile t (itemsFrom t at) st
+  unfolding itemsFrom
+  mark-alike at st = within-marked (length s) at st ∙ ap (λ (l : List Placed). runsItems profile t l st) (items-alike a at)
+
+  -- so what was promised of the one is promised of the other
+  pub gave-alike : (w : List ℕ) (n : ℕ) {r : Typed} {v : List ℕ}
+      → GaveMarked (runItems profile s (itemsFrom s headerSize) (begun w n)) (runsItems profile s (itemsFrom s headerSize) (begun w n)) r v
+      → GaveMarked (runItems profile t (itemsFrom t headerSize) (begun w n)) (runsItems profile t (itemsFrom t headerSize) (begun w n)) r v
+  gave-alike w n g =
+      let e = run-alike headerSize (begun w n) in
+      let f = mark-alike headerSize (begun w n) in
+      record {
+        reply = g .reply ∙ ap (λ (o : Outcome). markedBy (runsItems profile s (itemsFrom s headerSize) (begun w n)) (o .answer)) e ∙ ap (λ (m : Bool). markedBy m (runItems profile t (itemsFrom t headerSize) (begun w n) .answer)) f;
+        numbers = g .numbers ∙ ap (λ (o : Outcome). numbersOf (o .answer)) e;
+        words = g .words ∙ ap (λ (o : Outcome). o .words) e;
+      }

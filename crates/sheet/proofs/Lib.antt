@@ -8,3 +8,5 @@ pub mod Visiting
 pub mod Ends
 pub mod Profiles
 pub mod OneReply
+pub mod Early
+pub mod Before

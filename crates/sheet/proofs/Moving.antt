@@ -6,9 +6,9 @@ use mathlib.Core.List.{List, [], _∷_}
 use lib.Dec.{eqb, ltb, leb}
 use lib.ListN.{length}
 use Rattle.conv.specs.Types.{Ty}
-use Rattle.conv.specs.Rank.{isReference}
 use Rattle.overload.specs.Overload.{Judged}
 use Rattle.overload.specs.Overload.Judged.{gives, noneFits, nonePreferred}
+use Rattle.overload.specs.Marks.{runningAbstract}
 use Rattle.overload.specs.Rows.{Ruling, judgeBy}
 use Rattle.overload.specs.Rows.Ruling.{byRow}
 use Rattle.names.specs.Names.{Named, ruleOf}
@@ -37,30 +37,30 @@ module _ (place : ℕ) (w : List ℕ) (n : ℕ) where
   judged-moved noneFits = refl
   judged-moved nonePreferred = refl
 
-  ruled-moved : (r : Ruling) (ts : List Ty) → ruledOutcome place w n r ts ≡ moved place (ruledOutcome 0 w n r ts)
+  ruled-moved : (r : Ruling) (ts : List Ty) (ms : List Bool) → ruledOutcome place w n r ts ms ≡ moved place (ruledOutcome 0 w n r ts ms)
   unfolding ruledOutcome
-  ruled-moved r ts = either (offends r ts) _ _ _ _ refl (judged-moved (judgeBy r ts))
+  ruled-moved r ts ms = either (offends r ts) _ _ _ _ refl (either (runningAbstract ts ms) _ _ _ _ refl (judged-moved (judgeBy r ts ms)))
 
-  pub unary-moved : (op : ℕ) (t : Ty) → unaryOutcome place w n op t ≡ moved place (unaryOutcome 0 w n op t)
+  pub unary-moved : (op : ℕ) (t : Ty) (m : Bool) → unaryOutcome place w n op t m ≡ moved place (unaryOutcome 0 w n op t m)
   unfolding unaryOutcome
-  unary-moved op t = either (ltb op unaryOps) _ _ _ _ (ruled-moved (unaryRuling op) (t ∷ [])) refl
+  unary-moved op t m = either (ltb op unaryOps) _ _ _ _ (ruled-moved (unaryRuling op) (t ∷ []) (m ∷ [])) refl
 
-  pub binary-moved : (op : ℕ) (t u : Ty) → binaryOutcome place w n op t u ≡ moved place (binaryOutcome 0 w n op t u)
+  pub binary-moved : (op : ℕ) (t u : Ty) (m k : Bool) → binaryOutcome place w n op t u m k ≡ moved place (binaryOutcome 0 w n op t u m k)
   unfolding binaryOutcome
-  binary-moved op t u = either (ltb op binaryOps) _ _ _ _ (ruled-moved (byRow (binaryRow op)) (t ∷ u ∷ [])) refl
+  binary-moved op t u m k = either (ltb op binaryOps) _ _ _ _ (ruled-moved (byRow (binaryRow op)) (t ∷ u ∷ []) (m ∷ k ∷ [])) refl
 
   given-moved : (g : Given) → givenOutcome place w n g ≡ moved place (givenOutcome 0 w n g)
   unfolding givenOutcome
   given-moved (judgment j) = judged-moved j
   given-moved nothing = refl
 
-  rule-moved : (r : Named) (ts us : List Ty) → byRule place w n r ts us ≡ moved place (byRule 0 w n r ts us)
+  rule-moved : (r : Named) (ts us : List Ty) (ms : List Bool) → byRule place w n r ts us ms ≡ moved place (byRule 0 w n r ts us ms)
   unfolding byRule
-  rule-moved unknown ts us = refl
-  rule-moved (rule k) ts us =
+  rule-moved unknown ts us ms = refl
+  rule-moved (rule k runs) ts us ms =
       either (templateRight k ts) _ _ _ _
-      (either (eqb (length us) (operandsOf k)) _ _ _ _ (either (anyReference us) _ _ _ _ refl (given-moved (givenBy k ts us))) refl)
+      (either (eqb (length us) (operandsOf k)) _ _ _ _ (either (anyReference us) _ _ _ _ refl (either (runningAbstract us ms) _ _ _ _ refl (given-moved (givenBy k ts us ms)))) refl)
       refl
 
-  pub call-moved : (profile : ℕ) (name : List ℕ) (ts us : List Ty) → callOutcome profile place w n name ts us ≡ moved place (callOutcome profile 0 w n name ts us)
-  call-moved profile name ts us = rule-moved (ruleOf profile name) ts us
+  pub call-moved : (profile : ℕ) (name : List ℕ) (ts us : List Ty) (ms : List Bool) → callOutcome profile place w n name ts us ms ≡ moved place (callOutcome profile 0 w n name ts us ms)
+  call-moved profile name ts us ms = rule-moved (ruleOf profile name) ts us ms

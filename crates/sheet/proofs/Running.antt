@@ -1,20 +1,21 @@
 -- A run, one turn unrolled: what is left of the items gives what the whole gives. Assumes nothing.
 use Prim.Native.Nat.{ℕ, _+_, _<_, _≤_}
 use mathlib.Core.Path.{_≡_, refl, sym, _∙_, ap}
-use mathlib.Core.Bool.{true, false}
+use mathlib.Core.Bool.{Bool, true, false}
 use mathlib.Core.Logic.{_⊎_, inl, inr, _≢_}
 use mathlib.Core.List.{List}
 use native.Mathlib.Omega.{arith}
 use lib.ListN.{length}
 use borrow.Author.Tests.{lt-ltb, le-ltb}
 use Rattle.table.specs.Table.{soundb, Sound}
-use Rattle.table.specs.Placing.{Outcome, Gave, turnedDown}
-use Rattle.table.proofs.Giving.{gave-whole}
+use Rattle.table.specs.Placing.{Outcome, GaveMarked, turnedDown}
+use Rattle.table.proofs.Giving.{gave-whole, gave-marked}
 use Rattle.answer.specs.declared.Reason.the-variants.{Unsound, Unknown, Framing}
 use Rattle.names.specs.Names.{profiles}
 use Rattle.answer.specs.declared.Place.{Place}
-use Rattle.answer.specs.declared.Answer.{Answer}
-use Rattle.frame.specs.Frame.{itemAt, isItem, itemsFrom, version, headerSize, headerOk}
+use Rattle.answer.specs.Answer.{markedBy}
+use Rattle.answer.specs.declared.Typed.{Typed}
+use Rattle.frame.specs.Frame.{itemAt, isItem, itemsFrom, headerSize, headerOk}
 use Rattle.frame.specs.declared.Item.{Item}
 use Rattle.frame.specs.declared.Item.the-variants.{Push, Unary, Binary, Call, CallTemplate, Take, End, Bad}
 use Rattle.frame.specs.declared.Placed.{Placed}
@@ -22,10 +23,10 @@ use Rattle.frame.proofs.FrameLaws.{framed, own-place}
 use Rattle.frame.proofs.ItemsLaws.{items-from}
 use Rattle.sheet.specs.declared.Turn.the-variants as turn
 use Rattle.step.specs.Effect.{most, State, Effect, goes, silent, ends, stops, effectOf}
-use Rattle.sheet.specs.Machine.{after, more, done, turnOf, onward, runItems, begun, typeSheet}
+use Rattle.sheet.specs.Machine.{after, more, done, turnOf, onward, runItems, endMark, onwardMark, runsItems, begun, typeSheet}
 use Rattle.step.specs.inner.Code.{stateOf, Good, Ready}
 use Rattle.memo.specs.inner.Quick.{WentAt, QuickAt}
-use Rattle.sheet.specs.inner.Code.{turnBy, TurnCounted, Turns, Rushes}
+use Rattle.sheet.specs.inner.Code.{turnBy, DoneMarked, TurnCounted, Turns, Rushes}
 use Rattle.step.specs.Kept.{Grew, Needed}
 use Rattle.sheet.specs.declared.Rushed.{Rushed}
 use Rattle.step.proofs.Keeping.{item-kept}
@@ -41,12 +42,12 @@ goes-from s place next (stops r w) st h = absurd (let z : _≡_ {A = ℕ} 0 1 = 
 
 goes-item : (profile : ℕ) (s : List ℕ) (place : ℕ) (st st' : State) (i : Item) → effectOf profile place st s i ≡ goes st' → isItem i ≡ true
 unfolding effectOf
-goes-item profile s place st st' (Push t) h = refl
+goes-item profile s place st st' (Push t m) h = refl
 goes-item profile s place st st' (Unary op) h = refl
 goes-item profile s place st st' (Binary op) h = refl
 goes-item profile s place st st' (Call k name) h = refl
 goes-item profile s place st st' (CallTemplate t k name) h = refl
-goes-item profile s place st st' (Take kind p q elem) h = refl
+goes-item profile s place st st' (Take kind p q elem m) h = refl
 goes-item profile s place st st' End h = absurd (let z : _≡_ {A = ℕ} 0 1 = cc in omega arith)
 goes-item profile s place st st' Bad h = absurd (let z : _≡_ {A = ℕ} 0 1 = cc in omega arith)
 
@@ -74,6 +75,21 @@ module _ (profile : ℕ) (s : List ℕ) (at : ℕ) (st : State) where
       let i = turn-item profile s (itemAt s at) st st' h in
       ap (λ (l : List Placed). runItems profile s l st) (items-from s at) ∙ rw (h, i)
 
+  abbrev runs : ℕ → State → Bool
+  runs k t = runsItems profile s (itemsFrom s k) t
+
+  pub mark-more : (st' : State) → turnOf profile s (itemAt s at) st ≡ more st' → runs at st ≡ runs (itemAt s at .next .0) st'
+  unfolding runsItems onwardMark
+  mark-more st' h =
+      let i = turn-item profile s (itemAt s at) st st' h in
+      ap (λ (l : List Placed). runsItems profile s l st) (items-from s at) ∙ rw (h, i)
+
+  pub mark-done : (o : Outcome) → turnOf profile s (itemAt s at) st ≡ done o → runs at st ≡ endMark (effectOf profile at st s (itemAt s at .item))
+  unfolding runsItems onwardMark
+  mark-done o h =
+      ap (λ (l : List Placed). runsItems profile s l st) (items-from s at) ∙ rw h
+      (ap (λ (p : Place). endMark (effectOf profile (p .0) st s (itemAt s at .item))) (own-place s at))
+
   pub run-done : (o : Outcome) → turnOf profile s (itemAt s at) st ≡ done o → from at st ≡ o
   unfolding runItems onward
   run-done o h = ap (λ (l : List Placed). runItems profile s l st) (items-from s at) ∙ rw h
@@ -88,6 +104,7 @@ pub record Left (profile : ℕ) (s w₀ : List ℕ) (n₀ : ℕ) (w vals : List 
   pub long : length w ≡ length w₀
   pub ready : Ready count vals n w
   pub rest : runItems profile s (itemsFrom s at) (stateOf count vals n w) ≡ runItems profile s (itemsFrom s headerSize) (begun w₀ n₀)
+  pub mark : runsItems profile s (itemsFrom s at) (stateOf count vals n w) ≡ runsItems profile s (itemsFrom s headerSize) (begun w₀ n₀)
 
 pub left-start : (profile : ℕ) (s w : List ℕ) (n : ℕ) (vals : List ℕ) → Sound w n → length vals ≡ most → Left profile s w n w vals 0 n headerSize
 left-start profile s w n vals h l =
@@ -95,6 +112,7 @@ left-start profile s w n vals h l =
       long = refl;
       ready = record { size = l; fits = omega arith; good = record { sound = h; under = λ i k. absurd (omega arith); high = omega arith } };
       rest = refl;
+      mark = refl;
     }
 
 module _ (profile : ℕ) (s w₀ : List ℕ) (n₀ : ℕ) (w vals : List ℕ) (count n at : ℕ) (l : Left profile s w₀ n₀ w vals count n at) (vals' : List ℕ) where
@@ -103,10 +121,10 @@ module _ (profile : ℕ) (s w₀ : List ℕ) (n₀ : ℕ) (w vals : List ℕ) (c
 
   -- after quick items
   pub left-rushed : (r : Rushed) → Rushes s at count vals n w r vals' → Left profile s w₀ n₀ w vals' (r .count) n (r .at .0)
-  left-rushed r h = record { long = l .long; ready = h .ready; rest = h .rest profile ∙ l .rest }
+  left-rushed r h = record { long = l .long; ready = h .ready; rest = h .rest profile ∙ l .rest; mark = h .mark profile ∙ l .mark }
 
   module _ (w' : List ℕ) where
-    module _ (c u : ℕ) (p : Place) (t : Turns (turnOf profile s (itemAt s at) st) (itemAt s at .next .0) (turn.More c u p) vals' w') where
+    module _ (c u : ℕ) (p : Place) (t : Turns (turnOf profile s (itemAt s at) st) (endMark (effectOf profile at st s (itemAt s at .item))) (itemAt s at .next .0) (turn.More c u p) vals' w') where
       went-on : turnOf profile s (itemAt s at) st ≡ more (stateOf c vals' u w')
       unfolding turnBy
       went-on = sym (t .turned)
@@ -121,38 +139,40 @@ module _ (profile : ℕ) (s w₀ : List ℕ) (n₀ : ℕ) (w vals : List ℕ) (c
             long = b ∙ l .long;
             ready = record { size = a ∙ l .ready .size; fits = counted .0; good = turn-kept profile s (itemAt s at) st (stateOf c vals' u w') went-on (l .ready .good) .0 };
             rest = ap (λ (k : ℕ). runItems profile s (itemsFrom s k) (stateOf c vals' u w')) (counted .1) ∙ sym (run-more profile s at st (stateOf c vals' u w') went-on) ∙ l .rest;
+            mark = ap (λ (k : ℕ). runsItems profile s (itemsFrom s k) (stateOf c vals' u w')) (counted .1) ∙ sym (mark-more profile s at st (stateOf c vals' u w') went-on) ∙ l .mark;
           }
 
       pub left-less : (at < p .0) × (p .0 ≤ length s)
       left-less = let f = run-forward profile s at st (stateOf c vals' u w') went-on in let e = counted .1 in (omega (arith, f .0, e), omega (arith, f .1, e))
 
-    pub left-done : (a : Answer) → Turns (turnOf profile s (itemAt s at) st) (itemAt s at .next .0) (turn.Done a) vals' w'
-        → Gave (runItems profile s (itemsFrom s headerSize) (begun w₀ n₀)) a w'
-    unfolding turnBy
+    pub left-done : (a : Typed) → Turns (turnOf profile s (itemAt s at) st) (endMark (effectOf profile at st s (itemAt s at .item))) (itemAt s at .next .0) (turn.Done a) vals' w'
+        → GaveMarked (runItems profile s (itemsFrom s headerSize) (begun w₀ n₀)) (runsItems profile s (itemsFrom s headerSize) (begun w₀ n₀)) a w'
+    unfolding turnBy DoneMarked
     left-done a t =
-        let o : Outcome = record { answer = a; words = w' } in
+        let o : Outcome = record { answer = a .answer; words = w' } in
         let r = sym (run-done profile s at st o (sym (t .turned))) ∙ l .rest in
-        gave-whole r
+        let m = sym (mark-done profile s at st o (sym (t .turned))) ∙ l .mark in
+        gave-marked (gave-whole r) (t .marked ∙ ap (λ (b : Bool). markedBy b (a .answer)) m)
 
 -- QUICK ITEMS: one more leaves the rest as it was
 
-module _ (s : List ℕ) (at count : ℕ) (vals : List ℕ) (used : ℕ) (w : List ℕ) (r : ℕ) (vals' : List ℕ) (q : QuickAt s at count vals used w r vals') where
+module _ (s : List ℕ) (at count : ℕ) (vals : List ℕ) (used : ℕ) (w : List ℕ) (r bytes : ℕ) (vals' : List ℕ) (q : QuickAt s at count vals used w r bytes vals') where
   pub quick-stays : r ≡ 0 → vals' ≡ vals
   quick-stays e = go (q .went)
     where
-      go : ((r ≡ 0) × (vals' ≡ vals)) ⊎ WentAt s at count vals used w r vals' → vals' ≡ vals
+      go : ((r ≡ 0) × (vals' ≡ vals)) ⊎ WentAt s at count vals used w r bytes vals' → vals' ≡ vals
       go (inl z) = z .1
       go (inr z) = let b = z .some in absurd (omega (arith, e, b))
 
-  pub quick-went : r ≢ 0 → WentAt s at count vals used w r vals'
+  pub quick-went : r ≢ 0 → WentAt s at count vals used w r bytes vals'
   quick-went k = go (q .went)
     where
-      go : ((r ≡ 0) × (vals' ≡ vals)) ⊎ WentAt s at count vals used w r vals' → WentAt s at count vals used w r vals'
+      go : ((r ≡ 0) × (vals' ≡ vals)) ⊎ WentAt s at count vals used w r bytes vals' → WentAt s at count vals used w r bytes vals'
       go (inl z) = absurd (k (z .0))
       go (inr z) = z
 
 module _ (s : List ℕ) (from at : ℕ) (high count : ℕ) (vals₀ vals : List ℕ) (used : ℕ) (w : List ℕ) (h : Rushes s from high vals₀ used w (record { at = record { 0 = at }; count = count }) vals)
-    (c : ℕ) (vals' : List ℕ) (g : WentAt s at count vals used w c vals') where
+    (c bytes : ℕ) (vals' : List ℕ) (g : WentAt s at count vals used w c bytes vals') where
   abbrev now : State
   now = stateOf count vals used w
 
@@ -160,7 +180,11 @@ module _ (s : List ℕ) (from at : ℕ) (high count : ℕ) (vals₀ vals : List 
   unfolding turnOf after
   turns profile = ap (λ (p : Place). after s (p .0) (itemAt s at .next .0) (effectOf profile (p .0) now s (itemAt s at .item))) (own-place s at) ∙ ap (after s at (itemAt s at .next .0)) (g .effect profile)
 
-  pub rush-on : length vals' ≡ length vals → Rushes s from high vals₀ used w (record { at = record { 0 = at + 3 }; count = c }) vals'
+  -- it has bytes
+  pub rush-further : at < at + bytes
+  rush-further = let f = run-forward 0 s at now (stateOf c vals' used w) (turns 0) .0 in omega (arith, f, g .next)
+
+  pub rush-on : length vals' ≡ length vals → Rushes s from high vals₀ used w (record { at = record { 0 = at + bytes }; count = c }) vals'
   rush-on a =
       let k = turn-kept 0 s (itemAt s at) now (stateOf c vals' used w) (turns 0) (h .ready .good) in
       let b = h .onward in
@@ -169,6 +193,9 @@ module _ (s : List ℕ) (from at : ℕ) (high count : ℕ) (vals₀ vals : List 
         rest = λ profile.
             sym (ap (λ (n : ℕ). runItems profile s (itemsFrom s n) (stateOf c vals' used w)) (g .next))
             ∙ sym (run-more profile s at now (stateOf c vals' used w) (turns profile)) ∙ h .rest profile;
+        mark = λ profile.
+            sym (ap (λ (n : ℕ). runsItems profile s (itemsFrom s n) (stateOf c vals' used w)) (g .next))
+            ∙ sym (mark-more profile s at now (stateOf c vals' used w) (turns profile)) ∙ h .mark profile;
         onward = omega (arith, b);
       }
 
@@ -179,14 +206,14 @@ module _ (profile : ℕ) (w : List ℕ) (n : ℕ) (s : List ℕ) where
   unfolding typeSheet
   sheet-unsound h = sym (rw h)
 
-  pub sheet-unheaded : soundb w n ≡ true → headerOk version s ≡ false → turnedDown Framing 0 w n ≡ typeSheet profile w n s
+  pub sheet-unheaded : soundb w n ≡ true → headerOk s ≡ false → turnedDown Framing 0 w n ≡ typeSheet profile w n s
   unfolding typeSheet
   sheet-unheaded h k = sym (rw (h, k))
 
-  pub sheet-unprofiled : soundb w n ≡ true → headerOk version s ≡ true → profiles ≤ profile → turnedDown Unknown 0 w n ≡ typeSheet profile w n s
+  pub sheet-unprofiled : soundb w n ≡ true → headerOk s ≡ true → profiles ≤ profile → turnedDown Unknown 0 w n ≡ typeSheet profile w n s
   unfolding typeSheet
   sheet-unprofiled h k p = sym (rw (h, k, le-ltb profile profiles p))
 
-  pub sheet-runs : soundb w n ≡ true → headerOk version s ≡ true → profile < profiles → runItems profile s (itemsFrom s headerSize) (begun w n) ≡ typeSheet profile w n s
+  pub sheet-runs : soundb w n ≡ true → headerOk s ≡ true → profile < profiles → runItems profile s (itemsFrom s headerSize) (begun w n) ≡ typeSheet profile w n s
   unfolding typeSheet
   sheet-runs h k p = sym (rw (h, k, lt-ltb profile profiles p))

@@ -8,6 +8,7 @@ use lib.Dec.{eqb, ltb, leb}
 use lib.ListN.{length, getD}
 use borrow.Author.Tests.{eqb-true}
 use Rattle.table.specs.Table.{allowedb}
+use Rattle.held.specs.Held.{numberOf}
 use Rattle.answer.specs.Answer.{accept, refuse}
 use Rattle.table.specs.Placing.{Outcome}
 use Rattle.answer.specs.declared.TypeNo.{TypeNo}
@@ -71,27 +72,27 @@ either : (b : Bool) (x y : Effect) → Item-like x → Item-like y → Item-like
 either true x y p q = p
 either false x y p q = q
 
-on-stack : (vs : List ℕ) (o : Outcome) → Item-like (onto vs o)
+on-stack : (vs : List ℕ) (b : Bool) (o : Outcome) → Item-like (onto vs b o)
 unfolding onto
-on-stack vs o = go (o .answer) refl
+on-stack vs b o = go (o .answer) refl
   where
-    go : (a : Answer) → o .answer ≡ a → Item-like (onto vs o)
+    go : (a : Answer) → o .answer ≡ a → Item-like (onto vs b o)
     go (Value t m) e = rw e tt
     go (NoValue m) e = rw e tt
     go (Refused r) e = rw e tt
 
-landed : (place : ℕ) (st : State) (k : ℕ) (o : Outcome) → Item-like (landing place st k o)
-landed place st k o = either (leb most (height st - k) && isValued (o .answer)) (stop Stack place st) (onto (below k st) o) tt (on-stack (below k st) o)
+landed : (place : ℕ) (st : State) (k : ℕ) (b : Bool) (o : Outcome) → Item-like (landing place st k b o)
+landed place st k b o = either (leb most (height st - k) && isValued (o .answer)) (stop Stack place st) (onto (below k st) b o) tt (on-stack (below k st) b o)
 
 module _ (profile place : ℕ) (st : State) (s : List ℕ) where
   item-effect : (i : Item) → isItem i ≡ true → Item-like (effectOf profile place st s i)
   unfolding effectOf pushEffect unaryEffect binaryEffect callEffect templateEffect takeEffect
-  item-effect (Push t) h = either (ltb (t .0) (st .used)) _ _ (either (ltb (height st) most) _ _ tt tt) tt
-  item-effect (Unary op) h = either (leb 1 (height st)) _ _ (on-stack _ _) tt
-  item-effect (Binary op) h = either (leb 2 (height st)) _ _ (on-stack _ _) tt
-  item-effect (Call k name) h = either (leb k (height st)) _ _ (landed place st k _) tt
-  item-effect (CallTemplate t k name) h = either (leb k (height st)) _ _ (either (ltb (t .0) (st .used)) _ _ (landed place st k _) tt) tt
-  item-effect (Take kind p q elem) h = either (allowedb (st .words) (st .used) _) _ _ (either (ltb (height st) most) _ _ (on-stack _ _) tt) tt
+  item-effect (Push t m) h = either (ltb (t .0) (st .used)) _ _ (either (ltb (height st) most) _ _ tt tt) tt
+  item-effect (Unary op) h = either (leb 1 (height st)) _ _ (on-stack _ _ _) tt
+  item-effect (Binary op) h = either (leb 2 (height st)) _ _ (on-stack _ _ _) tt
+  item-effect (Call k name) h = either (leb k (height st)) _ _ (landed place st k _ _) tt
+  item-effect (CallTemplate t k name) h = either (leb k (height st)) _ _ (either (ltb (t .0) (st .used)) _ _ (landed place st k _ _) tt) tt
+  item-effect (Take kind p q elem m) h = either (allowedb (st .words) (st .used) _) _ _ (either (ltb (height st) most) _ _ (on-stack _ _ _) tt) tt
   item-effect End h = absurd (let z : _≡_ {A = ℕ} 0 1 = cc in omega arith)
   item-effect Bad h = absurd (let z : _≡_ {A = ℕ} 0 1 = cc in omega arith)
 
@@ -147,18 +148,18 @@ no-clash e = absurd (omega arith)
 end-valued : (size : ℕ) (vs : List ℕ) (used m : ℕ) → endAnswer size vs used ≡ NoValue m → ⊥
 end-valued size vs used m = go (eqb (length vs) 1)
   where
-    go : (b : Bool) → cond b (accept (getD vs 0 0) used) (refuse Stack size used) ≡ NoValue m → ⊥
+    go : (b : Bool) → cond b (accept (numberOf (getD vs 0 0)) used) (refuse Stack size used) ≡ NoValue m → ⊥
     go true h = no-clash (cc)
     go false h = no-clash (cc)
 
 no-item-valued : (profile : ℕ) (s : List ℕ) (place next : ℕ) (st : State) (i : Item) → isItem i ≡ false → Valued (after s place next (effectOf profile place st s i))
 unfolding after effectOf
-no-item-valued profile s place next st (Push t) h = no-clash (cc)
+no-item-valued profile s place next st (Push t m) h = no-clash (cc)
 no-item-valued profile s place next st (Unary op) h = no-clash (cc)
 no-item-valued profile s place next st (Binary op) h = no-clash (cc)
 no-item-valued profile s place next st (Call k name) h = no-clash (cc)
 no-item-valued profile s place next st (CallTemplate t k name) h = no-clash (cc)
-no-item-valued profile s place next st (Take kind p q elem) h = no-clash (cc)
+no-item-valued profile s place next st (Take kind p q elem m) h = no-clash (cc)
 no-item-valued profile s place next st End h = λ m e. end-valued (length s) (st .stack) (st .used) m e
 no-item-valued profile s place next st Bad h = λ m e. no-clash (cc)
 

@@ -1,6 +1,6 @@
 -- Document 01, "The sheet" and "What is answered", and document 02, K1: a sheet typed item by item, in a profile. Assumes nothing.
 use Prim.Native.Nat.{ℕ}
-use mathlib.Core.Bool.{_&&_, cond}
+use mathlib.Core.Bool.{Bool, false, _&&_, cond}
 use mathlib.Core.List.{List, [], _∷_}
 use lib.ListN.{length, getD}
 use lib.Dec.{eqb, ltb}
@@ -10,9 +10,9 @@ use Rattle.table.specs.Placing.{Outcome, turnedDown}
 use Rattle.answer.specs.declared.Reason.the-variants.{Unsound, Unknown, Framing, Stack}
 use Rattle.answer.specs.declared.Answer.{Answer}
 use Rattle.answer.specs.declared.Answer.the-variants.{NoValue, Refused}
-use Rattle.frame.specs.Frame.{version, headerSize, headerOk, itemsFrom}
+use Rattle.frame.specs.Frame.{headerSize, headerOk, itemsFrom}
 use Rattle.frame.specs.declared.Placed.{Placed}
-use Rattle.held.specs.Held.{numberOf}
+use Rattle.held.specs.Held.{numberOf, markOf}
 use Rattle.names.specs.Names.{profiles}
 use Rattle.step.specs.Effect.{State, height, Effect, goes, silent, ends, stops, effectOf}
 
@@ -49,6 +49,21 @@ unfoldable pub runItems : ℕ → List ℕ → List Placed → State → Outcome
 runItems profile s [] st = record { answer = endAnswer (length s) (st .stack) (st .used); words = st .words }
 runItems profile s (x ∷ xs) st = onward (turnOf profile s x st) (runItems profile s xs)
 
+-- the mark that the value of a sheet has: that of the one value that stands where the items end
+unfoldable pub endMark : Effect → Bool
+endMark (goes st) = false
+endMark (silent st) = false
+endMark (ends st) = markOf (getD (st .stack) 0 0)
+endMark (stops r w) = false
+
+unfoldable pub onwardMark : Turned → Bool → (State → Bool) → Bool
+onwardMark (more st) m go = go st
+onwardMark (done o) m go = m
+
+unfoldable pub runsItems : ℕ → List ℕ → List Placed → State → Bool
+runsItems profile s [] st = markOf (getD (st .stack) 0 0)
+runsItems profile s (x ∷ xs) st = onwardMark (turnOf profile s x st) (endMark (effectOf profile (x .at .0) st s (x .item))) (runsItems profile s xs)
+
 -- the machine starts with an empty stack
 abbrev pub begun : List ℕ → ℕ → State
 begun w n = record { stack = []; used = n; words = w }
@@ -57,7 +72,11 @@ begun w n = record { stack = []; used = n; words = w }
 unfoldable pub typeSheet : ℕ → List ℕ → ℕ → List ℕ → Outcome
 typeSheet profile w n s =
     cond (soundb w n)
-    (cond (headerOk version s)
+    (cond (headerOk s)
     (cond (ltb profile profiles) (runItems profile s (itemsFrom s headerSize) (begun w n)) (turnedDown Unknown 0 w n))
     (turnedDown Framing 0 w n))
     (turnedDown Unsound 0 w n)
+
+-- document 02, K3: "`type_sheet` .. answer[s] with the mark": it shows where the sheet has a value
+abbrev pub sheetRuns : ℕ → List ℕ → ℕ → List ℕ → Bool
+sheetRuns profile w n s = runsItems profile s (itemsFrom s headerSize) (begun w n)

@@ -1,22 +1,26 @@
 // A sheet typed item by item, in a profile. The header is judged once, and the part after it is handed on; the names, the stack and the memo belong to `run` and are lent inwards.
 use frame::HEADER;
-use frame::SHORT_BYTES;
 use memo::SLOTS;
 use step::Did;
 use step::VALUES;
 use table::Answer;
 use table::Place;
 use table::Reason;
+use table::Typed;
+ghost use mathlib.Core.Bool.{false};
 ghost use mathlib.Core.Path.{_≡_};
 ghost use Prim.Native.Nat.{_≤_};
-ghost use lib.ListN.{length, take};
+ghost use lib.ListN.{length, getD, take};
 ghost use Rattle.table.specs.Table.{Sound};
-ghost use Rattle.table.specs.Placing.{Gave};
+ghost use Rattle.table.specs.Placing.{GaveMarked};
 ghost use Rattle.names.specs.inner.Table.{nameTable};
+ghost use Rattle.answer.specs.Answer.{markedBy};
+ghost use Rattle.held.specs.Held.{markOf};
 ghost use Rattle.frame.specs.Frame.{headerSize, itemAt, itemsFrom};
 ghost use Rattle.frame.specs.inner.Items.{sheetOf};
-ghost use Rattle.sheet.specs.Machine.{endAnswer, leftAnswer, turnOf, runItems, begun, typeSheet};
+ghost use Rattle.sheet.specs.Machine.{endAnswer, leftAnswer, turnOf, endMark, runItems, runsItems, begun, typeSheet, sheetRuns};
 ghost use Rattle.memo.specs.inner.Memo.{Recalls};
+ghost use Rattle.step.specs.Effect.{effectOf};
 ghost use Rattle.step.specs.inner.Code.{stateOf, Ready, Counted};
 ghost use Rattle.sheet.specs.inner.Code.{TurnsBy, Turns, AfterTurn, Rushes};
 
@@ -30,7 +34,7 @@ pub enum Turn {
         used: usize,
         next: Place,
     },
-    Done(Answer),
+    Done(Typed),
 }
 
 // Where a run of quick items came to, and how many values it left.
@@ -39,15 +43,23 @@ pub struct Rushed {
     pub count: usize,
 }
 
-// The answer at the end of a sheet of `size` bytes: the one value that stands.
-fn finish(size: usize, stack: &[u32], count: usize, used: usize) -> Answer
+// The answer at the end of a sheet of `size` bytes: the one value that stands, with its mark.
+fn finish(size: usize, stack: &[u32], count: usize, used: usize) -> Typed
     requires { ⌜ (length (now stack) ≡ 64) × (count ≤ 64) ⌝ }
-    ensures { λ r. ⌜ r ≡ endAnswer size (take count (now (stack .entry))) used ⌝ }
+    ensures { λ r. ⌜ r ≡ markedBy (markOf (getD (take count (now (stack .entry))) 0 0)) (endAnswer size (take count (now (stack .entry))) used) ⌝ }
 {
     if count == 1 {
-        return table::accepted(held::number(stack[0]), used);
+        let v = stack[0];
+        return table::marked(table::accepted(held::number(v), used), held::running(v));
     }
-    table::refused(Reason::Stack, Place(size), used)
+    unmarked(table::refused(Reason::Stack, Place(size), used))
+}
+
+// An answer without a running value.
+fn unmarked(a: Answer) -> Typed
+    ensures { λ r. ⌜ r ≡ markedBy false a ⌝ }
+{
+    table::marked(a, false)
 }
 
 // The answer of a call without value at a place: it is the last item, and no value stands below it.
@@ -74,14 +86,15 @@ fn turn_by(d: Did, size: usize, at: Place, next: Place, stack: &[u32]) -> Turn
             used: u,
             next,
         },
-        Did::Silent { count: c, used: u } => Turn::Done(leave(size, at, next, c, u)),
+        Did::Silent { count: c, used: u } => Turn::Done(unmarked(leave(size, at, next, c, u))),
         Did::Ended { count: c, used: u } => Turn::Done(finish(size, stack, c, u)),
-        Did::Refused(r) => Turn::Done(Answer::Refused(r)),
+        Did::Refused(r) => Turn::Done(unmarked(Answer::Refused(r))),
     }
 }
 
 // One turn of the machine, at a place.
 fn one_turn(
+    version: u8,
     items: &[u8],
     rows: &[u8],
     profile: u32,
@@ -93,11 +106,12 @@ fn one_turn(
     memo: &mut [u64],
 ) -> Turn
     requires { ⌜ Ready count (now stack) used (now table) × Recalls (now memo) (now table) used × (now rows ≡ nameTable) ⌝ }
-    ensures { λ r. ⌜ Turns (turnOf profile (sheetOf (now (items .entry))) (itemAt (sheetOf (now (items .entry))) (at .0)) (stateOf count (now (stack .entry)) used (now (table .entry)))) (itemAt (sheetOf (now (items .entry))) (at .0) .next .0) r (now (stack .exit)) (now (table .exit)) × AfterTurn r (now (memo .exit)) (now (table .exit)) ⌝ }
+    ensures { λ r. ⌜ Turns (turnOf profile (sheetOf version (now (items .entry))) (itemAt (sheetOf version (now (items .entry))) (at .0)) (stateOf count (now (stack .entry)) used (now (table .entry)))) (endMark (effectOf profile (at .0) (stateOf count (now (stack .entry)) used (now (table .entry))) (sheetOf version (now (items .entry))) (itemAt (sheetOf version (now (items .entry))) (at .0) .item))) (itemAt (sheetOf version (now (items .entry))) (at .0) .next .0) r (now (stack .exit)) (now (table .exit)) × AfterTurn r (now (memo .exit)) (now (table .exit)) ⌝ }
 {
-    let found = frame::item_in(items, at);
+    let found = frame::item_in(version, items, at);
     let item = found.item;
     let d = memo::noted_step(
+        version,
         items,
         rows,
         profile,
@@ -114,6 +128,7 @@ fn one_turn(
 
 // The items from a place on, as long as they are quick.
 fn rush(
+    version: u8,
     items: &[u8],
     from: Place,
     stack: &mut [u32],
@@ -123,25 +138,26 @@ fn rush(
     memo: &[u64],
 ) -> Rushed
     requires { ⌜ Ready count (now stack) used (now table) × Recalls (now memo) (now table) used ⌝ }
-    ensures { λ r. ⌜ Rushes (sheetOf (now (items .entry))) (from .0) count (now (stack .entry)) used (now (table .entry)) r (now (stack .exit)) ⌝ }
+    ensures { λ r. ⌜ Rushes (sheetOf version (now (items .entry))) (from .0) count (now (stack .entry)) used (now (table .entry)) r (now (stack .exit)) ⌝ }
 {
     let mut at = from.0;
     let mut count = count;
     loop {
-        let c = memo::quick_at(items, Place(at), stack, count, table, used, memo);
-        if c == 0 {
+        let went = memo::quick_at(version, items, Place(at), stack, count, table, used, memo);
+        if went.count == 0 {
             return Rushed {
                 at: Place(at),
                 count,
             };
         }
-        at = at + SHORT_BYTES;
-        count = c;
+        at = at + went.bytes;
+        count = went.count;
     }
 }
 
 // The items from the first to the end, or to the first that is refused, over a stack of no values and a memo that has nothing.
 fn run_on(
+    version: u8,
     items: &[u8],
     rows: &[u8],
     profile: u32,
@@ -149,16 +165,17 @@ fn run_on(
     used: usize,
     stack: &mut [u32],
     memo: &mut [u64],
-) -> Answer
+) -> Typed
     requires { ⌜ Sound (now table) used × (length (now stack) ≡ 64) × Recalls (now memo) (now table) used × (now rows ≡ nameTable) ⌝ }
-    ensures { λ r. ⌜ Gave (runItems profile (sheetOf (now (items .entry))) (itemsFrom (sheetOf (now (items .entry))) headerSize) (begun (now (table .entry)) used)) r (now (table .exit)) ⌝ }
+    ensures { λ r. ⌜ GaveMarked (runItems profile (sheetOf version (now (items .entry))) (itemsFrom (sheetOf version (now (items .entry))) headerSize) (begun (now (table .entry)) used)) (runsItems profile (sheetOf version (now (items .entry))) (itemsFrom (sheetOf version (now (items .entry))) headerSize) (begun (now (table .entry)) used)) r (now (table .exit)) ⌝ }
 {
     let mut count: usize = 0;
     let mut used = used;
     let mut at = HEADER;
     loop {
-        let r = rush(items, Place(at), stack, count, table, used, memo);
+        let r = rush(version, items, Place(at), stack, count, table, used, memo);
         match one_turn(
+            version,
             items,
             rows,
             profile,
@@ -186,14 +203,15 @@ fn run_on(
 }
 
 // The same over the names, a stack and a memo of its own.
-fn run(items: &[u8], profile: u32, table: &mut [u32], used: usize) -> Answer
+fn run(version: u8, items: &[u8], profile: u32, table: &mut [u32], used: usize) -> Typed
     requires { ⌜ Sound (now table) used ⌝ }
-    ensures { λ r. ⌜ Gave (runItems profile (sheetOf (now (items .entry))) (itemsFrom (sheetOf (now (items .entry))) headerSize) (begun (now (table .entry)) used)) r (now (table .exit)) ⌝ }
+    ensures { λ r. ⌜ GaveMarked (runItems profile (sheetOf version (now (items .entry))) (itemsFrom (sheetOf version (now (items .entry))) headerSize) (begun (now (table .entry)) used)) (runsItems profile (sheetOf version (now (items .entry))) (itemsFrom (sheetOf version (now (items .entry))) headerSize) (begun (now (table .entry)) used)) r (now (table .exit)) ⌝ }
 {
     let rows = names::name_table();
     let mut values = [0u32; VALUES];
     let mut results = [0u64; SLOTS];
     run_on(
+        version,
         items,
         &rows,
         profile,
@@ -205,17 +223,17 @@ fn run(items: &[u8], profile: u32, table: &mut [u32], used: usize) -> Answer
 }
 
 // For a host: the type of a whole sheet over a table of n entries, in a profile.
-pub fn type_sheet(words: &mut [u32], n: usize, profile: u32, sheet: &[u8]) -> Answer
-    ensures { λ r. ⌜ Gave (typeSheet profile (now (words .entry)) n (now (sheet .entry))) r (now (words .exit)) ⌝ }
+pub fn type_sheet(words: &mut [u32], n: usize, profile: u32, sheet: &[u8]) -> Typed
+    ensures { λ r. ⌜ GaveMarked (typeSheet profile (now (words .entry)) n (now (sheet .entry))) (sheetRuns profile (now (words .entry)) n (now (sheet .entry))) r (now (words .exit)) ⌝ }
 {
     if !table::sound(words, n) {
-        return table::refused(Reason::Unsound, Place(0), n);
+        return unmarked(table::refused(Reason::Unsound, Place(0), n));
     }
     if !frame::header(sheet) {
-        return table::refused(Reason::Framing, Place(0), n);
+        return unmarked(table::refused(Reason::Framing, Place(0), n));
     }
     if names::PROFILES <= profile {
-        return table::refused(Reason::Unknown, Place(0), n);
+        return unmarked(table::refused(Reason::Unknown, Place(0), n));
     }
-    run(&sheet[HEADER..], profile, words, n)
+    run(sheet[0], &sheet[HEADER..], profile, words, n)
 }

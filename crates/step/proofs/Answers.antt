@@ -17,10 +17,11 @@ use Rattle.table.proofs.TypeLaws.{type-scalar}
 use Rattle.table.proofs.PlacingLaws.{standing-outcome}
 use Rattle.answer.specs.Answer.{reasonNo}
 use Rattle.answer.specs.declared.Reason.{Reason}
-use Rattle.answer.specs.declared.Reason.the-variants.{Reference, Unknown, Template, Operands}
+use Rattle.answer.specs.declared.Reason.the-variants.{Reference, Unknown, Template, Operands, RunningAbstract}
 use Rattle.answer.specs.declared.TypeNo.{TypeNo}
 use Rattle.answer.specs.declared.Answer.{Answer}
 use Rattle.answer.specs.declared.Answer.the-variants.{Value, NoValue, Refused}
+use Rattle.overload.specs.Marks.{runningAbstract}
 use Rattle.ruled.specs.Call.{anyReference, judgedOutcome}
 use Rattle.table.specs.Kept.{Kept}
 use Rattle.call_ty.specs.Calls.{templateRight, operandsOf, Given, givenBy, givenOutcome, byRule, callOutcome}
@@ -39,13 +40,14 @@ module _ (place : ℕ) (w : List ℕ) (n : ℕ) (ts : List Ty) where
 
   -- what holds of every refusal but that for want of room, and of what the rule gives, holds of the call
   by-rule : (P : Outcome → Type 0) → ((reason : Reason) → eqb (reasonNo reason) 9 ≡ false → P (turnedDown reason place w n))
-      → (named : Named) → ((r : Rule) → named ≡ rule r → operandsOf r ≡ 0 → P (givenOutcome place w n (givenBy r ts []))) → P (byRule place w n named ts [])
+      → (named : Named) → ((r : Rule) (runs : Bool) → named ≡ rule r runs → operandsOf r ≡ 0 → P (givenOutcome place w n (givenBy r ts [] []))) → P (byRule place w n named ts [] [])
   unfolding byRule
   by-rule P refused unknown f = refused Unknown refl
-  by-rule P refused (rule r) f =
+  by-rule P refused (rule r runs) f =
       either P (templateRight r ts) _ _
       (λ _. either P (eqb 0 (operandsOf r)) _ _
-      (λ d. either P (anyReference []) _ _ (λ _. refused Reference refl) (λ _. f r refl (sym (eqb-true 0 (operandsOf r) d))))
+      (λ d. either P (anyReference []) _ _ (λ _. refused Reference refl)
+      (λ _. either P (runningAbstract [] []) _ _ (λ _. refused RunningAbstract refl) (λ _. f r runs refl (sym (eqb-true 0 (operandsOf r) d)))))
       (λ _. refused Operands refl))
       (λ _. refused Template refl)
 
@@ -55,9 +57,9 @@ module _ (place : ℕ) (w : List ℕ) (n : ℕ) (ts : List Ty) where
   given-words s profile g (scalarly t l h e) =
       rw e (ap (λ (o : Outcome). o .words) (standing-outcome place w n s t (scalar t) (let k = s .low in omega arith) (type-scalar w t l)))
 
-  pub bare-words : Sound w n → (profile : ℕ) (name : List ℕ) → callOutcome profile place w n name ts [] .words ≡ w
+  pub bare-words : Sound w n → (profile : ℕ) (name : List ℕ) → callOutcome profile place w n name ts [] [] .words ≡ w
   bare-words s profile name =
-      by-rule (λ (o : Outcome). o .words ≡ w) (λ reason _. refl) (ruleOf profile name) (λ r e o. given-words s profile (givenBy r ts []) (wants-none profile name r e o ts))
+      by-rule (λ (o : Outcome). o .words ≡ w) (λ reason _. refl) (ruleOf profile name) (λ r m e o. given-words s profile (givenBy r ts [] []) (wants-none profile name r m e o ts))
 
   -- no answer of profile 0 has a value, or lacks the room for one
 
@@ -66,11 +68,11 @@ module _ (place : ℕ) (w : List ℕ) (n : ℕ) (ts : List Ty) where
   given-unvalued g (silent e) = rw e
   given-unvalued g (scalarly s l k e) = absurd (omega arith)
 
-  pub bare-unvalued : (name : List ℕ) → isValued (callOutcome 0 place w n name ts [] .answer) ≡ false
+  pub bare-unvalued : (name : List ℕ) → isValued (callOutcome 0 place w n name ts [] [] .answer) ≡ false
   unfolding isValued
   bare-unvalued name =
       by-rule (λ (o : Outcome). isValued (o .answer) ≡ false) (λ reason h. h) (ruleOf 0 name)
-      (λ r e o. given-unvalued (givenBy r ts []) (wants-none 0 name r e o ts))
+      (λ r m e o. given-unvalued (givenBy r ts [] []) (wants-none 0 name r m e o ts))
 
 -- A VALUE HAS A PLACE on a stack of h values, where not both the stack is full and a value comes
 pub has-place : (h : ℕ) (a : Answer) (t : TypeNo) (m : ℕ) → (leb most h && isValued a) ≡ false → a ≡ Value t m → h < most
@@ -90,6 +92,6 @@ pushes w n o k base room (Value t m) e =
     let low = s .below in
     let high = s .sound .high in
     let z : t .0 < 256 = omega arith in
-    (room t m (sym e), omega (arith, z))
+    (room t m (sym e), z)
 pushes w n o k base room (NoValue m) e = tt
 pushes w n o k base room (Refused r) e = tt

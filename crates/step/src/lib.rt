@@ -4,6 +4,7 @@ use cast::wide;
 use cast::wide32;
 use frame::Item;
 use frame::Part;
+use frame::VERSION_2;
 use table::Answer;
 use table::Entry;
 use table::Place;
@@ -11,14 +12,15 @@ use table::Reason;
 use table::Refusal;
 use table::TypeNo;
 ghost use mathlib.Core.Path.{_≡_};
-ghost use mathlib.Core.List.{map};
 ghost use Prim.Native.Nat.{_<_, _≤_};
 ghost use lib.ListN.{length};
 ghost use Rattle.table.specs.Table.{Sound};
 ghost use Rattle.table.specs.Denote.{typeAt};
 ghost use Rattle.table.specs.Placing.{Gave};
+ghost use Rattle.frame.specs.Frame.{marks};
 ghost use Rattle.frame.specs.inner.Items.{sheetOf, LiesIn, NameIn};
 ghost use Rattle.names.specs.inner.Table.{nameTable};
+ghost use Rattle.call_ty.specs.Calls.{numbers, marksOf, types};
 ghost use Rattle.call_ty.specs.inner.Codes.{Under};
 ghost use Rattle.step.specs.Effect.{bytesOf, entryOf, pushEffect, isValued, calling, callEffect, templateEffect, takeEffect, effectOf};
 ghost use Rattle.step.specs.inner.Code.{stateOf, turnedAway, Arity, operatorOutcome, operatorEffect, Ready, Pushes, Settles, Does};
@@ -42,6 +44,13 @@ pub enum Did {
     Refused(Refusal),
 }
 
+// Whether a sheet of that version keeps the marks of results.
+pub fn keeps_marks(version: u8) -> bool
+    ensures { λ r. ⌜ r ≡ marks version ⌝ }
+{
+    version == VERSION_2
+}
+
 // A refusal of the item at a place.
 fn stopped(reason: Reason, at: Place, used: usize) -> Did
     ensures { λ r. ⌜ r ≡ turnedAway reason at used ⌝ }
@@ -53,14 +62,14 @@ fn stopped(reason: Reason, at: Place, used: usize) -> Did
     })
 }
 
-// A call's answer over the first `base` values of the stack: its value becomes the next.
-fn settle(stack: &mut [u32], base: usize, a: Answer) -> Did
+// A call's answer over the first `base` values of the stack: its value becomes the next, with a mark.
+fn settle(stack: &mut [u32], base: usize, running: bool, a: Answer) -> Did
     requires { ⌜ (length (now stack) ≡ 64) × (base ≤ 64) × Pushes base a ⌝ }
-    ensures { λ r. ⌜ Settles base (now (stack .entry)) a r (now (stack .exit)) ⌝ }
+    ensures { λ r. ⌜ Settles base (now (stack .entry)) running a r (now (stack .exit)) ⌝ }
 {
     match a {
         Answer::Value(t, m) => {
-            stack[base] = held::value(t);
+            stack[base] = held::value(t, running);
             Did::Went {
                 count: base + 1,
                 used: m,
@@ -74,9 +83,17 @@ fn settle(stack: &mut [u32], base: usize, a: Answer) -> Did
     }
 }
 
-fn push(ty: TypeNo, at: Place, stack: &mut [u32], count: usize, table: &[u32], used: usize) -> Did
+fn push(
+    ty: TypeNo,
+    running: bool,
+    at: Place,
+    stack: &mut [u32],
+    count: usize,
+    table: &[u32],
+    used: usize,
+) -> Did
     requires { ⌜ Ready count (now stack) used (now table) ⌝ }
-    ensures { λ r. ⌜ Does (pushEffect (at .0) (stateOf count (now (stack .entry)) used (now (table .entry))) (ty .0)) r (now (stack .exit)) (now (table .entry)) ⌝ }
+    ensures { λ r. ⌜ Does (pushEffect (at .0) (stateOf count (now (stack .entry)) used (now (table .entry))) (ty .0) running) r (now (stack .exit)) (now (table .entry)) ⌝ }
 {
     let index = ty.0;
     if used <= index {
@@ -85,7 +102,7 @@ fn push(ty: TypeNo, at: Place, stack: &mut [u32], count: usize, table: &[u32], u
     if VALUES <= count {
         return stopped(Reason::Stack, at, used);
     }
-    stack[count] = held::value(ty);
+    stack[count] = held::value(ty, running);
     Did::Went {
         count: count + 1,
         used,
@@ -94,22 +111,22 @@ fn push(ty: TypeNo, at: Place, stack: &mut [u32], count: usize, table: &[u32], u
 
 // The answer of an operator on the operands that are lent: a unary one on one, a binary one on two.
 fn operator_at(op: u8, at: Place, args: &[u32], table: &mut [u32], used: usize) -> Answer
-    requires { ⌜ Sound (now table) used × Under used (now args) × Arity (length (now args)) ⌝ }
-    ensures { λ r. ⌜ Gave (operatorOutcome (at .0) (now (table .entry)) used op (map (typeAt (now (table .entry))) (now (args .entry)))) r (now (table .exit)) ⌝ }
+    requires { ⌜ Sound (now table) used × Under used (numbers (now args)) × Arity (length (now args)) ⌝ }
+    ensures { λ r. ⌜ Gave (operatorOutcome (at .0) (now (table .entry)) used op (types (now (table .entry)) (numbers (now (args .entry)))) (marksOf (now (args .entry)))) r (now (table .exit)) ⌝ }
 {
     let op = wide(op);
-    let a = held::number(args[0]);
+    let a = args[0];
     if args.len() == UNARY {
         return ops_ty::unary_at(table, used, at, op, a);
     }
-    let b = held::number(args[1]);
-    ops_ty::binary_at(table, used, at, op, a, b)
+    ops_ty::binary_at(table, used, at, op, a, args[1])
 }
 
-// An operator on the last k values.
+// An operator on the last k values; the mark of its result is kept, or not.
 fn operator(
     op: u8,
     k: usize,
+    keeps: bool,
     at: Place,
     stack: &mut [u32],
     count: usize,
@@ -117,14 +134,15 @@ fn operator(
     used: usize,
 ) -> Did
     requires { ⌜ Ready count (now stack) used (now table) × Arity k ⌝ }
-    ensures { λ r. ⌜ Does (operatorEffect k (at .0) (stateOf count (now (stack .entry)) used (now (table .entry))) op) r (now (stack .exit)) (now (table .exit)) ⌝ }
+    ensures { λ r. ⌜ Does (operatorEffect keeps k (at .0) (stateOf count (now (stack .entry)) used (now (table .entry))) op) r (now (stack .exit)) (now (table .exit)) ⌝ }
 {
     if count < k {
         return stopped(Reason::Stack, at, used);
     }
     let base = count - k;
     let r = operator_at(op, at, &stack[base..count], table, used);
-    settle(stack, base, r)
+    let running = keeps & call_ty::any_running(&stack[base..count]);
+    settle(stack, base, running, r)
 }
 
 // Whether a value comes of an answer, or would come if the table had room for it.
@@ -144,6 +162,7 @@ fn is_valued(a: Answer) -> bool
 // A call on the last k values, with its template list; the table of names is lent as rows. On a full stack it has no operand, and its value has no place.
 fn call_on(
     rows: &[u8],
+    keeps: bool,
     profile: u32,
     name: &[u8],
     tplt: &[u32],
@@ -155,7 +174,7 @@ fn call_on(
     used: usize,
 ) -> Did
     requires { ⌜ Ready count (now stack) used (now table) × Under used (now tplt) × (k ≤ count) × (now rows ≡ nameTable) ⌝ }
-    ensures { λ r. ⌜ Does (calling profile (at .0) (stateOf count (now (stack .entry)) used (now (table .entry))) (now (name .entry)) (map (typeAt (now (table .entry))) (now (tplt .entry))) k) r (now (stack .exit)) (now (table .exit)) ⌝ }
+    ensures { λ r. ⌜ Does (calling keeps profile (at .0) (stateOf count (now (stack .entry)) used (now (table .entry))) (now (name .entry)) (types (now (table .entry)) (now (tplt .entry))) k) r (now (stack .exit)) (now (table .exit)) ⌝ }
 {
     let base = count - k;
     let r = call_ty::call_at(
@@ -168,13 +187,15 @@ fn call_on(
         tplt,
         &stack[base..count],
     );
-    if (VALUES <= base) & is_valued(r) {
+    let answer = r.answer;
+    if (VALUES <= base) & is_valued(answer) {
         return stopped(Reason::Stack, at, used);
     }
-    settle(stack, base, r)
+    settle(stack, base, keeps & r.running, answer)
 }
 
 fn call(
+    version: u8,
     items: &[u8],
     rows: &[u8],
     profile: u32,
@@ -187,7 +208,7 @@ fn call(
     used: usize,
 ) -> Did
     requires { ⌜ Ready count (now stack) used (now table) × LiesIn (length (now items)) name × (now rows ≡ nameTable) ⌝ }
-    ensures { λ r. ⌜ Does (callEffect profile (at .0) (stateOf count (now (stack .entry)) used (now (table .entry))) (bytesOf (sheetOf (now (items .entry))) name) k) r (now (stack .exit)) (now (table .exit)) ⌝ }
+    ensures { λ r. ⌜ Does (callEffect (marks version) profile (at .0) (stateOf count (now (stack .entry)) used (now (table .entry))) (bytesOf (sheetOf version (now (items .entry))) name) k) r (now (stack .exit)) (now (table .exit)) ⌝ }
 {
     let k = wide(k);
     if count < k {
@@ -197,6 +218,7 @@ fn call(
     let list: [u32; 0] = [];
     call_on(
         rows,
+        keeps_marks(version),
         profile,
         bytes,
         &list,
@@ -210,6 +232,7 @@ fn call(
 }
 
 fn call_template(
+    version: u8,
     items: &[u8],
     rows: &[u8],
     profile: u32,
@@ -223,7 +246,7 @@ fn call_template(
     used: usize,
 ) -> Did
     requires { ⌜ Ready count (now stack) used (now table) × LiesIn (length (now items)) name × (now rows ≡ nameTable) ⌝ }
-    ensures { λ r. ⌜ Does (templateEffect profile (at .0) (stateOf count (now (stack .entry)) used (now (table .entry))) (bytesOf (sheetOf (now (items .entry))) name) (t .0) k) r (now (stack .exit)) (now (table .exit)) ⌝ }
+    ensures { λ r. ⌜ Does (templateEffect (marks version) profile (at .0) (stateOf count (now (stack .entry)) used (now (table .entry))) (bytesOf (sheetOf version (now (items .entry))) name) (t .0) k) r (now (stack .exit)) (now (table .exit)) ⌝ }
 {
     let template = t.0;
     let wanted = wide(k);
@@ -238,6 +261,7 @@ fn call_template(
     let list = [first];
     call_on(
         rows,
+        keeps_marks(version),
         profile,
         bytes,
         &list,
@@ -253,6 +277,7 @@ fn call_template(
 // The type of an entry, entered where it is absent, as one value more.
 fn take_in(
     e: Entry,
+    running: bool,
     at: Place,
     stack: &mut [u32],
     count: usize,
@@ -260,7 +285,7 @@ fn take_in(
     used: usize,
 ) -> Did
     requires { ⌜ Ready count (now stack) used (now table) ⌝ }
-    ensures { λ r. ⌜ Does (takeEffect (at .0) (stateOf count (now (stack .entry)) used (now (table .entry))) e) r (now (stack .exit)) (now (table .exit)) ⌝ }
+    ensures { λ r. ⌜ Does (takeEffect (at .0) (stateOf count (now (stack .entry)) used (now (table .entry))) e running) r (now (stack .exit)) (now (table .exit)) ⌝ }
 {
     let allowed = table::allowed(table, used, e);
     if !allowed {
@@ -270,7 +295,7 @@ fn take_in(
         return stopped(Reason::Stack, at, used);
     }
     let r = entering::enter(table, used, e);
-    settle(stack, count, entering::answer_of(at, used, r))
+    settle(stack, count, running, entering::answer_of(at, used, r))
 }
 
 // The entry that a take asks for.
@@ -285,8 +310,9 @@ fn entry(kind: u8, p: u32, q: u8, elem: u8) -> Entry
     }
 }
 
-// What stands at a place of the sheet, in a profile, on the stack of `count` values and the table.
+// What stands at a place of a sheet of that version, in a profile, on the stack of `count` values and the table.
 pub fn step(
+    version: u8,
     items: &[u8],
     rows: &[u8],
     profile: u32,
@@ -298,13 +324,20 @@ pub fn step(
     used: usize,
 ) -> Did
     requires { ⌜ Ready count (now stack) used (now table) × NameIn (length (now items)) item × (now rows ≡ nameTable) ⌝ }
-    ensures { λ r. ⌜ Does (effectOf profile (at .0) (stateOf count (now (stack .entry)) used (now (table .entry))) (sheetOf (now (items .entry))) item) r (now (stack .exit)) (now (table .exit)) ⌝ }
+    ensures { λ r. ⌜ Does (effectOf profile (at .0) (stateOf count (now (stack .entry)) used (now (table .entry))) (sheetOf version (now (items .entry))) item) r (now (stack .exit)) (now (table .exit)) ⌝ }
 {
     match item {
-        Item::Push(t) => push(t, at, stack, count, table, used),
-        Item::Unary(op) => operator(op, UNARY, at, stack, count, table, used),
-        Item::Binary(op) => operator(op, BINARY, at, stack, count, table, used),
+        Item::Push { ty, running } => push(ty, running, at, stack, count, table, used),
+        Item::Unary(op) => {
+            let keeps = keeps_marks(version);
+            operator(op, UNARY, keeps, at, stack, count, table, used)
+        }
+        Item::Binary(op) => {
+            let keeps = keeps_marks(version);
+            operator(op, BINARY, keeps, at, stack, count, table, used)
+        }
         Item::Call { count: k, name } => call(
+            version,
             items,
             rows,
             profile,
@@ -321,6 +354,7 @@ pub fn step(
             count: k,
             name,
         } => call_template(
+            version,
             items,
             rows,
             profile,
@@ -333,9 +367,21 @@ pub fn step(
             table,
             used,
         ),
-        Item::Take { kind, p, q, elem } => {
-            take_in(entry(kind, p, q, elem), at, stack, count, table, used)
-        }
+        Item::Take {
+            kind,
+            p,
+            q,
+            elem,
+            running,
+        } => take_in(
+            entry(kind, p, q, elem),
+            running,
+            at,
+            stack,
+            count,
+            table,
+            used,
+        ),
         Item::End => Did::Ended { count, used },
         Item::Bad => stopped(Reason::Framing, at, used),
     }

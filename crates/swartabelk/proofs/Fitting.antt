@@ -2,21 +2,22 @@
 -- count that was given. Assumes nothing.
 use Prim.Native.Nat.{ℕ, _<_, _≤_, _^_}
 use mathlib.Core.Path.{_≡_, refl, sym, _∙_, ap}
-use mathlib.Core.Bool.{true, false}
+use mathlib.Core.Bool.{Bool, true, false}
 use mathlib.Core.List.{List}
 use native.Mathlib.Omega.{arith}
 use lib.IntN.{ℤ}
-use Rattle.answer.specs.Answer.{refuse}
+use Rattle.answer.specs.Answer.{refuse, markedBy}
 use Rattle.table.specs.Table.{soundb}
-use Rattle.table.specs.Placing.{Outcome, Gave}
+use Rattle.table.specs.Placing.{Outcome, Gave, GaveMarked}
 use Rattle.answer.specs.declared.TypeNo.{TypeNo}
 use Rattle.answer.specs.declared.Reason.the-variants.{Unsound}
 use Rattle.answer.specs.declared.Answer.{Answer}
 use Rattle.answer.specs.declared.Answer.the-variants.{Value, NoValue, Refused}
+use Rattle.answer.specs.declared.Typed.{Typed}
 use Rattle.table.specs.Kept.{Kept}
-use Rattle.ops_ty.specs.Ops.{typeUnaryOp, typeBinaryOp}
+use Rattle.ops_ty.specs.Ops.{typeUnaryOp, typeBinaryOp, unaryRuns, binaryRuns}
 use Rattle.ops_ty.proofs.Demand1.{unary-kept, binary-kept}
-use Rattle.call_ty.specs.Calls.{typeBuiltinFn}
+use Rattle.call_ty.specs.Calls.{typeBuiltinFn, builtinRuns}
 use Rattle.call_ty.proofs.Demand1.{call-kept}
 use Rattle.tplt.specs.Templates.{templateOutcome}
 use Rattle.tplt.proofs.Demand1.{template-kept}
@@ -45,23 +46,33 @@ kept-fits w n o l k at a e =
     (λ t m q. let s = k .accepted t m (sym e ∙ q) .1 in (s .below, s .sound .high)) (λ m q. k .without m (sym e ∙ q) .1)
     (rw e at)
 
-module _ (w : List ℕ) (n : ℕ) (l : n < 2 ^ 32) (r : Answer) (v : List ℕ) where
-  pub unary-fits : (op a : ℕ) → Gave (typeUnaryOp w n op a) r v → Fits r
-  unary-fits op a g = kept-fits w n _ l (unary-kept w n op a) (type-unary-at w n op a) r (g .reply)
+-- the answer that an outcome gave with a mark
+pub answer-of : {o : Outcome} {m : Bool} {d : Typed} {v : List ℕ} → GaveMarked o m d v → d .answer ≡ o .answer
+answer-of g = ap (λ (x : Typed). x .answer) (g .reply)
 
-  pub binary-fits : (op a b : ℕ) → Gave (typeBinaryOp w n op a b) r v → Fits r
-  binary-fits op a b g = kept-fits w n _ l (binary-kept w n op a b) (type-binary-at w n op a b) r (g .reply)
+module _ (w : List ℕ) (n : ℕ) (l : n < 2 ^ 32) (v : List ℕ) where
+  module _ (d : Typed) where
+    pub unary-fits : (op a : ℕ) → GaveMarked (typeUnaryOp w n op a) (unaryRuns a) d v → Fits (d .answer)
+    unary-fits op a g = kept-fits w n _ l (unary-kept w n op a) (type-unary-at w n op a) (d .answer) (answer-of g)
 
-  pub call-fits : (profile : ℕ) (name tplt args : List ℕ) → Gave (typeBuiltinFn profile w n name tplt args) r v → Fits r
-  call-fits profile name tplt args g = kept-fits w n _ l (call-kept profile w n name tplt args) (type-builtin-at w n profile name tplt args) r (g .reply)
+    pub binary-fits : (op a b : ℕ) → GaveMarked (typeBinaryOp w n op a b) (binaryRuns a b) d v → Fits (d .answer)
+    binary-fits op a b g = kept-fits w n _ l (binary-kept w n op a b) (type-binary-at w n op a b) (d .answer) (answer-of g)
 
-  pub template-fits : (head : List ℕ) (args : List ℤ) → Gave (templateOutcome w n head args) r v → Fits r
-  template-fits head args g = kept-fits w n _ l (template-kept w n head args) (type-template-at w n head args) r (g .reply)
+    pub call-fits : (profile : ℕ) (name tplt args : List ℕ) → GaveMarked (typeBuiltinFn profile w n name tplt args) (builtinRuns profile name args) d v → Fits (d .answer)
+    call-fits profile name tplt args g =
+        kept-fits w n _ l (call-kept profile w n name tplt args) (type-builtin-at w n profile name tplt args) (d .answer) (answer-of g)
 
--- an outcome's answer, told in numbers, is the reply of the same outcome
-pub replied : {o p : Outcome} {a : Answer} {r : Reply} {v : List ℕ} → o ≡ p → Gave o a v → r ≡ replyOf a → Replied p r v
-replied q g e =
-    record { reply = e ∙ ap replyOf (g .reply ∙ ap (λ (x : Outcome). x .answer) q); words = g .words ∙ ap (λ (x : Outcome). x .words) q }
+  pub template-fits : (r : Answer) (head : List ℕ) (args : List ℤ) → Gave (templateOutcome w n head args) r v → Fits r
+  template-fits r head args g = kept-fits w n _ l (template-kept w n head args) (type-template-at w n head args) r (g .reply)
+
+-- an outcome's answer, told in numbers, is the reply of the same outcome: with a mark, and without
+pub replied : {o p : Outcome} {m k : Bool} {d : Typed} {r : Reply} {v : List ℕ} → o ≡ p → m ≡ k → GaveMarked o m d v → r ≡ replyOf d → Replied p k r v
+replied q f g e =
+    record { reply = e ∙ ap replyOf (g .reply) ∙ (λ i. replyOf (markedBy (f i) (q i .answer))); words = g .words ∙ ap (λ (x : Outcome). x .words) q }
+
+pub replied-const : {o p : Outcome} {a : Answer} {r : Reply} {v : List ℕ} → o ≡ p → Gave o a v → r ≡ replyOf (markedBy false a) → Replied p false r v
+replied-const q g e =
+    record { reply = e ∙ (λ i. replyOf (markedBy false (g .reply i))) ∙ (λ i. replyOf (markedBy false (q i .answer))); words = g .words ∙ ap (λ (x : Outcome). x .words) q }
 
 -- the answer of a check: no value, or refusal 1
 module _ (w : List ℕ) (n m : ℕ) (same : m ≡ n) (a : Answer) where

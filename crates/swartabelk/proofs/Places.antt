@@ -2,27 +2,27 @@
 use Prim.Native.Nat.{ℕ, _-_}
 use mathlib.Core.Path.{_≡_, refl}
 use mathlib.Core.Bool.{Bool, true, false, cond}
-use mathlib.Core.List.{List, [], _∷_, map}
+use mathlib.Core.List.{List, [], _∷_}
 use lib.Dec.{eqb, ltb, leb}
 use lib.ListN.{length}
 use lib.IntN.{ℤ}
 use Rattle.conv.specs.Types.{Ty}
-use Rattle.conv.specs.Rank.{isReference}
+use Rattle.held.specs.Held.{numberOf, markOf}
 use Rattle.overload.specs.Overload.{Judged}
 use Rattle.overload.specs.Overload.Judged.{gives, noneFits, nonePreferred}
+use Rattle.overload.specs.Marks.{runningAbstract}
 use Rattle.overload.specs.Rows.{Ruling, judgeBy}
 use Rattle.overload.specs.Rows.Ruling.{byRow}
 use Rattle.names.specs.Names.{Named, ruleOf}
 use Rattle.names.specs.Names.Named.{rule, unknown}
 use Rattle.table.specs.Table.{soundb}
-use Rattle.table.specs.Denote.{typeAt}
 use Rattle.table.specs.Enter.{free}
 use Rattle.table.specs.Placing.{Outcome, placed, entering}
 use Rattle.answer.specs.declared.Answer.{Answer}
 use Rattle.answer.specs.declared.Answer.the-variants.{Value, NoValue, Refused}
-use Rattle.ruled.specs.Call.{anyReference, judgedOutcome, offends, ruledOutcome}
+use Rattle.ruled.specs.Call.{operandTy, anyReference, judgedOutcome, offends, ruledOutcome}
 use Rattle.ops_ty.specs.Ops.{unaryOps, unaryRuling, binaryOps, binaryRow, unaryOutcome, binaryOutcome, typeUnaryOp, typeBinaryOp}
-use Rattle.call_ty.specs.Calls.{Given, templateRight, operandsOf, givenBy, givenOutcome, byRule, callOutcome, allUnder, typeBuiltinFn}
+use Rattle.call_ty.specs.Calls.{Given, templateRight, operandsOf, givenBy, givenOutcome, byRule, callOutcome, allUnder, numbers, marksOf, types, typeBuiltinFn}
 use Rattle.call_ty.specs.Calls.Given.{judgment, nothing}
 use Rattle.tplt.specs.Heads.{headOf}
 use Rattle.tplt.specs.Params.{paramsOf, typesKnown, argumentsOf}
@@ -51,45 +51,49 @@ module _ (place : ℕ) (w : List ℕ) (n : ℕ) where
   judged-at noneFits = (refl, refl)
   judged-at nonePreferred = (refl, refl)
 
-  ruled-at : (r : Ruling) (ts : List Ty) → At place n (ruledOutcome place w n r ts .answer)
+  ruled-at : (r : Ruling) (ts : List Ty) (ms : List Bool) → At place n (ruledOutcome place w n r ts ms .answer)
   unfolding ruledOutcome
-  ruled-at r ts = at-by (offends r ts) _ _ (refl, refl) (judged-at (judgeBy r ts))
+  ruled-at r ts ms = at-by (offends r ts) _ _ (refl, refl) (at-by (runningAbstract ts ms) _ _ (refl, refl) (judged-at (judgeBy r ts ms)))
 
-  pub unary-at : (op : ℕ) (t : Ty) → At place n (unaryOutcome place w n op t .answer)
+  pub unary-at : (op : ℕ) (t : Ty) (m : Bool) → At place n (unaryOutcome place w n op t m .answer)
   unfolding unaryOutcome
-  unary-at op t = at-by (ltb op unaryOps) _ _ (ruled-at (unaryRuling op) (t ∷ [])) (refl, refl)
+  unary-at op t m = at-by (ltb op unaryOps) _ _ (ruled-at (unaryRuling op) (t ∷ []) (m ∷ [])) (refl, refl)
 
-  pub binary-at : (op : ℕ) (t u : Ty) → At place n (binaryOutcome place w n op t u .answer)
+  pub binary-at : (op : ℕ) (t u : Ty) (m k : Bool) → At place n (binaryOutcome place w n op t u m k .answer)
   unfolding binaryOutcome
-  binary-at op t u = at-by (ltb op binaryOps) _ _ (ruled-at (byRow (binaryRow op)) (t ∷ u ∷ [])) (refl, refl)
+  binary-at op t u m k = at-by (ltb op binaryOps) _ _ (ruled-at (byRow (binaryRow op)) (t ∷ u ∷ []) (m ∷ k ∷ [])) (refl, refl)
 
   given-at : (g : Given) → At place n (givenOutcome place w n g .answer)
   unfolding givenOutcome
   given-at (judgment j) = judged-at j
   given-at nothing = tt
 
-  rule-at : (k : Named) (ts us : List Ty) → At place n (byRule place w n k ts us .answer)
+  rule-at : (k : Named) (ts us : List Ty) (ms : List Bool) → At place n (byRule place w n k ts us ms .answer)
   unfolding byRule
-  rule-at unknown ts us = (refl, refl)
-  rule-at (rule r) ts us =
+  rule-at unknown ts us ms = (refl, refl)
+  rule-at (rule r runs) ts us ms =
       at-by (templateRight r ts) _ _
-      (at-by (eqb (length us) (operandsOf r)) _ _ (at-by (anyReference us) _ _ (refl, refl) (given-at (givenBy r ts us))) (refl, refl))
+      (at-by (eqb (length us) (operandsOf r)) _ _
+      (at-by (anyReference us) _ _ (refl, refl) (at-by (runningAbstract us ms) _ _ (refl, refl) (given-at (givenBy r ts us ms))))
+      (refl, refl))
       (refl, refl)
 
-  pub call-at : (profile : ℕ) (name : List ℕ) (ts us : List Ty) → At place n (callOutcome profile place w n name ts us .answer)
-  call-at profile name ts us = rule-at (ruleOf profile name) ts us
+  pub call-at : (profile : ℕ) (name : List ℕ) (ts us : List Ty) (ms : List Bool) → At place n (callOutcome profile place w n name ts us ms .answer)
+  call-at profile name ts us ms = rule-at (ruleOf profile name) ts us ms
 
 -- a single call is at place 0
 module _ (w : List ℕ) (n : ℕ) where
   pub type-unary-at : (op a : ℕ) → At 0 n (typeUnaryOp w n op a .answer)
   unfolding typeUnaryOp
-  type-unary-at op a = at-by 0 w n (soundb w n) _ _ (at-by 0 w n (ltb a n) _ _ (unary-at 0 w n op (typeAt w a)) (refl, refl)) (refl, refl)
+  type-unary-at op a = at-by 0 w n (soundb w n) _ _ (at-by 0 w n (ltb (numberOf a) n) _ _ (unary-at 0 w n op (operandTy w a) (markOf a)) (refl, refl)) (refl, refl)
 
   pub type-binary-at : (op a b : ℕ) → At 0 n (typeBinaryOp w n op a b .answer)
   unfolding typeBinaryOp
   type-binary-at op a b =
       at-by 0 w n (soundb w n) _ _
-      (at-by 0 w n (ltb a n) _ _ (at-by 0 w n (ltb b n) _ _ (binary-at 0 w n op (typeAt w a) (typeAt w b)) (refl, refl)) (refl, refl))
+      (at-by 0 w n (ltb (numberOf a) n) _ _
+      (at-by 0 w n (ltb (numberOf b) n) _ _ (binary-at 0 w n op (operandTy w a) (operandTy w b) (markOf a) (markOf b)) (refl, refl))
+      (refl, refl))
       (refl, refl)
 
   pub type-builtin-at : (profile : ℕ) (name tplt args : List ℕ) → At 0 n (typeBuiltinFn profile w n name tplt args .answer)
@@ -97,7 +101,7 @@ module _ (w : List ℕ) (n : ℕ) where
   type-builtin-at profile name tplt args =
       at-by 0 w n (soundb w n) _ _
       (at-by 0 w n (allUnder n tplt) _ _
-      (at-by 0 w n (allUnder n args) _ _ (call-at 0 w n profile name (map (typeAt w) tplt) (map (typeAt w) args)) (refl, refl))
+      (at-by 0 w n (allUnder n (numbers args)) _ _ (call-at 0 w n profile name (types w tplt) (types w (numbers args)) (marksOf args)) (refl, refl))
       (refl, refl))
       (refl, refl)
 

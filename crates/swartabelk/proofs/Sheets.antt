@@ -3,33 +3,38 @@
 use Prim.Native.Nat.{ℕ, zero, suc, _-_, _≤_, _<_, _^_}
 use mathlib.Core.Path.{_≡_, refl, ap}
 use mathlib.Core.Bool.{Bool, true, false, _&&_, cond}
-use mathlib.Core.List.{List, [], _∷_, map}
+use mathlib.Core.List.{List, [], _∷_}
 use native.Mathlib.Omega.{arith}
 use lib.Dec.{ltb, leb, eqb}
 use lib.ListN.{length, getD}
 use borrow.Author.Tests.{eqb-true, ltb-true, ltb-false}
 use Rattle.conv.specs.Types.{Ty}
+use Rattle.held.specs.Held.{numberOf, markOf}
+use Rattle.call_ty.specs.Calls.{numbers, marksOf, types}
 use Rattle.answer.specs.Answer.{accept, refuse}
 use Rattle.table.specs.Table.{soundb, allowedb}
 use Rattle.table.specs.Denote.{typeAt, tyOf}
-use Rattle.table.specs.Placing.{Outcome, Gave}
+use Rattle.table.specs.Placing.{Outcome, GaveMarked}
 use Rattle.answer.specs.declared.Reason.the-variants.{Stack}
 use Rattle.answer.specs.declared.Answer.{Answer}
 use Rattle.answer.specs.declared.Answer.the-variants.{Value, NoValue, Refused}
+use Rattle.answer.specs.declared.Typed.{Typed}
 use Rattle.table.proofs.SoundLaws.{sound-of}
 use Rattle.table.proofs.KindLaws.{split}
-use Rattle.frame.specs.Frame.{version, headerSize, headerOk, itemAt, itemsWithin, itemsFrom}
+use Rattle.frame.specs.Frame.{headerSize, headerOk, marked, itemAt, itemsWithin, itemsFrom}
 use Rattle.frame.specs.declared.Item.{Item}
 use Rattle.frame.specs.declared.Item.the-variants.{Push, Unary, Binary, Call, CallTemplate, Take, End, Bad}
 use Rattle.frame.proofs.FrameLaws.{framed, own-place, headed}
 use Rattle.names.specs.Names.{profiles}
 use Rattle.step.specs.Effect.{most, State, height, operands, below, typeOf, Effect, goes, silent, ends, stops, stop, onto, having, holding, isValued, landing, calling, pushEffect, unaryEffect, binaryEffect, callEffect, templateEffect, takeEffect, effectOf, entryOf, bytesOf}
-use Rattle.sheet.specs.Machine.{endAnswer, leftAnswer, after, Turned, more, done, turnOf, onward, runItems, begun, typeSheet}
+use Rattle.sheet.specs.Machine.{endAnswer, leftAnswer, after, Turned, more, done, turnOf, onward, runItems, begun, typeSheet, sheetRuns}
 use Rattle.step.specs.inner.Code.{Good}
+use Rattle.step.proofs.StackLaws.{value-under}
 use Rattle.step.proofs.Keeping.{EffectKept, item-kept}
 use Rattle.sheet.proofs.Running.{turn-item, turn-kept, sheet-unsound, sheet-unheaded, sheet-unprofiled, sheet-runs}
 use Rattle.swartabelk.specs.inner.Code.{Fits}
 use Rattle.swartabelk.proofs.Places.{At, entering-at, unary-at, binary-at, call-at}
+use Rattle.swartabelk.proofs.Fitting.{answer-of}
 
 -- AN ITEM refuses at its own place
 
@@ -44,21 +49,23 @@ module _ (place : ℕ) (st : State) where
   either true x y p q = p
   either false x y p q = q
 
-  onto-at : (vs : List ℕ) (n : ℕ) (o : Outcome) → At place n (o .answer) → EffectAt place (onto vs o)
+  onto-at : (vs : List ℕ) (m : Bool) (n : ℕ) (o : Outcome) → At place n (o .answer) → EffectAt place (onto vs m o)
   unfolding onto
-  onto-at vs n o at = go (o .answer) refl
+  onto-at vs m n o at = go (o .answer) refl
     where
-      go : (a : Answer) → o .answer ≡ a → EffectAt place (onto vs o)
-      go (Value t m) e = rw e tt
-      go (NoValue m) e = rw e tt
+      go : (a : Answer) → o .answer ≡ a → EffectAt place (onto vs m o)
+      go (Value t u) e = rw e tt
+      go (NoValue u) e = rw e tt
       go (Refused r) e = let z = rw e at at in rw e (z .0)
 
-  landing-at : (k : ℕ) (o : Outcome) → EffectAt place (onto (below k st) o) → EffectAt place (landing place st k o)
-  landing-at k o p = either (leb most (height st - k) && isValued (o .answer)) (stop Stack place st) (onto (below k st) o) refl p
+  landing-at : (k : ℕ) (m : Bool) (o : Outcome) → EffectAt place (onto (below k st) m o) → EffectAt place (landing place st k m o)
+  landing-at k m o p = either (leb most (height st - k) && isValued (o .answer)) (stop Stack place st) (onto (below k st) m o) refl p
 
-  calling-at : (profile : ℕ) (name : List ℕ) (ts : List Ty) (k : ℕ) → EffectAt place (calling profile place st name ts k)
-  calling-at profile name ts k =
-      landing-at k _ (onto-at (below k st) (st .used) _ (call-at place (st .words) (st .used) profile name ts (map (typeOf st) (operands k st))))
+  calling-at : (keeps : Bool) (profile : ℕ) (name : List ℕ) (ts : List Ty) (k : ℕ) → EffectAt place (calling keeps profile place st name ts k)
+  calling-at keeps profile name ts k =
+      landing-at k _ _
+      (onto-at (below k st) _ (st .used) _
+      (call-at place (st .words) (st .used) profile name ts (types (st .words) (numbers (operands k st))) (marksOf (operands k st))))
 
   having-at : (k : ℕ) (e : Effect) → EffectAt place e → EffectAt place (having place st k e)
   having-at k e p = either (leb k (height st)) e _ p refl
@@ -68,17 +75,20 @@ module _ (place : ℕ) (st : State) where
 
   item-at : (profile : ℕ) (s : List ℕ) (i : Item) → EffectAt place (effectOf profile place st s i)
   unfolding effectOf pushEffect unaryEffect binaryEffect callEffect templateEffect takeEffect
-  item-at profile s (Push t) = either (ltb (t .0) (st .used)) _ _ (holding-at _ tt) refl
-  item-at profile s (Unary op) = having-at 1 _ (onto-at (below 1 st) (st .used) _ (unary-at place (st .words) (st .used) op (typeOf st (getD (operands 1 st) 0 0))))
+  item-at profile s (Push t m) = either (ltb (t .0) (st .used)) _ _ (holding-at _ tt) refl
+  item-at profile s (Unary op) =
+      having-at 1 _
+      (onto-at (below 1 st) _ (st .used) _ (unary-at place (st .words) (st .used) op (typeOf st (getD (operands 1 st) 0 0)) (markOf (getD (operands 1 st) 0 0))))
   item-at profile s (Binary op) =
       having-at 2 _
-      (onto-at (below 2 st) (st .used) _ (binary-at place (st .words) (st .used) op (typeOf st (getD (operands 2 st) 0 0)) (typeOf st (getD (operands 2 st) 1 0))))
-  item-at profile s (Call k name) = having-at k _ (calling-at profile (bytesOf s name) [] k)
+      (onto-at (below 2 st) _ (st .used) _
+      (binary-at place (st .words) (st .used) op (typeOf st (getD (operands 2 st) 0 0)) (typeOf st (getD (operands 2 st) 1 0)) (markOf (getD (operands 2 st) 0 0)) (markOf (getD (operands 2 st) 1 0))))
+  item-at profile s (Call k name) = having-at k _ (calling-at (marked s) profile (bytesOf s name) [] k)
   item-at profile s (CallTemplate t k name) =
-      having-at k _ (either (ltb (t .0) (st .used)) _ _ (calling-at profile (bytesOf s name) (typeAt (st .words) (t .0) ∷ []) k) refl)
-  item-at profile s (Take kind p q elem) =
+      having-at k _ (either (ltb (t .0) (st .used)) _ _ (calling-at (marked s) profile (bytesOf s name) (typeAt (st .words) (t .0) ∷ []) k) refl)
+  item-at profile s (Take kind p q elem m) =
       either (allowedb (st .words) (st .used) (entryOf kind p q elem)) _ _
-      (holding-at _ (onto-at (st .stack) (st .used) _ (entering-at place (st .words) (st .used) (tyOf (st .words) (entryOf kind p q elem))))) refl
+      (holding-at _ (onto-at (st .stack) _ (st .used) _ (entering-at place (st .words) (st .used) (tyOf (st .words) (entryOf kind p q elem))))) refl
   item-at profile s End = tt
   item-at profile s Bad = refl
 
@@ -98,8 +108,8 @@ told-fits size h (Refused r) k = (omega (arith, k .0), omega (arith, k .1))
 end-told : (size : ℕ) (st : State) → Good st → Told size (endAnswer size (st .stack) (st .used))
 end-told size st g = go (eqb (length (st .stack)) 1) refl
   where
-    go : (b : Bool) → eqb (length (st .stack)) 1 ≡ b → Told size (cond b (accept (getD (st .stack) 0 0) (st .used)) (refuse Stack size (st .used)))
-    go true e = (g .under 0 (omega (arith, eqb-true (length (st .stack)) 1 e)), g .sound .high)
+    go : (b : Bool) → eqb (length (st .stack)) 1 ≡ b → Told size (cond b (accept (numberOf (getD (st .stack) 0 0)) (st .used)) (refuse Stack size (st .used)))
+    go true e = (value-under (st .used) (st .stack) (g .under) 0 (omega (arith, eqb-true (length (st .stack)) 1 e)), g .sound .high)
     go false e = (omega arith, g .sound .high)
 
 left-told : (size place next high used : ℕ) → place ≤ size → used ≤ 256 → Told size (leftAnswer size place next high used)
@@ -156,15 +166,15 @@ from-told : (profile : ℕ) (s : List ℕ) (st : State) → Good st → headerSi
 unfolding itemsFrom
 from-told profile s st g h = run-told profile (length s) s headerSize st g h
 
-pub sheet-fits : (profile : ℕ) (w : List ℕ) (n : ℕ) (s : List ℕ) → n < 2 ^ 32 → (a : Answer) (v : List ℕ) → Gave (typeSheet profile w n s) a v → Fits a
+pub sheet-fits : (profile : ℕ) (w : List ℕ) (n : ℕ) (s : List ℕ) → n < 2 ^ 32 → (d : Typed) (v : List ℕ) → GaveMarked (typeSheet profile w n s) (sheetRuns profile w n s) d v → Fits (d .answer)
 unfolding Fits
-sheet-fits profile w n s l a v g =
-    rw (g .reply)
+sheet-fits profile w n s l d v g =
+    rw (answer-of g)
     (split (soundb w n)
     (λ h.
-    split (headerOk version s)
+    split (headerOk s)
     (λ k.
-    let z = headed version s k in
+    let z = headed s k in
     split (ltb profile profiles)
     (λ b.
     rw (← sheet-runs profile w n s h k (ltb-true profile profiles b)) (told-fits (length s) (omega (arith, z .whole, z .short)) (runItems profile s (itemsFrom s headerSize) (begun w n) .answer) (from-told profile s (begun w n) (begun-good w n h) (omega (arith, z .whole)))))

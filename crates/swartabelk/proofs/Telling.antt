@@ -8,10 +8,11 @@ use Rattle.answer.specs.declared.TypeNo.{TypeNo}
 use Rattle.answer.specs.declared.Refusal.{Refusal}
 use Rattle.answer.specs.declared.Answer.{Answer}
 use Rattle.answer.specs.declared.Answer.the-variants.{Value, NoValue, Refused}
+use Rattle.answer.specs.declared.Typed.{Typed}
 use Rattle.spell.specs.Reply.{spellReply, spellBytes, SpellDone}
 use Rattle.spell.specs.declared.Spelled.{Spelled}
 use Rattle.spell.specs.declared.Spelled.the-variants as spelled
-use Rattle.swartabelk.specs.Reply.{noValue, tell, replyTo, replyOf, spelledOf, SpelledOut}
+use Rattle.swartabelk.specs.Reply.{noValue, markBit, tell, replyTo, replyOf, spelledOf, SpelledOut}
 use Rattle.swartabelk.specs.declared.Reply.{Reply}
 use Rattle.swartabelk.specs.declared.SpelledReply.{SpelledReply}
 use Rattle.swartabelk.specs.inner.Code.{Fits, SpelledFits}
@@ -29,19 +30,24 @@ module _ (a : Answer) (f : Fits a) where
   unfolding Fits
   refused-fits r e = rw e at f
 
--- what is told of an answer is its reply
-module _ (a : Answer) (r : Reply) where
-  pub value-told : (t : TypeNo) (m x : ℕ) → a ≡ Value t m → x ≡ t .0 → r ≡ tell 0 x 0 m 0 → r ≡ replyOf a
-  unfolding replyOf replyTo
-  value-told t m x e p h = h ∙ ap (λ (k : ℕ). tell 0 k 0 m 0) p ∙ ap replyOf (sym e)
+-- what is told of an answer, with its mark, is its reply
+module _ (d : Typed) (k : ℕ) (b : k ≡ markBit (d .running)) (r : Reply) where
+  -- the reply of an answer with the mark of d
+  abbrev like : Answer → Reply
+  like a = replyOf (record { answer = a; running = d .running })
 
-  pub none-told : (m : ℕ) → a ≡ NoValue m → r ≡ tell 0 noValue 0 m 0 → r ≡ replyOf a
+  pub value-told : (t : TypeNo) (m x : ℕ) → d .answer ≡ Value t m → x ≡ t .0 → r ≡ tell 0 x k 0 m 0 → r ≡ replyOf d
   unfolding replyOf replyTo
-  none-told m e h = h ∙ ap replyOf (sym e)
+  value-told t m x e p h = h ∙ (λ i. tell 0 (p i) (b i) 0 m 0) ∙ ap like (sym e)
 
-  pub refused-told : (q : Refusal) (x y : ℕ) → a ≡ Refused q → x ≡ reasonNo (q .reason) → y ≡ lackingOf (q .reason) → r ≡ tell x noValue (q .place .0) (q .used) y → r ≡ replyOf a
+  pub none-told : (m : ℕ) → d .answer ≡ NoValue m → r ≡ tell 0 noValue k 0 m 0 → r ≡ replyOf d
   unfolding replyOf replyTo
-  refused-told q x y e p l h = h ∙ (λ i. tell (p i) noValue (q .place .0) (q .used) (l i)) ∙ ap replyOf (sym e)
+  none-told m e h = h ∙ (λ i. tell 0 noValue (b i) 0 m 0) ∙ ap like (sym e)
+
+  pub refused-told : (q : Refusal) (x y : ℕ) → d .answer ≡ Refused q → x ≡ reasonNo (q .reason) → y ≡ lackingOf (q .reason)
+      → r ≡ tell x noValue k (q .place .0) (q .used) y → r ≡ replyOf d
+  unfolding replyOf replyTo
+  refused-told q x y e p l h = h ∙ (λ i. tell (p i) noValue (b i) (q .place .0) (q .used) (l i)) ∙ ap like (sym e)
 
 module _ (s : Spelled) (f : SpelledFits s) where
   pub length-fits : (k : ℕ) → s ≡ spelled.Length k → k < 2 ^ 32

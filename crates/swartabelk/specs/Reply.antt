@@ -1,13 +1,15 @@
 -- What a host gets: the documents' numbers, as a struct of C holds them. Assumes nothing.
 use Prim.Native.Nat.{ℕ}
 use mathlib.Core.Path.{_≡_}
-use mathlib.Core.Bool.{cond}
+use mathlib.Core.Bool.{Bool, cond}
 use mathlib.Core.List.{List, [], _∷_}
-use Rattle.answer.specs.Answer.{reasonNo, Numbers, numbersOf, refuse}
+use Rattle.answer.specs.Answer.{reasonNo, Numbers, numbersOf, refuse, markedBy}
+use Rattle.held.specs.Held.{runningBit}
 use Rattle.table.specs.Table.{soundb}
 use Rattle.table.specs.Placing.{Outcome}
 use Rattle.answer.specs.declared.Reason.the-variants.{Unsound}
 use Rattle.answer.specs.declared.Answer.{Answer}
+use Rattle.answer.specs.declared.Typed.{Typed}
 use Rattle.answer.specs.declared.Answer.the-variants.{NoValue}
 use Rattle.spell.specs.declared.Spelled.{Spelled}
 use Rattle.spell.specs.declared.Spelled.the-variants.{Length, Refused}
@@ -25,19 +27,23 @@ abbrev pub typeOr : List ℕ → ℕ
 typeOr [] = noValue
 typeOr (t ∷ ts) = t
 
--- the refusal's number, 0 for none; the type's number or `noValue`; the place; the used count; how many entries lack
-abbrev pub tell : ℕ → ℕ → ℕ → ℕ → ℕ → Reply
-tell refusal t place used lacking = record { refusal = refusal; ty = t; place = place; used = used; lacking = lacking }
+-- the mark of a value: the bit that an operand has where it is known only when running
+abbrev pub markBit : Bool → ℕ
+markBit m = cond m runningBit 0
 
-unfoldable pub replyTo : Numbers → Reply
-replyTo k = tell (k .refusal) (typeOr (k .value)) (k .place) (k .used) (k .lacking)
+-- the refusal's number, 0 for none; the type's number or `noValue`; the mark; the place; the used count; how many entries lack
+abbrev pub tell : ℕ → ℕ → ℕ → ℕ → ℕ → ℕ → Reply
+tell refusal t mark place used lacking = record { refusal = refusal; ty = t; mark = mark; place = place; used = used; lacking = lacking }
 
-unfoldable pub replyOf : Answer → Reply
-replyOf a = replyTo (numbersOf a)
+unfoldable pub replyTo : Bool → Numbers → Reply
+replyTo m k = tell (k .refusal) (typeOr (k .value)) (markBit m) (k .place) (k .used) (k .lacking)
 
--- what a call promises: the reply, and every word afterwards
-pub record Replied (o : Outcome) (r : Reply) (after : List ℕ) : Type 0 where
-  pub reply : r ≡ replyOf (o .answer)
+unfoldable pub replyOf : Typed → Reply
+replyOf t = replyTo (t .running) (numbersOf (t .answer))
+
+-- what a call promises, where a value of it would have that mark: the reply, whose mark is 0 where there is no value, and every word afterwards
+pub record Replied (o : Outcome) (mark : Bool) (r : Reply) (after : List ℕ) : Type 0 where
+  pub reply : r ≡ replyOf (markedBy mark (o .answer))
   pub words : after ≡ o .words
 
 -- asking whether a table is sound gives no value, or refusal 1

@@ -5,24 +5,29 @@ use table::Answer;
 use table::Place;
 use table::Reason;
 use table::TypeNo;
+use table::Typed;
 ghost use mathlib.Core.Path.{_≡_};
+ghost use mathlib.Core.Bool.{false};
 ghost use Prim.Native.Nat.{_<_, _^_};
 ghost use Rattle.frame.specs.Frame.{namePart};
-ghost use Rattle.ops_ty.specs.Ops.{typeUnaryOp, typeBinaryOp};
-ghost use Rattle.call_ty.specs.Calls.{typeBuiltinFn};
+ghost use Rattle.answer.specs.Answer.{markedBy};
+ghost use Rattle.ops_ty.specs.Ops.{typeUnaryOp, typeBinaryOp, unaryRuns, binaryRuns};
+ghost use Rattle.call_ty.specs.Calls.{typeBuiltinFn, builtinRuns};
 ghost use Rattle.tplt.specs.Templates.{templateOutcome};
-ghost use Rattle.sheet.specs.Machine.{typeSheet};
-ghost use Rattle.swartabelk.specs.Reply.{tell, replyOf, Replied, checkAnswer, spelledOf, SpelledOut, partOf};
+ghost use Rattle.sheet.specs.Machine.{typeSheet, sheetRuns};
+ghost use Rattle.swartabelk.specs.Reply.{markBit, tell, replyOf, Replied, checkAnswer, spelledOf, SpelledOut, partOf};
 ghost use Rattle.swartabelk.specs.inner.Code.{Fits, SpelledFits};
 
 // The type of a reply that has no value, or is a refusal.
 pub const NO_VALUE: u32 = 0xFFFF_FFFF;
 
-// A reply in numbers: the refusal, 0 for none; the type, or NO_VALUE; the place of a refusal; the used count; how many entries lack, with refusal 9.
+// A reply in numbers: the refusal, 0 for none; the type, or NO_VALUE; the mark of the value, 0 or RUNNING, so that the type with it is an operand; the place of a
+// refusal; the used count; how many entries lack, with refusal 9.
 #[repr(C)]
 pub struct Reply {
     pub refusal: u32,
     pub ty: u32,
+    pub mark: u32,
     pub place: u32,
     pub used: u32,
     pub lacking: u32,
@@ -53,39 +58,61 @@ fn narrow(x: usize) -> u32
 }
 
 // The numbers of a reply.
-fn told(refusal: u32, ty: u32, place: usize, used: usize, lacking: u32) -> Reply
+fn told(refusal: u32, ty: u32, mark: u32, place: usize, used: usize, lacking: u32) -> Reply
     requires { ⌜ (place < 2 ^ 32) × (used < 2 ^ 32) ⌝ }
-    ensures { λ r. ⌜ r ≡ tell refusal ty place used lacking ⌝ }
+    ensures { λ r. ⌜ r ≡ tell refusal ty mark place used lacking ⌝ }
 {
     Reply {
         refusal,
         ty,
+        mark,
         place: narrow(place),
         used: narrow(used),
         lacking,
     }
 }
 
-// An answer in numbers.
-fn reply_of(a: Answer) -> Reply
-    requires { ⌜ Fits a ⌝ }
-    ensures { λ r. ⌜ r ≡ replyOf a ⌝ }
+// A mark in numbers.
+fn mark_bit(running: bool) -> u32
+    ensures { λ r. ⌜ r ≡ markBit running ⌝ }
 {
+    if running {
+        return held::RUNNING;
+    }
+    0
+}
+
+// An answer in numbers, with the mark of its value.
+fn reply_of(typed: Typed) -> Reply
+    requires { ⌜ Fits (typed .answer) ⌝ }
+    ensures { λ r. ⌜ r ≡ replyOf typed ⌝ }
+{
+    let mark = mark_bit(typed.running);
+    let a = typed.answer;
     match a {
-        Answer::Value(t, n) => told(0, narrow(t.0), 0, n, 0),
-        Answer::NoValue(n) => told(0, NO_VALUE, 0, n, 0),
+        Answer::Value(t, n) => told(0, narrow(t.0), mark, 0, n, 0),
+        Answer::NoValue(n) => told(0, NO_VALUE, mark, 0, n, 0),
         Answer::Refused(r) => {
             let reason = r.reason;
             let place = r.place;
             told(
                 cast::wide32(table::reason_no(reason)),
                 NO_VALUE,
+                mark,
                 place.0,
                 r.used,
                 table::lacking_of(reason),
             )
         }
     }
+}
+
+// An answer without a mark in numbers.
+fn const_reply(a: Answer) -> Reply
+    requires { ⌜ Fits a ⌝ }
+    ensures { λ r. ⌜ r ≡ replyOf (markedBy false a) ⌝ }
+{
+    reply_of(table::marked(a, false))
 }
 
 // A spelling's reply in numbers, over a table of n entries.
@@ -116,38 +143,35 @@ fn spelled_of(n: u32, s: Spelled) -> SpelledReply
 // Whether the words hold a sound table of `used` entries: no value, or refusal 1.
 #[no_mangle]
 pub extern "C" fn swartabelk_check(words: &[u32], used: u32) -> Reply
-    ensures { λ r. ⌜ r ≡ replyOf (checkAnswer (now (words .entry)) used) ⌝ }
+    ensures { λ r. ⌜ r ≡ replyOf (markedBy false (checkAnswer (now (words .entry)) used)) ⌝ }
 {
     let n = cast::word(used);
     if table::sound(words, n) {
-        return reply_of(table::no_value(n));
+        return const_reply(table::no_value(n));
     }
-    reply_of(table::refused(Reason::Unsound, Place(0), n))
+    const_reply(table::refused(Reason::Unsound, Place(0), n))
 }
 
-// The type of a unary operator on the type a.
+// The type of a unary operator on the operand a: a type's number, with RUNNING where it is known only when running.
 #[no_mangle]
 pub extern "C" fn swartabelk_unary(words: &mut [u32], used: u32, op: u32, a: u32) -> Reply
-    ensures { λ r. ⌜ Replied (typeUnaryOp (now (words .entry)) used op a) r (now (words .exit)) ⌝ }
+    ensures { λ r. ⌜ Replied (typeUnaryOp (now (words .entry)) used op a) (unaryRuns a) r (now (words .exit)) ⌝ }
 {
     let n = cast::word(used);
     let o = cast::word(op);
-    let t = TypeNo(cast::word(a));
-    let answer = ops_ty::type_unary_op(words, n, o, t);
-    reply_of(answer)
+    let typed = ops_ty::type_unary_op(words, n, o, a);
+    reply_of(typed)
 }
 
-// The type of a binary operator on the types a and b.
+// The type of a binary operator on the operands a and b.
 #[no_mangle]
 pub extern "C" fn swartabelk_binary(words: &mut [u32], used: u32, op: u32, a: u32, b: u32) -> Reply
-    ensures { λ r. ⌜ Replied (typeBinaryOp (now (words .entry)) used op a b) r (now (words .exit)) ⌝ }
+    ensures { λ r. ⌜ Replied (typeBinaryOp (now (words .entry)) used op a b) (binaryRuns a b) r (now (words .exit)) ⌝ }
 {
     let n = cast::word(used);
     let o = cast::word(op);
-    let t = TypeNo(cast::word(a));
-    let u = TypeNo(cast::word(b));
-    let answer = ops_ty::type_binary_op(words, n, o, t, u);
-    reply_of(answer)
+    let typed = ops_ty::type_binary_op(words, n, o, a, b);
+    reply_of(typed)
 }
 
 // The type of a call of the builtin with that name in that profile, on those operands; the template list is empty where there is none.
@@ -160,11 +184,11 @@ pub extern "C" fn swartabelk_call(
     tplt: &[u32],
     args: &[u32],
 ) -> Reply
-    ensures { λ r. ⌜ Replied (typeBuiltinFn profile (now (words .entry)) used (now (name .entry)) (now (tplt .entry)) (now (args .entry))) r (now (words .exit)) ⌝ }
+    ensures { λ r. ⌜ Replied (typeBuiltinFn profile (now (words .entry)) used (now (name .entry)) (now (tplt .entry)) (now (args .entry))) (builtinRuns profile (now (name .entry)) (now (args .entry))) r (now (words .exit)) ⌝ }
 {
     let n = cast::word(used);
-    let answer = call_ty::type_builtin_fn(words, n, profile, name, tplt, args);
-    reply_of(answer)
+    let typed = call_ty::type_builtin_fn(words, n, profile, name, tplt, args);
+    reply_of(typed)
 }
 
 // The type of a template: a head, and its arguments as pairs of a tag and a value.
@@ -175,11 +199,11 @@ pub extern "C" fn swartabelk_template(
     head: &[u8],
     args: &[i64],
 ) -> Reply
-    ensures { λ r. ⌜ Replied (templateOutcome (now (words .entry)) used (now (head .entry)) (now (args .entry))) r (now (words .exit)) ⌝ }
+    ensures { λ r. ⌜ Replied (templateOutcome (now (words .entry)) used (now (head .entry)) (now (args .entry))) false r (now (words .exit)) ⌝ }
 {
     let n = cast::word(used);
     let answer = tplt::type_template(words, n, head, args);
-    reply_of(answer)
+    const_reply(answer)
 }
 
 // The type of a whole sheet, in that profile.
@@ -190,11 +214,11 @@ pub extern "C" fn swartabelk_sheet(
     profile: u32,
     sheet: &[u8],
 ) -> Reply
-    ensures { λ r. ⌜ Replied (typeSheet profile (now (words .entry)) used (now (sheet .entry))) r (now (words .exit)) ⌝ }
+    ensures { λ r. ⌜ Replied (typeSheet profile (now (words .entry)) used (now (sheet .entry))) (sheetRuns profile (now (words .entry)) used (now (sheet .entry))) r (now (words .exit)) ⌝ }
 {
     let n = cast::word(used);
-    let answer = sheet::type_sheet(words, n, profile, sheet);
-    reply_of(answer)
+    let typed = sheet::type_sheet(words, n, profile, sheet);
+    reply_of(typed)
 }
 
 // The spelling of a type, into `out`.

@@ -90,7 +90,7 @@ module _ (w : List ℕ) (n : ℕ) (s : Sound w n) where
         (λ b. let h = ltb-true j scalars b in let t = type-scalar w j h in let k = kind-of w n s j l in rw (k, t, ne-eqb j kindRuntime (omega arith)))
         (λ b. rw (kind-of w n s j l) (runtime-kind (typeAt w j) (type-words w n s j (ltb-false _ _ b) l .above)))
 
-    abstract-at : isAbstract (baseOf w j) ≡ abstractTy (typeAt w j)
+    pub abstract-at : isAbstract (baseOf w j) ≡ abstractTy (typeAt w j)
     abstract-at = rw (base-of w n s j l) (abstract-innermost (typeAt w j))
 
     fract-at : (isFloat (baseOf w j) && (ltb j scalars || eqb (entryAt w j .kind) kindVec)) ≡ isFract (typeAt w j)

@@ -4,12 +4,15 @@ use mathlib.Core.Path.{_≡_, sym, _∙_}
 use mathlib.Core.Bool.{Bool}
 use mathlib.Core.List.{List}
 use Rattle.table.specs.Table.{scalars, entryAt, findIn, soundb, allowedb}
-use Rattle.table.specs.Placing.{Outcome, Gave}
+use Rattle.conv.specs.Types.{abstractTy}
+use Rattle.table.specs.Denote.{typeAt}
+use Rattle.table.specs.Placing.{Outcome, Gave, GaveMarked}
 use Rattle.table.specs.Enter.{withScalars, EnterDone, EnterTwoDone, entryAnswer}
 use Rattle.table.specs.declared.Entry.{Entry}
 use Rattle.table.specs.declared.Found.{Found}
 use Rattle.table.specs.declared.Entered.{Entered}
 use Rattle.answer.specs.declared.Answer.{Answer}
+use Rattle.answer.specs.declared.Typed.{Typed}
 
 -- what equals one thing is one thing
 one : {A : Type 0} {x a b : A} → a ≡ x → b ≡ x → a ≡ b
@@ -27,6 +30,9 @@ sound-one w n x y = one x y
 pub allowed-one : (w : List ℕ) (n : ℕ) (e : Entry) {a b : Bool} → a ≡ allowedb w n e → b ≡ allowedb w n e → a ≡ b
 allowed-one w n e x y = one x y
 
+pub abstract-at-one : (w : List ℕ) (t : ℕ) {a b : Bool} → a ≡ abstractTy (typeAt w t) → b ≡ abstractTy (typeAt w t) → a ≡ b
+abstract-at-one w t x y = one x y
+
 pub put-scalars-one : (w : List ℕ) {u v : List ℕ} → u ≡ withScalars scalars w → v ≡ withScalars scalars w → u ≡ v
 put-scalars-one w p q = one p q
 
@@ -43,3 +49,6 @@ answer-of-one place n r x y = one x y
 -- what meets a call's promise is one; so of `enter_type`
 pub gave-one : (o : Outcome) (r s : Answer) (v u : List ℕ) → Gave o r v → Gave o s u → (r ≡ s) × (v ≡ u)
 gave-one o r s v u a b = (a .reply ∙ sym (b .reply), a .words ∙ sym (b .words))
+
+pub gave-marked-one : (o : Outcome) (m : Bool) (r s : Typed) (v u : List ℕ) → GaveMarked o m r v → GaveMarked o m s u → (r ≡ s) × (v ≡ u)
+gave-marked-one o m r s v u a b = (a .reply ∙ sym (b .reply), a .words ∙ sym (b .words))

@@ -1,14 +1,14 @@
 -- What an accepted type does to the table: "A result not present is entered, an absent element before its container"; "An accepted call leaves
 -- every earlier entry at its number and adds only the missing entries its result needs". Assumes nothing.
 use Prim.Native.Nat.{ℕ, zero, suc, _+_, _-_}
-use mathlib.Core.Bool.{cond}
+use mathlib.Core.Bool.{Bool, cond}
 use mathlib.Core.List.{List}
 use mathlib.Core.Path.{_≡_}
 use lib.Dec.{leb}
 use Rattle.conv.specs.Types.{Ty}
 use Rattle.conv.specs.Types.Ty.{scalar, vec, mat, array, runtime, atomic, ptr, ref, frexp, modf}
 use Rattle.conv.specs.Rank.{sameTy}
-use Rattle.answer.specs.Answer.{numbersOf, accept, refuse}
+use Rattle.answer.specs.Answer.{numbersOf, accept, refuse, markedBy}
 use Rattle.table.specs.Table.{putEntry, orElse}
 use Rattle.table.specs.Denote.{typeAt, kindOf, pOf, qOf}
 use Rattle.table.specs.Enter.{free, lacking, enterTypeReply, enterTypeWords}
@@ -18,6 +18,7 @@ use Rattle.table.specs.declared.Found.the-variants.{At, Nothing}
 use Rattle.answer.specs.declared.Reason.{Reason}
 use Rattle.answer.specs.declared.Reason.the-variants.{NoRoom}
 use Rattle.answer.specs.declared.Answer.{Answer}
+use Rattle.answer.specs.declared.Typed.{Typed}
 
 -- the number of the type R in a table of n entries
 unfoldable pub standsIn : List ℕ → ℕ → Ty → Found
@@ -81,4 +82,10 @@ enterType w n e = record { answer = enterTypeReply w n e; words = enterTypeWords
 pub record Gave (o : Outcome) (r : Answer) (after : List ℕ) : Type 0 where
   pub reply : r ≡ o .answer
   pub numbers : numbersOf r ≡ numbersOf (o .answer)
+  pub words : after ≡ o .words
+
+-- and what a call promises whose value has a mark: true where it is known only when running
+pub record GaveMarked (o : Outcome) (mark : Bool) (r : Typed) (after : List ℕ) : Type 0 where
+  pub reply : r ≡ markedBy mark (o .answer)
+  pub numbers : numbersOf (r .answer) ≡ numbersOf (o .answer)
   pub words : after ≡ o .words

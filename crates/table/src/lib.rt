@@ -3,9 +3,10 @@ ghost use mathlib.Core.Path.{_≡_};
 ghost use Prim.Native.Nat.{ℕ, _+_, _*_, _≤_, _<_};
 ghost use mathlib.Core.List.{List};
 ghost use lib.ListN.{length};
-ghost use Rattle.conv.specs.Types.{isWidth, isFloat, isAbstract};
+ghost use Rattle.conv.specs.Types.{isWidth, isFloat, isAbstract, abstractTy};
 ghost use Rattle.table.specs.Table.{stride, scalars, ceiling, kindPtr, entryAt, sameb, wordsUnused, stored, sized, rowOk, baseOf, scalarOk, madeOk, findIn, isNothing, goodAt, soundb, allowedb, Sound};
 ghost use mathlib.Core.Bool.{true};
+ghost use Rattle.table.specs.Denote.{typeAt};
 ghost use Rattle.table.specs.Tools.{allBelow};
 ghost use Rattle.table.specs.inner.Slots.{scalarAt, places, wordEnd, mixed, folded, entrySlot, turnsOf, fork, Linked, Ended, Based};
 ghost use Rattle.table.specs.declared.Found.the-variants.{Nothing};
@@ -14,8 +15,10 @@ pub use answer::Place;
 pub use answer::Reason;
 pub use answer::Refusal;
 pub use answer::TypeNo;
+pub use answer::Typed;
 pub use answer::accepted;
 pub use answer::lacking_of;
+pub use answer::marked;
 pub use answer::no_value;
 pub use answer::reason_no;
 pub use answer::refused;
@@ -252,6 +255,14 @@ fn base_of(words: &[u32], j: usize) -> usize
         at = next;
     }
     at
+}
+
+// Whether the type at t is abstract at any depth.
+pub fn abstract_at(words: &[u32], n: usize, t: usize) -> bool
+    requires { ⌜ Sound (now words) n × (t < n) ⌝ }
+    ensures { λ r. ⌜ r ≡ abstractTy (typeAt (now (words .entry)) t) ⌝ }
+{
+    is_abstract(base_of(words, t))
 }
 
 // An entry that is scalar k.

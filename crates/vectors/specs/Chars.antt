@@ -1,5 +1,5 @@
 -- The character of an answer on the table of the 55 types. Assumes nothing.
-use Prim.Native.Nat.{ℕ, _+_, _*_, _/_, _%_}
+use Prim.Native.Nat.{ℕ, _+_, _-_, _*_, _/_, _%_}
 use mathlib.Core.Bool.{_&&_, _||_, not, cond}
 use mathlib.Core.List.{List}
 use lib.ListN.{length}
@@ -12,12 +12,9 @@ use Rattle.answer.specs.declared.Answer.the-variants.{Value, NoValue, Refused}
 use Rattle.table.specs.Table.{entryAt, kindFrexp, kindModf}
 use Rattle.table.specs.declared.Entry.{Entry}
 
--- `0` for type 0, `.` for refusal 8, `!` for an answer that no row expects
+-- `0` for type 0, `!` for an answer that no row expects
 abbrev pub firstChar : ℕ
 firstChar = 48
-
-abbrev pub refusedChar : ℕ
-refusedChar = 46
 
 abbrev pub otherChar : ℕ
 otherChar = 33
@@ -65,11 +62,19 @@ valueChar w t used =
     cond (ltb t types) (cond (eqb used types) (firstChar + t) otherChar)
     (cond (eqb t types && eqb used (types + 1)) (newChar w) otherChar)
 
--- refusal 8 at place 0, and nothing entered
+-- the refusals that rows have: `.` for 8, `$` for 4, `'` for 7, `,` for 14
+abbrev pub reasonChar : ℕ → ℕ
+reasonChar n = cond (eqb n 8) 46 (cond (eqb n 4) 36 (cond (eqb n 7) 39 (cond (eqb n 14) 44 otherChar)))
+
+-- a refusal at place 0, and nothing entered
 abbrev pub refusalChar : Refusal → ℕ
-refusalChar r = cond (eqb (reasonNo (r .reason)) 8 && eqb (r .place .0) 0 && eqb (r .used) types) refusedChar otherChar
+refusalChar r = cond (eqb (r .place .0) 0 && eqb (r .used) types) (reasonChar (reasonNo (r .reason))) otherChar
 
 unfoldable pub answerChar : List ℕ → Answer → ℕ
 answerChar w (Value t used) = valueChar w (t .0) used
 answerChar w (NoValue used) = otherChar
 answerChar w (Refused r) = refusalChar r
+
+-- the number of a type's character; below `0`, one that no type has
+abbrev pub typeNo : ℕ → ℕ
+typeNo c = cond (ltb c firstChar) types (c - firstChar)

@@ -5,10 +5,10 @@ use table::Answer;
 use table::Entry;
 use table::Refusal;
 ghost use mathlib.Core.Path.{_≡_};
-ghost use Prim.Native.Nat.{_≤_};
+ghost use Prim.Native.Nat.{_≤_, _<_};
 ghost use lib.ListN.{length};
 ghost use Rattle.vectors.specs.Filled.{floatNo, entryOf, FillDone};
-ghost use Rattle.vectors.specs.Chars.{modfs, floatPlace, resultChar, entryChar, newChar, valueChar, refusalChar, answerChar};
+ghost use Rattle.vectors.specs.Chars.{modfs, floatPlace, resultChar, entryChar, newChar, valueChar, reasonChar, refusalChar, answerChar, typeNo};
 ghost use Rattle.vectors.specs.Lines.{countedOf, lineEnd};
 
 // How many types the table holds.
@@ -25,16 +25,29 @@ const ABSTRACT_FLOAT: u32 = 2;
 const F32: u32 = 5;
 
 const F16: u32 = 6;
-// The character of type 0, that of a refusal with number 8, and that of an answer which no row expects.
+// The character of type 0, those of the refusals that rows have, all below it, and that of an answer which no row expects.
 pub const FIRST: u8 = b'0';
 
 pub const REFUSED: u8 = b'.';
+
+pub const NO_NAME: u8 = b'$';
+
+const MISCOUNTED: u8 = b'\'';
+
+const RUNNING_REFUSED: u8 = b',';
 
 const OTHER: u8 = b'!';
 
 const LINE_END: u8 = 10;
 
+// The numbers of those refusals: no overload fits, an unknown name, a wrong count of operands, an operand that is running and abstract.
 const NO_OVERLOAD: u8 = 8;
+
+const UNKNOWN: u8 = 4;
+
+const OPERANDS: u8 = 7;
+
+const RUNNING_ABSTRACT: u8 = 14;
 // The words of a table of one type more.
 const WORDS: usize = 224;
 // The number of the first result type of frexp, and of modf.
@@ -161,13 +174,32 @@ fn value_char(words: &[u32], t: usize, used: usize) -> u8
     OTHER
 }
 
+// The character of a refusal's number.
+fn reason_char(n: u8) -> u8
+    ensures { λ r. ⌜ r ≡ reasonChar n ⌝ }
+{
+    if n == NO_OVERLOAD {
+        return REFUSED;
+    }
+    if n == UNKNOWN {
+        return NO_NAME;
+    }
+    if n == OPERANDS {
+        return MISCOUNTED;
+    }
+    if n == RUNNING_ABSTRACT {
+        return RUNNING_REFUSED;
+    }
+    OTHER
+}
+
 fn refusal_char(refusal: Refusal) -> u8
     ensures { λ r. ⌜ r ≡ refusalChar refusal ⌝ }
 {
     let reason = refusal.reason;
     let place = refusal.place;
-    if (table::reason_no(reason) == NO_OVERLOAD) & (place.0 == 0) & (refusal.used == TYPES) {
-        return REFUSED;
+    if (place.0 == 0) & (refusal.used == TYPES) {
+        return reason_char(table::reason_no(reason));
     }
     OTHER
 }
@@ -181,6 +213,17 @@ pub fn answer_char(words: &[u32], answer: Answer) -> u8
         Answer::NoValue(_) => OTHER,
         Answer::Refused(refusal) => refusal_char(refusal),
     }
+}
+
+// The number of a type by its character; below the first, a number that no type has.
+pub fn type_no(c: u8) -> u32
+    ensures { λ r. ⌜ r < 256 ⌝ }
+    ensures { λ r. ⌜ r ≡ typeNo c ⌝ }
+{
+    if c < FIRST {
+        return END;
+    }
+    (c - FIRST) as u32
 }
 
 // The count, one higher where a row agreed.

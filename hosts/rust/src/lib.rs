@@ -4,6 +4,8 @@
 //! type is the number of its entry. A result that is absent is entered where the slice has room; the answer says the count afterwards, which the next call
 //! is given. No entry that was there moves or changes.
 //!
+//! An [`Operand`] is a type, and whether its value is known only when running. The number of a type alone is the operand of a const-expression.
+//!
 //! Every function answers for any words, numbers and bytes: what is wrong is refused.
 //!
 //! ```
@@ -12,7 +14,8 @@
 //! let mut words = [0; 1024];
 //! words[..28].copy_from_slice(&SCALARS);
 //! // AbstractInt + f32 is f32.
-//! assert_eq!(binary(&mut words, 7, BinaryOp::Plus as u32, 1, 5), Answer::Type { number: 5, used: 7 });
+//! let sum = binary(&mut words, 7, BinaryOp::Plus as u32, 1, 5);
+//! assert_eq!(sum, Answer::Type { number: 5, running: false, used: 7 });
 //! ```
 #![warn(missing_docs)]
 
@@ -88,7 +91,8 @@ pub enum BinaryOp {
 /// use swartabelk::{call, Answer, Profile, Reason, Refusal, SCALARS};
 ///
 /// let mut words = SCALARS;
-/// assert_eq!(call(&mut words, 7, Profile::SUBGROUPS, b"subgroupElect", &[], &[]), Answer::Type { number: 0, used: 7 });
+/// let elected = Answer::Type { number: 0, running: true, used: 7 };
+/// assert_eq!(call(&mut words, 7, Profile::SUBGROUPS, b"subgroupElect", &[], &[]), elected);
 /// let unknown = Answer::Refused(Refusal { reason: Reason::Unknown, place: 0, used: 7, lacking: 0 });
 /// assert_eq!(call(&mut words, 7, Profile::BASE, b"subgroupElect", &[], &[]), unknown);
 /// ```
@@ -100,6 +104,60 @@ impl Profile {
     pub const BASE: Profile = Profile(0);
     /// These, and the subgroup and quad builtins.
     pub const SUBGROUPS: Profile = Profile(1);
+}
+
+/// An operand: the number of its type, and a mark. It is const, a const-expression, or running, known only when running. Where an operand is running, an overload of
+/// which another parameter is abstract is left out; so `select(1, 2, flag)` is AbstractInt where the flag is const, and i32 where it is running.
+///
+/// A number is made an operand by `into`, and is a const one then.
+///
+/// ```
+/// use swartabelk::{call, Answer, Operand, Profile, SCALARS};
+///
+/// let mut words = SCALARS;
+/// let mut select = |flag| call(&mut words, 7, Profile::BASE, b"select", &[], &[1.into(), 1.into(), flag]);
+/// assert_eq!(select(0.into()), Answer::Type { number: 1, running: false, used: 7 });
+/// assert_eq!(select(Operand::running(0)), Answer::Type { number: 3, running: true, used: 7 });
+/// ```
+#[derive(Clone, Copy, Debug, PartialEq, Eq, Hash)]
+#[repr(transparent)]
+pub struct Operand(u32);
+
+impl Operand {
+    /// A const-expression of the type of this number.
+    pub const fn known(number: u32) -> Operand {
+        Operand(unmarked(number))
+    }
+
+    /// A value of the type of this number that is known only when running.
+    pub const fn running(number: u32) -> Operand {
+        Operand(unmarked(number) | raw::RUNNING)
+    }
+
+    /// The number of its type.
+    pub const fn number(self) -> u32 {
+        self.0 & !raw::RUNNING
+    }
+
+    /// Whether it is known only when running.
+    pub const fn is_running(self) -> bool {
+        self.0 & raw::RUNNING != 0
+    }
+}
+
+impl From<u32> for Operand {
+    fn from(number: u32) -> Operand {
+        Operand::known(number)
+    }
+}
+
+/// A number as it stands beside a mark. One that has no room there is no type's, and becomes one that is no type's either.
+const fn unmarked(number: u32) -> u32 {
+    if number < raw::RUNNING {
+        number
+    } else {
+        raw::RUNNING - 1
+    }
 }
 
 /// Why a call is refused, by its number.
@@ -132,6 +190,8 @@ pub enum Reason {
     TooLong = 12,
     /// Overloads fit, and none is preferred. Never given.
     NonePreferred = 13,
+    /// An operand that is known only when running and is abstract at any depth.
+    RunningAbstract = 14,
 }
 
 impl Reason {
@@ -151,6 +211,7 @@ impl Reason {
             11 => Reason::Stack,
             12 => Reason::TooLong,
             13 => Reason::NonePreferred,
+            14 => Reason::RunningAbstract,
             _ => return None,
         })
     }
@@ -184,7 +245,7 @@ impl Refusal {
     /// let mut words = SCALARS.to_vec();
     /// let answer = loop {
     ///     // frexp gives a type that is not one of the scalars.
-    ///     match call(&mut words, 7, Profile::BASE, b"frexp", &[], &[5]) {
+    ///     match call(&mut words, 7, Profile::BASE, b"frexp", &[], &[5.into()]) {
     ///         Answer::Refused(refusal) => match refusal.enough_words(words.len()) {
     ///             Some(length) => words.resize(length, 0),
     ///             None => break Answer::Refused(refusal),
@@ -192,7 +253,7 @@ impl Refusal {
     ///         answer => break answer,
     ///     }
     /// };
-    /// assert_eq!(answer, Answer::Type { number: 7, used: 8 });
+    /// assert_eq!(answer, Answer::Type { number: 7, running: false, used: 8 });
     /// assert_eq!(words.len(), 32);
     /// ```
     pub fn enough_words(&self, length: usize) -> Option<usize> {
@@ -208,6 +269,8 @@ pub enum Answer {
     Type {
         /// The type's number.
         number: u32,
+        /// Whether the value is known only when running.
+        running: bool,
         /// The count of entries afterwards.
         used: u32,
     },
@@ -218,6 +281,31 @@ pub enum Answer {
     },
     /// Refused.
     Refused(Refusal),
+}
+
+impl Answer {
+    /// The value as an operand of another call; `None` where there is none.
+    ///
+    /// ```
+    /// use swartabelk::{binary, call, Answer, BinaryOp, Profile, SCALARS};
+    ///
+    /// let mut words = SCALARS;
+    /// // A derivative is running, whatever its operand is.
+    /// let slope = call(&mut words, 7, Profile::BASE, b"dpdx", &[], &[5.into()]).operand().unwrap();
+    /// let sum = binary(&mut words, 7, BinaryOp::Plus as u32, slope, 1);
+    /// assert_eq!(sum, Answer::Type { number: 5, running: true, used: 7 });
+    /// ```
+    pub const fn operand(&self) -> Option<Operand> {
+        match *self {
+            Answer::Type {
+                number,
+                running: false,
+                ..
+            } => Some(Operand::known(number)),
+            Answer::Type { number, .. } => Some(Operand::running(number)),
+            _ => None,
+        }
+    }
 }
 
 /// A template's argument.
@@ -249,7 +337,7 @@ impl Argument {
 }
 
 fn refusal(number: u32, place: u32, used: u32, lacking: u32) -> Refusal {
-    let reason = Reason::of(number).expect("the library's refusals are 1 to 13");
+    let reason = Reason::of(number).expect("the library's refusals are 1 to 14");
     Refusal {
         reason,
         place,
@@ -269,9 +357,14 @@ fn answer(r: raw::Reply) -> Answer {
         raw::Reply {
             refusal: 0,
             ty,
+            mark,
             used,
             ..
-        } => Answer::Type { number: ty, used },
+        } => Answer::Type {
+            number: ty,
+            running: mark != 0,
+            used,
+        },
         raw::Reply {
             refusal: number,
             place,
@@ -288,29 +381,37 @@ pub fn check(words: &[u32], used: u32) -> Answer {
     answer(unsafe { raw::swartabelk_check(words.as_ptr(), words.len(), used) })
 }
 
-/// The type of a unary operator, by its number, on the type `a`.
-pub fn unary(words: &mut [u32], used: u32, op: u32, a: u32) -> Answer {
+/// The type of a unary operator, by its number, on the operand `a`.
+pub fn unary(words: &mut [u32], used: u32, op: u32, a: impl Into<Operand>) -> Answer {
+    let Operand(a) = a.into();
     // SAFETY: as above, and the slice is lent for writing.
     answer(unsafe { raw::swartabelk_unary(words.as_mut_ptr(), words.len(), used, op, a) })
 }
 
-/// The type of a binary operator, by its number, on the types `a` and `b`.
-pub fn binary(words: &mut [u32], used: u32, op: u32, a: u32, b: u32) -> Answer {
+/// The type of a binary operator, by its number, on the operands `a` and `b`.
+pub fn binary(
+    words: &mut [u32],
+    used: u32,
+    op: u32,
+    a: impl Into<Operand>,
+    b: impl Into<Operand>,
+) -> Answer {
+    let (Operand(a), Operand(b)) = (a.into(), b.into());
     // SAFETY: as above.
     answer(unsafe { raw::swartabelk_binary(words.as_mut_ptr(), words.len(), used, op, a, b) })
 }
 
-/// The type of a call of the builtin that has this name in the profile, on the types `args`. `tplt` is its template list: one type for `bitcast`, none for every
-/// other.
+/// The type of a call of the builtin that has this name in the profile, on the operands `args`. `tplt` is its template list: the number of one type for `bitcast`,
+/// none for every other.
 pub fn call(
     words: &mut [u32],
     used: u32,
     profile: Profile,
     name: &[u8],
     tplt: &[u32],
-    args: &[u32],
+    args: &[Operand],
 ) -> Answer {
-    // SAFETY: as above; what is lent for writing lies apart from the rest.
+    // SAFETY: as above; what is lent for writing lies apart from the rest, and an operand is laid out as the number that it holds.
     answer(unsafe {
         raw::swartabelk_call(
             words.as_mut_ptr(),
@@ -321,7 +422,7 @@ pub fn call(
             name.len(),
             tplt.as_ptr(),
             tplt.len(),
-            args.as_ptr(),
+            args.as_ptr().cast(),
             args.len(),
         )
     })
@@ -343,7 +444,8 @@ pub fn template(words: &mut [u32], used: u32, head: &[u8], args: &[i64]) -> Answ
     })
 }
 
-/// The type of a whole sheet, whose calls are those of the profile. What its accepted items entered stays, also where a later item is refused.
+/// The type of a whole sheet, whose calls are those of the profile. What its accepted items entered stays, also where a later item is refused. In a sheet of version 1
+/// every value is const, and so is the answer's; in one of version 2 pushes and takes have marks, and results keep theirs.
 pub fn sheet(words: &mut [u32], used: u32, profile: Profile, sheet: &[u8]) -> Answer {
     // SAFETY: as above.
     answer(unsafe {

@@ -3,11 +3,15 @@
 /// The type of a reply that has no value or is a refusal.
 pub const NO_VALUE: u32 = 0xFFFF_FFFF;
 
+/// The bit of an operand and of a reply's mark: known only when running.
+pub const RUNNING: u32 = 0x8000_0000;
+
 /// `swartabelk_reply`.
 #[repr(C)]
 pub struct Reply {
     pub refusal: u32,
     pub ty: u32,
+    pub mark: u32,
     pub place: u32,
     pub used: u32,
     pub lacking: u32,

@@ -1,5 +1,5 @@
 //! Document 02's profiles: the names of profile 1, unknown profiles, the 65th value of a call, and a table without room.
-use swartabelk::{call, sheet, Answer, Profile, Reason, Refusal, SCALARS};
+use swartabelk::{sheet, Answer, Operand, Profile, Reason, Refusal, SCALARS};
 
 const BOOL: u32 = 0;
 const ABSTRACT_INT: u32 = 1;
@@ -85,8 +85,35 @@ fn full() -> ([u32; 1024], u32) {
     table(&arrays)
 }
 
+/// A call on const operands.
+fn call(
+    words: &mut [u32],
+    used: u32,
+    profile: Profile,
+    name: &[u8],
+    tplt: &[u32],
+    args: &[u32],
+) -> Answer {
+    let args: Vec<Operand> = args.iter().map(|a| (*a).into()).collect();
+    swartabelk::call(words, used, profile, name, tplt, &args)
+}
+
+/// A const value.
 fn is(number: u32, used: u32) -> Answer {
-    Answer::Type { number, used }
+    Answer::Type {
+        number,
+        running: false,
+        used,
+    }
+}
+
+/// A running value.
+fn runs(number: u32, used: u32) -> Answer {
+    Answer::Type {
+        number,
+        running: true,
+        used,
+    }
 }
 
 fn refused(reason: Reason, place: u32, used: u32) -> Answer {
@@ -131,7 +158,7 @@ fn every_name_of_profile_1() {
         };
         assert_eq!(
             asked(Profile::SUBGROUPS, &[], taken),
-            is(gives, used),
+            runs(gives, used),
             "{name}"
         );
         assert_eq!(
@@ -228,6 +255,7 @@ fn sheets_in_an_unknown_profile() {
             &with_header(&[2, 1, 5]),
             &with_header(&[]),
             &with_header(&[2, 9, 0]),
+            &[2, 0, 0],
         ] {
             assert_eq!(
                 sheet(&mut words, used, profile, bytes),
@@ -235,7 +263,7 @@ fn sheets_in_an_unknown_profile() {
             );
         }
         // A wrong header comes first.
-        for bytes in [&[][..], &[1, 0], &[2, 0, 0], &[1, 0, 1], &taken[..11]] {
+        for bytes in [&[][..], &[1, 0], &[3, 0, 0], &[1, 0, 1], &taken[..11]] {
             assert_eq!(
                 sheet(&mut words, used, profile, bytes),
                 refused(Reason::Framing, 0, used)

@@ -1,6 +1,6 @@
 //! Every function, held to document 01: its worked sheets, its sixteen cases, and the refusals 1 to 12.
 use swartabelk::{
-    binary, call, call_name, check, sheet, spell, template, unary, Answer, Argument, BinaryOp,
+    binary, call_name, check, sheet, spell, template, unary, Answer, Argument, BinaryOp, Operand,
     Profile, Reason, Refusal, UnaryOp, SCALARS,
 };
 
@@ -29,8 +29,26 @@ fn table(entries: &[[u32; 4]]) -> ([u32; 1024], u32) {
     (words, 7 + entries.len() as u32)
 }
 
+/// A call on const operands.
+fn call(
+    words: &mut [u32],
+    used: u32,
+    profile: Profile,
+    name: &[u8],
+    tplt: &[u32],
+    args: &[u32],
+) -> Answer {
+    let args: Vec<Operand> = args.iter().map(|a| (*a).into()).collect();
+    swartabelk::call(words, used, profile, name, tplt, &args)
+}
+
+/// A const value.
 fn is(number: u32, used: u32) -> Answer {
-    Answer::Type { number, used }
+    Answer::Type {
+        number,
+        running: false,
+        used,
+    }
 }
 
 fn refused(reason: Reason, place: u32, used: u32) -> Answer {
@@ -363,10 +381,12 @@ fn sheets() {
     assert_eq!(run(&[2, 1, 5].repeat(65)), refused(Reason::Stack, 195, 7));
 
     let (mut words, used) = table(&[[REF, 0, 2, F32]]);
-    assert_eq!(
-        sheet(&mut words, used, Profile::BASE, &[1, 0]),
-        refused(Reason::Framing, 0, 8)
-    );
+    for header in [&[1, 0][..], &[0, 0, 0], &[3, 0, 0]] {
+        assert_eq!(
+            sheet(&mut words, used, Profile::BASE, header),
+            refused(Reason::Framing, 0, 8)
+        );
+    }
     assert_eq!(
         sheet(&mut words, 6, Profile::BASE, &[1, 0, 0]),
         refused(Reason::Unsound, 0, 6)

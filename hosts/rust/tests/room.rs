@@ -1,6 +1,6 @@
 //! Document 02's "How much room is missing": for want of room how many entries lack; a slice that is longer by so many has room, and one that is longer by less has not.
 use swartabelk::{
-    binary, call, sheet, spell, template, unary, Answer, Argument, BinaryOp, Profile, Reason,
+    binary, sheet, spell, template, unary, Answer, Argument, BinaryOp, Operand, Profile, Reason,
     Refusal, UnaryOp, SCALARS,
 };
 
@@ -47,8 +47,26 @@ fn table(used: u32, entries: usize) -> Vec<u32> {
     words
 }
 
+/// A call on const operands.
+fn call(
+    words: &mut [u32],
+    used: u32,
+    profile: Profile,
+    name: &[u8],
+    tplt: &[u32],
+    args: &[u32],
+) -> Answer {
+    let args: Vec<Operand> = args.iter().map(|a| (*a).into()).collect();
+    swartabelk::call(words, used, profile, name, tplt, &args)
+}
+
+/// A const value.
 fn is(number: u32, used: u32) -> Answer {
-    Answer::Type { number, used }
+    Answer::Type {
+        number,
+        running: false,
+        used,
+    }
 }
 
 /// For want of room, with so many entries lacking.
@@ -159,7 +177,11 @@ fn a_slice_longer_by_what_lacks_has_room() {
             }
             words.resize(enough, 0);
             let used = TYPES + missing;
-            let entered = is(used - 1, used);
+            let entered = Answer::Type {
+                number: used - 1,
+                running: matches!(question, Question::Call("subgroupBallot", _)),
+                used,
+            };
             assert_eq!(question.ask(&mut words, TYPES), entered, "{i}");
             // What was entered is found again, and no room is wanted.
             assert_eq!(question.ask(&mut words, used), entered, "{i}");

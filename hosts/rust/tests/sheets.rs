@@ -1,7 +1,9 @@
-//! A sheet does what the single calls do, item by item: made-up sheets of pushes, operators and calls, of which many meet the same operands again, some in a slice with
-//! little room. And what it does in profile 0 it does in profile 1 too, but where profile 0 lacks a name.
+//! A sheet does what the single calls do, item by item: made-up sheets of pushes, takes, operators and calls, of which many meet the same operands again, some in a slice
+//! with little room. In version 2 it does so by the marks of its values, in version 1 all of them are const. And what it does in profile 0 it does in profile 1 too, but
+//! where profile 0 lacks a name.
 use swartabelk::{
-    binary, call, call_name, sheet, unary, Answer, Profile, Reason, Refusal, SCALARS,
+    binary, call, call_name, sheet, template, unary, Answer, Argument, Operand, Profile, Reason,
+    Refusal, SCALARS,
 };
 
 /// The stack's values, and the bytes that a sheet may have after its header.
@@ -9,10 +11,11 @@ const VALUES: usize = 64;
 const LONGEST: usize = 60_000;
 
 /// What is called, and on how many operands. One name is no builtin's, and nine are those of profile 1 alone.
-const CALLS: [(&str, usize); 36] = [
+const CALLS: [(&str, usize); 37] = [
     ("abs", 1),
     ("all", 1),
     ("any", 1),
+    ("arrayLength", 1),
     ("clamp", 3),
     ("cross", 2),
     ("determinant", 1),
@@ -48,8 +51,8 @@ const CALLS: [(&str, usize); 36] = [
     ("transpose", 1),
 ];
 
-/// After the scalars: vectors, a matrix, a pointer to f32 and a reference to it.
-const ENTRIES: [[u32; 4]; 8] = [
+/// After the scalars: vectors, a matrix, a pointer to f32 and a reference to it, an array of AbstractInt.
+const ENTRIES: [[u32; 4]; 9] = [
     [7, 3, 0, 5],
     [7, 2, 0, 1],
     [7, 4, 0, 6],
@@ -58,6 +61,7 @@ const ENTRIES: [[u32; 4]; 8] = [
     [8, 2, 2, 5],
     [12, 0, 2, 5],
     [13, 0, 2, 5],
+    [9, 4, 0, 1],
 ];
 
 /// Numbers that look made up, the same in each run.
@@ -72,17 +76,42 @@ impl Dice {
     }
 }
 
+/// The versions of a sheet: in the second a push and a take have a mark.
+#[derive(Clone, Copy, Debug, PartialEq, Eq)]
+#[repr(u8)]
+enum Version {
+    Unmarked = 1,
+    Marked = 2,
+}
+
+/// An item, of a push and a take with the mark that it has in version 2.
 enum Item {
-    Push(u8),
+    Push(u8, bool),
+    /// A vector: its width and its component.
+    Take(u8, u8, bool),
     Unary(u8),
     Binary(u8),
     Call(&'static str, usize),
 }
 
+/// An item of that kind in a version, with its mark at the end.
+fn marked(version: Version, kind: u8, payload: &[u8], running: bool) -> Vec<u8> {
+    let mark = [running as u8];
+    let mark = match version {
+        Version::Unmarked => &[][..],
+        Version::Marked => &mark,
+    };
+    let length = (1 + payload.len() + mark.len()) as u8;
+    [&[length, kind], payload, mark].concat()
+}
+
 impl Item {
-    fn bytes(&self) -> Vec<u8> {
+    fn bytes(&self, version: Version) -> Vec<u8> {
         match *self {
-            Item::Push(t) => vec![2, 1, t],
+            Item::Push(t, running) => marked(version, 1, &[t], running),
+            Item::Take(width, of, running) => {
+                marked(version, 6, &[7, 0, 0, 0, width, 0, of], running)
+            }
             Item::Unary(op) => vec![2, 2, op],
             Item::Binary(op) => vec![2, 3, op],
             Item::Call(name, k) => {
@@ -96,21 +125,23 @@ impl Item {
 
 #[derive(Clone)]
 struct State {
+    version: Version,
     profile: Profile,
     words: Vec<u32>,
     used: u32,
-    stack: Vec<u32>,
+    stack: Vec<Operand>,
 }
 
 impl State {
     /// A table in a slice of so many entries.
-    fn new(profile: Profile, entries: usize) -> State {
+    fn new(version: Version, profile: Profile, entries: usize) -> State {
         let mut words = vec![0; 4 * entries];
         words[..28].copy_from_slice(&SCALARS);
         for (i, e) in ENTRIES.iter().enumerate() {
             words[28 + 4 * i..32 + 4 * i].copy_from_slice(e);
         }
         State {
+            version,
             profile,
             words,
             used: 7 + ENTRIES.len() as u32,
@@ -130,7 +161,8 @@ impl State {
     /// An item by the single call that it stands for: its answer, and of a type the state after it.
     fn take(&mut self, item: &Item) -> Answer {
         let operands = match *item {
-            Item::Push(t) => return self.push(t as u32),
+            Item::Push(t, running) => return self.push(t as u32, running),
+            Item::Take(width, of, running) => return self.enter(width, of, running),
             Item::Unary(_) => 1,
             Item::Binary(_) => 2,
             Item::Call(_, k) => k,
@@ -141,7 +173,7 @@ impl State {
         let below = self.stack.len() - operands;
         let a = &self.stack[below..];
         let answer = match *item {
-            Item::Push(_) => unreachable!(),
+            Item::Push(..) | Item::Take(..) => unreachable!(),
             Item::Unary(op) => unary(&mut self.words, self.used, op as u32, a[0]),
             Item::Binary(op) => binary(&mut self.words, self.used, op as u32, a[0], a[1]),
             Item::Call(name, _) => {
@@ -149,37 +181,74 @@ impl State {
                 call(&mut self.words, self.used, self.profile, name, &[], a)
             }
         };
-        if let Answer::Type { number, used } = answer {
+        if let Answer::Type {
+            number,
+            running,
+            used,
+        } = answer
+        {
             if below == VALUES {
                 return self.refused(Reason::Stack);
             }
             self.stack.truncate(below);
-            self.stack.push(number);
+            self.hold(number, running);
             self.used = used;
         }
         answer
     }
 
-    fn push(&mut self, t: u32) -> Answer {
-        if self.used <= t {
+    /// A value on the stack. Version 1 keeps no mark.
+    fn hold(&mut self, number: u32, running: bool) {
+        self.stack.push(match self.version {
+            Version::Marked if running => Operand::running(number),
+            _ => number.into(),
+        });
+    }
+
+    fn push(&mut self, number: u32, running: bool) -> Answer {
+        if self.used <= number {
             return self.refused(Reason::NoSuchType);
         }
         if self.stack.len() == VALUES {
             return self.refused(Reason::Stack);
         }
-        self.stack.push(t);
+        self.hold(number, running);
         Answer::Type {
-            number: t,
+            number,
+            running,
             used: self.used,
         }
+    }
+
+    fn enter(&mut self, width: u8, of: u8, running: bool) -> Answer {
+        if self.stack.len() == VALUES {
+            return self.refused(Reason::Stack);
+        }
+        let head = [b'v', b'e', b'c', b'0' + width];
+        let list = Argument::Type(of as u32).pair();
+        let answer = template(&mut self.words, self.used, &head, &list);
+        if let Answer::Type { number, used, .. } = answer {
+            self.hold(number, running);
+            self.used = used;
+        }
+        answer
     }
 }
 
 fn any_item(dice: &mut Dice, state: &State) -> Item {
-    match dice.below(8) {
-        0..=2 => Item::Push(dice.below(state.used as usize + 1) as u8),
-        3 => Item::Unary(dice.below(6) as u8),
-        4 | 5 => Item::Binary(dice.below(19) as u8),
+    match dice.below(16) {
+        0..=5 => Item::Push(
+            dice.below(state.used as usize + 1) as u8,
+            dice.below(3) == 0,
+        ),
+        // Of bool, i32, u32, f32 or f16, which a template takes.
+        6 if dice.below(4) == 0 => Item::Take(
+            2 + dice.below(3) as u8,
+            [0, 3, 4, 5, 6][dice.below(5)],
+            dice.below(3) == 0,
+        ),
+        6 | 7 => Item::Unary(dice.below(6) as u8),
+        8..=11 => Item::Binary(dice.below(19) as u8),
         _ => {
             let (name, k) = CALLS[dice.below(CALLS.len())];
             let amiss = dice.below(32) == 0;
@@ -191,7 +260,11 @@ fn any_item(dice: &mut Dice, state: &State) -> Item {
 /// Of AbstractInt, f32 and vec3 of f32 alone, which `+` and its like can make one value of.
 fn mild_item(dice: &mut Dice) -> Item {
     match dice.below(4) {
-        0 => Item::Push([1, 5, 7][dice.below(3)]),
+        0 => {
+            // What is abstract is const, so that it can be an operand; few are running, so that some sheets have none.
+            let t = [1, 5, 7][dice.below(3)];
+            Item::Push(t, t != 1 && dice.below(100) == 0)
+        }
         1 => Item::Binary(2 + dice.below(5) as u8),
         _ => {
             let (name, k) = [("abs", 1), ("clamp", 3), ("max", 2), ("mix", 3)][dice.below(4)];
@@ -200,19 +273,20 @@ fn mild_item(dice: &mut Dice) -> Item {
     }
 }
 
-/// Of how many items that are refused so a wild sheet ends at one. Want of room is seldom met.
+/// Of how many items that are refused so a wild sheet ends at one. Want of room and running operands that are abstract are seldom met.
 fn ends_at(reason: Reason) -> usize {
     match reason {
         Reason::NoRoom => 3,
+        Reason::RunningAbstract => 10,
         _ => 50,
     }
 }
 
 /// A sheet of so many tries from a state, and what the single calls say that it answers and leaves. An item that is refused is left out. A wild sheet ends at one such
-/// in 50, and at one in three for want of room; in a mild one nothing is pushed after half of the tries, until one value stands.
+/// in 50, and at more of the seldom ones; in a mild one nothing is pushed after half of the tries, until one value stands.
 fn made(dice: &mut Dice, from: &State, most: usize, wild: bool) -> (Vec<u8>, Answer, State) {
     let mut state = from.clone();
-    let mut bytes = vec![1, 0, 0];
+    let mut bytes = vec![state.version as u8, 0, 0];
     let mut stopped = None;
     for i in 0..most {
         let item = if wild {
@@ -220,10 +294,10 @@ fn made(dice: &mut Dice, from: &State, most: usize, wild: bool) -> (Vec<u8>, Ans
         } else {
             mild_item(dice)
         };
-        if !wild && most / 2 <= i && matches!(item, Item::Push(_)) {
+        if !wild && most / 2 <= i && matches!(item, Item::Push(..)) {
             continue;
         }
-        let item_bytes = item.bytes();
+        let item_bytes = item.bytes(state.version);
         if 3 + LONGEST < bytes.len() + item_bytes.len() {
             break;
         }
@@ -247,7 +321,11 @@ fn made(dice: &mut Dice, from: &State, most: usize, wild: bool) -> (Vec<u8>, Ans
     bytes[2] = (length % 256) as u8;
     let used = state.used;
     let end = match state.stack[..] {
-        [number] => Answer::Type { number, used },
+        [value] => Answer::Type {
+            number: value.number(),
+            running: value.is_running(),
+            used,
+        },
         _ => Answer::Refused(Refusal {
             reason: Reason::Stack,
             place: bytes.len() as u32,
@@ -272,22 +350,25 @@ fn lacks_a_name(bytes: &[u8], answer: Answer) -> bool {
 #[test]
 fn sheets_do_what_single_calls_do() {
     let mut dice = Dice(0x5eed_5eed_5eed_5eed);
-    let mut reasons = [0; 14];
+    let mut reasons = [0; 15];
     let mut lacking = [0; 3];
     let (mut unnamed, mut alike) = (0, 0);
-    for k in 0..2000 {
+    // Values that are const and that are running, in version 1 and in version 2.
+    let mut marks = [[0; 2]; 2];
+    for k in 0..4000 {
         let profile = [Profile::BASE, Profile::SUBGROUPS][k / 2 % 2];
         // In the second slice no entry is free, in the third one is.
         let held = 7 + ENTRIES.len();
         let entries = [256, held, held + 1][k / 4 % 3];
+        let version = [Version::Unmarked, Version::Marked][k / 12 % 2];
         let (bytes, told, after) = made(
             &mut dice,
-            &State::new(profile, entries),
+            &State::new(version, profile, entries),
             if k % 100 < 4 { 20_000 } else { 400 },
             k % 2 == 0,
         );
         let run_in = |profile, entries| {
-            let mut state = State::new(profile, entries);
+            let mut state = State::new(version, profile, entries);
             let answer = sheet(&mut state.words, state.used, profile, &bytes);
             (answer, state.words)
         };
@@ -319,17 +400,30 @@ fn sheets_do_what_single_calls_do() {
             }
         }
         match told {
-            Answer::Refused(r) => reasons[r.reason as usize] += 1,
-            _ => reasons[0] += 1,
+            Answer::Refused(r) => {
+                reasons[r.reason as usize] += 1;
+                // No mark, and no 14.
+                let marked = version == Version::Marked;
+                assert!(marked || r.reason != Reason::RunningAbstract);
+            }
+            Answer::Type { running, .. } => {
+                reasons[0] += 1;
+                marks[version as usize - 1][running as usize] += 1;
+            }
+            Answer::NoValue { .. } => unreachable!("no barrier is called"),
         }
     }
-    println!("sheets by refusal, 0 for a type: {reasons:?}; of the refused {lacking:?} by how many entries lack; {alike} alike in both profiles, {unnamed} with a name that profile 0 lacks");
-    for reason in [0, 2, 3, 4, 7, 8, 9, 11] {
+    println!("sheets by refusal, 0 for a type: {reasons:?}; of the refused {lacking:?} by how many entries lack; of those with a type {marks:?} by version and mark; {alike} alike in both profiles, {unnamed} with a name that profile 0 lacks");
+    for reason in [0, 2, 3, 4, 7, 8, 9, 11, 14] {
         assert_ne!(reasons[reason], 0, "no sheet ends with {reason}");
     }
     assert_eq!(lacking[1] + lacking[2], reasons[Reason::NoRoom as usize]);
     assert_ne!(lacking[1], 0);
     assert_ne!(lacking[2], 0);
+    assert_eq!(marks[0][1], 0);
+    assert_ne!(marks[0][0], 0);
+    assert_ne!(marks[1][0], 0);
+    assert_ne!(marks[1][1], 0);
     assert_ne!(unnamed, 0);
     assert_ne!(alike, 0);
 }

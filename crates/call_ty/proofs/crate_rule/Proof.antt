@@ -2,12 +2,15 @@
 use Prim.Native.Nat.{ℕ}
 use mathlib.Core.Path.{sym, _∙_, ap}
 use native.Mathlib.Omega.{arith}
+use lib.ListN.{length-map}
 use borrow.Author.Needs.{needs}
+use Rattle.held.specs.Held.{numberOf}
 use Rattle.answer.specs.Answer.{accept}
 use Rattle.table.specs.Denote.{typeAt}
 use Rattle.ruled.specs.Call.{judgedOutcome}
 use Rattle.ruled.proofs.Outcomes.{gave-as}
-use Rattle.call_ty.specs.Calls.{judgeLdexp}
+use Rattle.call_ty.specs.Calls.{judgeLdexp, numbers, marksOf}
+use Rattle.call_ty.proofs.Lists.{number-at}
 use Rattle.call_ty.proofs.Ways.{gave-accepted, gave-none, template-some, rule-bitcast, rule-length, rule-ldexp, rule-barrier, count-ldexp}
 use Rattle.call_ty.proofs.crate_rule.Statement.{statement}
 use Rattle.call_ty.proofs.crate_rule.Tie as tie
@@ -26,7 +29,7 @@ returns c = let s = c .before .before .before .before .before .before .before in
     let a = s .args in
     gave-as
     (ap (λ (k : ℕ). record { answer = accept k (a .n); words = a .words .now }) (c .before .word .ensures)
-    ∙ rule-bitcast (a .place .0) (a .words .now) (a .n) (s .pre .0) (a .rule) (a .tplt .now) (a .args .now) (c .before .before .before .if1 .taken) (s .pre .1) (template-some (a .words .now) (a .rule) (a .tplt .now) (c .before .before .before .if1 .taken) (s .pre .4)))
+    ∙ rule-bitcast (a .place .0) (a .words .now) (a .n) (s .pre .0) (a .rule) (a .tplt .now) (numbers (a .args .now)) (marksOf (a .args .now)) (c .before .before .before .if1 .taken) (s .pre .1) (template-some (a .words .now) (a .rule) (a .tplt .now) (c .before .before .before .if1 .taken) (s .pre .4)))
     (gave-accepted _ (a .words .now) (a .n) (c .accepted .ensures))
 
 accepted-requires-2 : tie.Need-accepted-requires-2
@@ -36,26 +39,28 @@ returns-2 : tie.Need-returns-2
 returns-2 c = let s = c .before .before .before .before .before .before in
     let a = s .args in
     gave-as
-    (rule-length (a .place .0) (a .words .now) (a .n) (s .pre .0) (a .rule) (a .tplt .now) (a .args .now) (c .before .if2 .taken))
+    (rule-length (a .place .0) (a .words .now) (a .n) (s .pre .0) (a .rule) (a .tplt .now) (numbers (a .args .now)) (marksOf (a .args .now)) (c .before .if2 .taken))
     (gave-accepted _ (a .words .now) (a .n) (c .accepted2 .ensures))
 
-shared-slice-read-word-2 : tie.Need-shared-slice-read-word-2
-shared-slice-read-word-2 c = let s = c .before .before .before .before .before .before .before in let k = s .pre .5 ∙ sym (count-ldexp (s .args .rule) (c .before .if3 .taken)) in omega arith
+shared-slice-read-number : tie.Need-shared-slice-read-number
+shared-slice-read-number c = let s = c .before .before .before .before .before .before .before in let k = s .pre .5 ∙ sym (count-ldexp (s .args .rule) (c .before .if3 .taken)) in omega arith
 
-word-requires-2 : tie.Need-word-requires-2
-word-requires-2 c κs = search needs
+number-requires : tie.Need-number-requires
+number-requires c κs = search needs
 
-shared-slice-read-word-3 : tie.Need-shared-slice-read-word-3
-shared-slice-read-word-3 c = let s = c .before .before .before .before .before .before .before .before .before in let k = s .pre .5 ∙ sym (count-ldexp (s .args .rule) (c .before .before .before .if3 .taken)) in omega arith
+shared-slice-read-number-2 : tie.Need-shared-slice-read-number-2
+shared-slice-read-number-2 c = let s = c .before .before .before .before .before .before .before .before .before in let k = s .pre .5 ∙ sym (count-ldexp (s .args .rule) (c .before .before .before .if3 .taken)) in omega arith
 
-word-requires-3 : tie.Need-word-requires-3
-word-requires-3 c κs = search needs
+number-requires-2 : tie.Need-number-requires-2
+number-requires-2 c κs = search needs
 
 ldexp-at-requires : tie.Need-ldexp-at-requires
 ldexp-at-requires c κs = let s = c .before .before .before .before .before .before .before .before .before .before in
     let k = s .pre .5 ∙ sym (count-ldexp (s .args .rule) (c .before .before .before .before .if3 .taken)) in
-    let d = c .before .before .word2 .ensures in
-    let e = c .word3 .ensures in
+    let v = s .args .args .now in
+    let j = length-map v numberOf in
+    let d = c .before .before .number .ensures ∙ sym (number-at v 0) in
+    let e = c .number2 .ensures ∙ sym (number-at v 1) in
     let l = s .pre .2 0 (omega arith) in
     let m = s .pre .2 1 (omega arith) in
     (s .pre .0, omega arith, omega arith)
@@ -63,11 +68,11 @@ ldexp-at-requires c κs = let s = c .before .before .before .before .before .bef
 returns-3 : tie.Need-returns-3
 returns-3 c = let s = c .before .before .before .before .before .before .before .before .before .before .before in
     let a = s .args in
-    let d = c .before .before .before .word2 .ensures in
-    let e = c .before .word3 .ensures in
+    let d = c .before .before .before .number .ensures ∙ sym (number-at (a .args .now) 0) in
+    let e = c .before .number2 .ensures ∙ sym (number-at (a .args .now) 1) in
     gave-as
     ((λ i. judgedOutcome (a .place .0) (a .words .now) (a .n) (judgeLdexp (typeAt (a .words .now) (d i)) (typeAt (a .words .now) (e i))))
-    ∙ rule-ldexp (a .place .0) (a .words .now) (a .n) (s .pre .0) (a .rule) (a .tplt .now) (a .args .now) (c .before .before .before .before .before .if3 .taken) (s .pre .5 ∙ sym (count-ldexp (a .rule) (c .before .before .before .before .before .if3 .taken))))
+    ∙ rule-ldexp (a .place .0) (a .words .now) (a .n) (s .pre .0) (a .rule) (a .tplt .now) (numbers (a .args .now)) (marksOf (a .args .now)) (c .before .before .before .before .before .if3 .taken) (length-map (a .args .now) numberOf ∙ s .pre .5 ∙ sym (count-ldexp (a .rule) (c .before .before .before .before .before .if3 .taken))))
     (c .ldexp-at .ensures)
 
 no-value-requires : tie.Need-no-value-requires
@@ -77,7 +82,7 @@ returns-4 : tie.Need-returns-4
 returns-4 c = let s = c .before .before .before .before .before .before .before in
     let a = s .args in
     gave-as
-    (rule-barrier (a .place .0) (a .words .now) (a .n) (s .pre .0) (a .rule) (a .tplt .now) (a .args .now) (s .pre .3) (c .before .before .before .if1 .left) (c .before .before .if2 .left) (c .before .if3 .left))
+    (rule-barrier (a .place .0) (a .words .now) (a .n) (s .pre .0) (a .rule) (a .tplt .now) (numbers (a .args .now)) (marksOf (a .args .now)) (s .pre .3) (c .before .before .before .if1 .left) (c .before .before .if2 .left) (c .before .if3 .left))
     (gave-none (a .words .now) (a .n) (c .no-value .ensures))
 
 pub crate-rule-spec : {M : Type 1} → statement M
@@ -90,10 +95,10 @@ crate-rule-spec =
     returns
     accepted-requires-2
     returns-2
-    shared-slice-read-word-2
-    word-requires-2
-    shared-slice-read-word-3
-    word-requires-3
+    shared-slice-read-number
+    number-requires
+    shared-slice-read-number-2
+    number-requires-2
     ldexp-at-requires
     returns-3
     no-value-requires

@@ -4,20 +4,22 @@ use mathlib.Core.Bool.{false, not}
 use mathlib.Core.Path.{_≡_, refl, sym, _∙_, ap}
 use native.Mathlib.Omega.{arith}
 use lib.Seq.{getD-set-same, getD-set-other}
-use lib.ListN.{length, getD, set, length-set}
+use lib.ListN.{length, getD, set, length-set, length-map}
 use borrow.Author.Count.{below-more}
 use borrow.Author.Needs.{needs}
+use Rattle.held.specs.Held.{numberOf}
 use Rattle.conv.specs.Rank.{isReference}
 use Rattle.overload.specs.inner.Code.{codeOf}
 use Rattle.table.proofs.KindLaws.{clash}
 use Rattle.table.specs.Denote.{typeAt}
 use Rattle.ruled.proofs.Loaded.{offered, not-offered}
-use Rattle.call_ty.proofs.Lists.{some-reference, no-reference, codes-in}
+use Rattle.call_ty.specs.Calls.{numbers}
+use Rattle.call_ty.proofs.Lists.{number-at, some-reference, no-reference, codes-in}
 use Rattle.call_ty.proofs.load.Statement.{statement}
 use Rattle.call_ty.proofs.load.Tie as tie
 
 abbrev Inv-loop : tie.InvT-loop
-Inv-loop words n args codes₀ i₀ codes i = (i ≤ length args) × (length codes ≡ length codes₀) × ((k : ℕ) → k < i → getD codes k 0 ≡ codeOf (typeAt words (getD args k 0))) × ((k : ℕ) → k < i → isReference (typeAt words (getD args k 0)) ≡ false)
+Inv-loop words n args codes₀ i₀ codes i = (i ≤ length args) × (length codes ≡ length codes₀) × ((k : ℕ) → k < i → getD codes k 0 ≡ codeOf (typeAt words (getD (numbers args) k 0))) × ((k : ℕ) → k < i → isReference (typeAt words (getD (numbers args) k 0)) ≡ false)
 
 abbrev μ-loop : tie.MeasureT-loop
 μ-loop words n args codes₀ i₀ codes i = length args - i
@@ -25,17 +27,25 @@ abbrev μ-loop : tie.MeasureT-loop
 loop-holds : tie.Need-loop-holds Inv-loop μ-loop
 loop-holds c = (search needs, refl, (λ k h. absurd (omega arith)), (λ k h. absurd (omega arith)))
 
-mul-word : tie.Need-mul-word Inv-loop μ-loop
-mul-word c = search needs
+mul-number : tie.Need-mul-number Inv-loop μ-loop
+mul-number c = search needs
 
-shared-slice-read-word : tie.Need-shared-slice-read-word Inv-loop μ-loop
-shared-slice-read-word c = search needs
+shared-slice-read-number : tie.Need-shared-slice-read-number Inv-loop μ-loop
+shared-slice-read-number c = search needs
 
-word-requires : tie.Need-word-requires Inv-loop μ-loop
-word-requires c κs = search needs
+number-requires : tie.Need-number-requires Inv-loop μ-loop
+number-requires c κs = search needs
 
 code-at-requires : tie.Need-code-at-requires Inv-loop μ-loop
-code-at-requires c κs = let s = c .before .before .before .before .before .before .before in let e = c .word .ensures in let l = s .pre .1 (c .before .before .before .loop .i) (c .before .before .loop-test .taken) in (s .pre .0, omega arith)
+code-at-requires c κs =
+    let s = c .before .before .before .before .before .before .before in
+    let v = s .args .args .now in
+    let i = c .before .before .before .loop .i in
+    let k = length-map v numberOf in
+    let l = s .pre .1 i (omega (arith, c .before .before .loop-test .taken)) in
+    let q = number-at v i in
+    let e = c .number .ensures in
+    (s .pre .0, omega arith)
 
 same-length : tie.Need-same-length Inv-loop μ-loop
 same-length c = c .before .before .before .before .before .loop .inv .1
@@ -44,10 +54,11 @@ returns : tie.Need-returns Inv-loop μ-loop
 returns c = let s = c .before .before .before .before .before .before .before .before .before in
     let a = s .args in
     let i = c .before .before .before .before .before .loop .i in
-    let l = c .before .before .before .before .loop-test .taken in
-    let e = c .before .code-at .ensures ∙ ap (λ (k : ℕ). codeOf (typeAt (a .words .now) k)) (c .before .before .word .ensures) in
+    let m = length-map (a .args .now) numberOf in
+    let l : i < length (numbers (a .args .now)) = omega (arith, c .before .before .before .before .loop-test .taken) in
+    let e = c .before .code-at .ensures ∙ ap (λ (k : ℕ). codeOf (typeAt (a .words .now) k)) (c .before .before .number .ensures ∙ sym (number-at (a .args .now) i)) in
     record {
-      reply = sym (ap not (some-reference (a .words .now) (a .args .now) i l (offered (a .words .now) (a .n) (s .pre .0) (getD (a .args .now) i 0) (s .pre .1 i l) _ e (c .if1 .taken))));
+      reply = sym (ap not (some-reference (a .words .now) (numbers (a .args .now)) i l (offered (a .words .now) (a .n) (s .pre .0) (getD (numbers (a .args .now)) i 0) (s .pre .1 i l) _ e (c .if1 .taken))));
       numbers = λ h. clash h refl;
     }
 
@@ -64,17 +75,18 @@ loop-again : tie.Need-loop-again Inv-loop μ-loop
 loop-again c = let s = c .before .before .before .before .before .before .before .before .before in
     let a = s .args in
     let i = c .before .before .before .before .before .loop .i in
-    let l = c .before .before .before .before .loop-test .taken in
+    let m = length-map (a .args .now) numberOf in
+    let l : i < length (numbers (a .args .now)) = omega (arith, c .before .before .before .before .loop-test .taken) in
     let cs = c .before .before .before .before .before .loop .codes in
     let v = c .before .before .before .before .before .loop .inv in
     let x = c .before .code-at .result in
-    let e = c .before .code-at .ensures ∙ ap (λ (k : ℕ). codeOf (typeAt (a .words .now) k)) (c .before .before .word .ensures) in
+    let e = c .before .code-at .ensures ∙ ap (λ (k : ℕ). codeOf (typeAt (a .words .now) k)) (c .before .before .number .ensures ∙ sym (number-at (a .args .now) i)) in
     let q = v .1 in
     let p = s .pre .2 in (
       search needs,
       length-set cs i x ∙ q,
-      below-more (λ (k : ℕ). getD (set cs i x) k 0 ≡ codeOf (typeAt (a .words .now) (getD (a .args .now) k 0))) i (λ k h. getD-set-other cs i k x 0 (λ z. omega arith) ∙ v .2 k h) (getD-set-same cs i x 0 (omega arith) ∙ e),
-      below-more (λ (k : ℕ). isReference (typeAt (a .words .now) (getD (a .args .now) k 0)) ≡ false) i (v .3) (not-offered (a .words .now) (a .n) (s .pre .0) (getD (a .args .now) i 0) (s .pre .1 i l) _ e (c .if1 .left)),
+      below-more (λ (k : ℕ). getD (set cs i x) k 0 ≡ codeOf (typeAt (a .words .now) (getD (numbers (a .args .now)) k 0))) i (λ k h. getD-set-other cs i k x 0 (λ z. omega arith) ∙ v .2 k h) (getD-set-same cs i x 0 (omega arith) ∙ e),
+      below-more (λ (k : ℕ). isReference (typeAt (a .words .now) (getD (numbers (a .args .now)) k 0)) ≡ false) i (v .3) (not-offered (a .words .now) (a .n) (s .pre .0) (getD (numbers (a .args .now)) i 0) (s .pre .1 i l) _ e (c .if1 .left)),
     )
 
 same-length-2 : tie.Need-same-length-2 Inv-loop μ-loop
@@ -86,9 +98,10 @@ returns-2 c = let s = c .before .before .before .before .before in
     let v = c .before .loop .inv in
     let q = v .1 in
     let p = s .pre .2 in
+    let m = length-map (a .args .now) numberOf in
     record {
-      reply = sym (ap not (no-reference (a .words .now) (a .args .now) (λ k l. v .3 k (omega arith))));
-      numbers = λ h. codes-in (a .words .now) (a .args .now) (c .before .loop .codes) (omega arith) (λ k l. v .2 k (omega arith));
+      reply = sym (ap not (no-reference (a .words .now) (numbers (a .args .now)) (λ k l. v .3 k (omega arith))));
+      numbers = λ h. codes-in (a .words .now) (numbers (a .args .now)) (c .before .loop .codes) (omega arith) (λ k l. v .2 k (omega arith));
     }
 
 pub load-spec : {M : Type 1} → statement M
@@ -98,9 +111,9 @@ load-spec =
     Inv-loop
     μ-loop
     loop-holds
-    mul-word
-    shared-slice-read-word
-    word-requires
+    mul-number
+    shared-slice-read-number
+    number-requires
     code-at-requires
     same-length
     returns

@@ -25,12 +25,12 @@ no-call k a b h = ⊎-elim (λ e. omega arith) (⊎-elim (λ e. omega arith) (�
 
 -- what is neither of the two calls shows no name
 nameless : (i : Item) → OneOf others (tagOf the-type i) → part 0 0 ≡ nameOf i
-nameless (Push t) h = refl
+nameless (Push t r) h = refl
 nameless (Unary o) h = refl
 nameless (Binary o) h = refl
 nameless (Call count name) h = let f : ⊥ = no-call _ (lit< tt) (lit< tt) h in elim f [ ]
 nameless (CallTemplate t count name) h = let f : ⊥ = no-call _ (lit< tt) (lit< tt) h in elim f [ ]
-nameless (Take kind p q elem) h = refl
+nameless (Take kind p q elem r) h = refl
 nameless End h = refl
 nameless Bad h = refl
 

@@ -4,7 +4,7 @@ use Rattle.memo.proofs.Asking.{neither, call-asked}
 use Rattle.names.specs.Names.{ruleOf}
 use Rattle.names.proofs.Rules.{said-rule}
 use borrow.Author.Tests.{ltb-false}
-use mathlib.Core.Path.{refl, sym, _∙_, ap}
+use mathlib.Core.Path.{sym, _∙_, ap}
 use mathlib.Core.Logic.{inl}
 use Rattle.frame.specs.inner.Items.{sheetOf}
 use Rattle.frame.proofs.Parts.{name-bytes}
@@ -12,8 +12,11 @@ use borrow.Author.Needs.{needs}
 use Rattle.memo.proofs.asked_call.Statement.{statement}
 use Rattle.memo.proofs.asked_call.Tie as tie
 
+no-ask-requires : tie.Need-no-ask-requires
+no-ask-requires c κs = search needs
+
 returns : tie.Need-returns
-returns c = record { asks = inl refl }
+returns c = record { asks = inl (c .no-ask .ensures) }
 
 name-in-requires : tie.Need-name-in-requires
 name-in-requires c κs = search needs
@@ -24,8 +27,11 @@ rule-of-requires c κs = search needs
 enum-known-rule : tie.Need-enum-known-rule
 enum-known-rule c = search needs
 
+no-ask-requires-2 : tie.Need-no-ask-requires-2
+no-ask-requires-2 c κs = search needs
+
 returns-2 : tie.Need-returns-2
-returns-2 c = record { asks = inl refl }
+returns-2 c = record { asks = inl (c .no-ask2 .ensures) }
 
 wide32-requires : tie.Need-wide32-requires
 wide32-requires c κs = search needs
@@ -42,29 +48,35 @@ wide-requires c κs = search needs
 enum-told : tie.Need-enum-told
 enum-told c = search needs
 
+no-ask-requires-3 : tie.Need-no-ask-requires-3
+no-ask-requires-3 c κs = search needs
+
 returns-3 : tie.Need-returns-3
 returns-3 c = let a = c .before .before .before .before .before .before .before .before .before .before .before .before .args in
     let n = neither _ _ (c .before .before .before .before .before .before .before .before .before .if1 .left) in
     let g = c .before .before .before .before .before .rule .given in
-    let e = ap (ruleOf (a .profile)) (sym (name-bytes (a .items .now) (a .name) (c .before .before .before .before .before .before .before .before .before .before .before .before .pre .0 .0) (c .before .before .before .before .before .before .before .before .name-in .ensures .bytes))) ∙ said-rule (a .profile) _ _ (sym (c .before .before .before .before .before .before .before .rule-of .ensures) ∙ g .1) in
-    call-asked (a .profile) (sheetOf (a .items .now)) (a .name) (a .k) (g .0 .0) (c .before .word64 .result) (c .wide .result) (ltb-false _ _ (n .0)) (ltb-false _ _ (n .1)) (c .before .before .before .if2 .left) e (c .before .word64 .ensures ∙ ap (λ (x : ℕ). 24 + x) (c .before .before .wide32 .ensures)) (c .wide .ensures)
+    let e = ap (ruleOf (a .profile)) (sym (name-bytes (a .version) (a .items .now) (a .name) (c .before .before .before .before .before .before .before .before .before .before .before .before .pre .0 .0) (c .before .before .before .before .before .before .before .before .name-in .ensures .bytes))) ∙ said-rule (a .profile) _ _ (sym (c .before .before .before .before .before .before .before .rule-of .ensures) ∙ g .1) in
+    call-asked (a .profile) (sheetOf (a .version) (a .items .now)) (a .name) (a .k) (g .0 .0) (g .0 .1 .0) (c .before .word64 .result) (c .wide .result) (ltb-false _ _ (n .0)) (ltb-false _ _ (n .1)) (c .before .before .before .if2 .left) e (c .before .word64 .ensures ∙ ap (λ (x : ℕ). 24 + x) (c .before .before .wide32 .ensures)) (c .wide .ensures)
 
 returns-4 : tie.Need-returns-4
-returns-4 c = record { asks = inl refl }
+returns-4 c = record { asks = inl (c .no-ask3 .ensures) }
 
 pub asked-call-spec : {M : Type 1} → statement M
 asked-call-spec =
     tie.close
     (tie.spec
+    no-ask-requires
     returns
     name-in-requires
     rule-of-requires
     enum-known-rule
+    no-ask-requires-2
     returns-2
     wide32-requires
     add-word64
     word64-requires
     wide-requires
     enum-told
+    no-ask-requires-3
     returns-3
     returns-4)

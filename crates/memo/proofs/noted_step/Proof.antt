@@ -1,20 +1,25 @@
--- `memo::noted_step` meets its contract: a value that the memo has is the one that typing gives, and what typing gave may be noted. Assumes nothing.
-use Rattle.memo.proofs.Asking.{ready-small, asks-coded, key-small, base-room, recalls-step, recalled-does, step-leaves, step-noted}
+-- `memo::noted_step` meets its contract: what is recalled is what typing gives, and what typing gave is noted. Assumes nothing.
+use Rattle.memo.proofs.Asking.{ready-small, asks-coded, key-small, base-room, recalled-byte, keyed-in, recalls-step, recalled-does, step-leaves, step-noted}
 use Rattle.memo.specs.inner.Memo.{AfterStep}
-use native.Mathlib.Omega.{arith}
-use mathlib.Core.Path.{_∙_}
+use Rattle.frame.specs.Frame.{marked}
 use Rattle.frame.specs.inner.Items.{sheetOf}
+use Rattle.frame.proofs.Parts.{whole-marked}
+use native.Mathlib.Omega.{arith}
+use mathlib.Core.Path.{sym, _∙_}
 use borrow.Author.Needs.{needs}
 use Rattle.memo.proofs.noted_step.Statement.{statement}
 use Rattle.memo.proofs.noted_step.Tie as tie
+
+keeps-marks-requires : tie.Need-keeps-marks-requires
+keeps-marks-requires c κs = search needs
 
 asked-requires : tie.Need-asked-requires
 asked-requires c κs = search needs
 
 keyed-requires : tie.Need-keyed-requires
-keyed-requires c κs = let a = c .before .before .before .before .before .before .before .args in
+keyed-requires c κs = let a = c .before .before .before .before .before .before .before .before .args in
     let q = c .before .asked in
-    (ready-small (a .count) (a .stack .now) (a .used) (a .table .now) (c .before .before .before .before .before .before .before .pre .0), asks-coded (a .profile) (sheetOf (a .items .now)) (a .item) (q .result .code) (q .result .operands) (q .ensures))
+    (ready-small (a .count) (a .stack .now) (a .used) (a .table .now) (c .before .before .before .before .before .before .before .before .pre .0), asks-coded (a .profile) (sheetOf (a .version) (a .items .now)) (a .item) (q .result .code) (q .result .operands) (q .result .runs) (q .ensures))
 
 step-requires : tie.Need-step-requires
 step-requires c κs = search needs
@@ -26,34 +31,48 @@ same-length-2 : tie.Need-same-length-2
 same-length-2 c = search needs
 
 returns : tie.Need-returns
-returns c = let a = c .before .before .before .before .before .before .before .before .before .before .before .before .before .before .before .before .before .args in
+returns c = let a = c .before .before .before .before .before .before .before .before .before .before .before .before .before .before .before .before .before .before .args in
+    let p = c .before .before .before .before .before .before .before .before .before .before .before .before .before .before .before .before .before .before .pre in
     let d = c .before .before .before .before .step in
-    (d .ensures, recalls-step (a .profile) (a .count) (a .stack .now) (a .used) (a .table .now) (c .before .before .before .before .before .before .before .before .before .before .before .before .before .before .before .before .before .pre .0) (sheetOf (a .items .now)) (a .item) (a .at .0) (d .result) _ _ (a .memo .now) (d .ensures) (c .before .before .before .before .before .before .before .before .before .before .before .before .before .before .before .before .before .pre .2))
+    (d .ensures, recalls-step (a .profile) (a .count) (a .stack .now) (a .used) (a .table .now) (p .0) (sheetOf (a .version) (a .items .now)) (a .item) (a .at .0) (d .result) _ _ (a .memo .now) (d .ensures) (p .2))
 
 recall-requires : tie.Need-recall-requires
-recall-requires c κs = let a = c .before .before .before .before .before .before .before .before .before .before .before .args in
-    let q = c .before .before .before .before .before .asked in
-    let k = c .before .before .before .keyed in
-    (c .before .before .before .before .before .before .before .before .before .before .before .pre .2 .size, key-small (a .profile) (a .count) (a .stack .now) (a .used) (a .table .now) (c .before .before .before .before .before .before .before .before .before .before .before .pre .0) (sheetOf (a .items .now)) (a .item) (q .result .code) (q .result .operands) (k .result .number) (k .result .base) (q .ensures) (k .ensures) (c .before .if1 .left))
+recall-requires c κs = search needs
+
+value-requires : tie.Need-value-requires
+value-requires c κs = let b = recalled-byte (c .before .before .before .before .before .before .before .before .before .before .before .before .before .before .args .memo .now) (c .before .before .before .before .before .keyed .result .number) (c .before .recall .result) (c .before .recall .ensures) (c .if2 .taken) in omega (arith, b)
 
 mul-stack : tie.Need-mul-stack
-mul-stack c = let a = c .before .before .before .before .before .before .before .before .before .before .before .before .before .args in
-    let q = c .before .before .before .before .before .before .before .asked in
-    let k = c .before .before .before .before .before .keyed in
-    let r = base-room (a .profile) (a .count) (a .stack .now) (a .used) (a .table .now) (c .before .before .before .before .before .before .before .before .before .before .before .before .before .pre .0) (sheetOf (a .items .now)) (a .item) (q .result .code) (q .result .operands) (k .result .number) (k .result .base) (q .ensures) (k .ensures) (c .before .before .before .if1 .left) in
+mul-stack c = let a = c .before .before .before .before .before .before .before .before .before .before .before .before .before .before .before .args in
+    let p = c .before .before .before .before .before .before .before .before .before .before .before .before .before .before .before .pre in
+    let s = sheetOf (a .version) (a .items .now) in
+    let m = c .before .before .before .before .before .before .before .before .before .keeps-marks in
+    let q = c .before .before .before .before .before .before .before .before .asked in
+    let k = c .before .before .before .before .before .before .keyed in
+    let coded = asks-coded (a .profile) s (a .item) (q .result .code) (q .result .operands) (q .result .runs) (q .ensures) in
+    let r = base-room (a .count) (a .stack .now) (a .used) (a .table .now) (p .0) (q .result .code) (q .result .operands) (m .result) (q .result .runs) (k .result .number) (k .result .base) (k .result .running) coded (k .ensures .0) (c .before .before .before .before .if1 .left) in
     omega (arith, r .0)
 
 slice-write-stack : tie.Need-slice-write-stack
-slice-write-stack c = let a = c .before .before .before .before .before .before .before .before .before .before .before .before .before .args in
-    let q = c .before .before .before .before .before .before .before .asked in
-    let k = c .before .before .before .before .before .keyed in
-    base-room (a .profile) (a .count) (a .stack .now) (a .used) (a .table .now) (c .before .before .before .before .before .before .before .before .before .before .before .before .before .pre .0) (sheetOf (a .items .now)) (a .item) (q .result .code) (q .result .operands) (k .result .number) (k .result .base) (q .ensures) (k .ensures) (c .before .before .before .if1 .left) .1
+slice-write-stack c = let a = c .before .before .before .before .before .before .before .before .before .before .before .before .before .before .before .args in
+    let p = c .before .before .before .before .before .before .before .before .before .before .before .before .before .before .before .pre in
+    let s = sheetOf (a .version) (a .items .now) in
+    let m = c .before .before .before .before .before .before .before .before .before .keeps-marks in
+    let q = c .before .before .before .before .before .before .before .before .asked in
+    let k = c .before .before .before .before .before .before .keyed in
+    let coded = asks-coded (a .profile) s (a .item) (q .result .code) (q .result .operands) (q .result .runs) (q .ensures) in
+    let r = base-room (a .count) (a .stack .now) (a .used) (a .table .now) (p .0) (q .result .code) (q .result .operands) (m .result) (q .result .runs) (k .result .number) (k .result .base) (k .result .running) coded (k .ensures .0) (c .before .before .before .before .if1 .left) in
+    r .1
 
-add-t25 : tie.Need-add-t25
-add-t25 c = let a = c .before .before .before .before .before .before .before .before .before .before .before .before .before .args in
-    let q = c .before .before .before .before .before .before .before .asked in
-    let k = c .before .before .before .before .before .keyed in
-    let r = base-room (a .profile) (a .count) (a .stack .now) (a .used) (a .table .now) (c .before .before .before .before .before .before .before .before .before .before .before .before .before .pre .0) (sheetOf (a .items .now)) (a .item) (q .result .code) (q .result .operands) (k .result .number) (k .result .base) (q .ensures) (k .ensures) (c .before .before .before .if1 .left) in
+add-t28 : tie.Need-add-t28
+add-t28 c = let a = c .before .before .before .before .before .before .before .before .before .before .before .before .before .before .before .args in
+    let p = c .before .before .before .before .before .before .before .before .before .before .before .before .before .before .before .pre in
+    let s = sheetOf (a .version) (a .items .now) in
+    let m = c .before .before .before .before .before .before .before .before .before .keeps-marks in
+    let q = c .before .before .before .before .before .before .before .before .asked in
+    let k = c .before .before .before .before .before .before .keyed in
+    let coded = asks-coded (a .profile) s (a .item) (q .result .code) (q .result .operands) (q .result .runs) (q .ensures) in
+    let r = base-room (a .count) (a .stack .now) (a .used) (a .table .now) (p .0) (q .result .code) (q .result .operands) (m .result) (q .result .runs) (k .result .number) (k .result .base) (k .result .running) coded (k .ensures .0) (c .before .before .before .before .if1 .left) in
     omega (arith, r .0)
 
 same-length-3 : tie.Need-same-length-3
@@ -64,22 +83,30 @@ same-length-4 c = search needs
 
 returns-2 : tie.Need-returns-2
 unfolding AfterStep
-returns-2 c = let a = c .before .before .before .before .before .before .before .before .before .before .before .before .before .args in
-    let q = c .before .before .before .before .before .before .before .asked in
-    let k = c .before .before .before .before .before .keyed in
-    let t = c .before .recall in
-    (recalled-does (a .profile) (a .count) (a .stack .now) (a .used) (a .table .now) (c .before .before .before .before .before .before .before .before .before .before .before .before .before .pre .0) (sheetOf (a .items .now)) (a .item) (q .result .code) (q .result .operands) (k .result .number) (k .result .base) (q .ensures) (k .ensures) (c .before .before .before .if1 .left) (a .memo .now) (c .before .before .before .before .before .before .before .before .before .before .before .before .before .pre .2) (t .result) (t .ensures) (c .if2 .taken) (a .at .0), c .before .before .before .before .before .before .before .before .before .before .before .before .before .pre .2)
+returns-2 c = let a = c .before .before .before .before .before .before .before .before .before .before .before .before .before .before .before .args in
+    let p = c .before .before .before .before .before .before .before .before .before .before .before .before .before .before .before .pre in
+    let s = sheetOf (a .version) (a .items .now) in
+    let m = c .before .before .before .before .before .before .before .before .before .keeps-marks in
+    let q = c .before .before .before .before .before .before .before .before .asked in
+    let k = c .before .before .before .before .before .before .keyed in
+    let keys = keyed-in (q .result .code) (q .result .operands) (m .result) (marked s) (q .result .runs) (a .count) (a .stack .now) (k .result .number) (k .result .base) (k .result .running) (m .ensures ∙ sym (whole-marked (a .version) (a .items .now))) (k .ensures .0) in
+    let t = c .before .before .recall in
+    (recalled-does (a .profile) (a .count) (a .stack .now) (a .used) (a .table .now) (p .0) s (a .item) (q .result .code) (q .result .operands) (q .result .runs) (k .result .number) (k .result .base) (k .result .running) (q .ensures) keys (c .before .before .before .before .if1 .left) (a .memo .now) (p .2) (t .result) (t .ensures) (c .before .if2 .taken) (c .value .result) (c .value .ensures) (a .at .0), p .2)
 
 step-requires-2 : tie.Need-step-requires-2
 step-requires-2 c κs = search needs
 
 note-did-requires : tie.Need-note-did-requires
-note-did-requires c κs = let a = c .before .before .before .before .before .before .before .before .before .before .before .before .before .before .before .before .before .before .before .before .before .before .args in
-    let p = c .before .before .before .before .before .before .before .before .before .before .before .before .before .before .before .before .before .before .before .before .before .before .pre in
+note-did-requires c κs = let a = c .before .before .before .before .before .before .before .before .before .before .before .before .before .before .before .before .before .before .before .before .before .before .before .args in
+    let p = c .before .before .before .before .before .before .before .before .before .before .before .before .before .before .before .before .before .before .before .before .before .before .before .pre in
+    let s = sheetOf (a .version) (a .items .now) in
+    let m = c .before .before .before .before .before .before .before .before .before .before .before .before .before .before .before .before .before .keeps-marks in
     let q = c .before .before .before .before .before .before .before .before .before .before .before .before .before .before .before .before .asked in
     let k = c .before .before .before .before .before .before .before .before .before .before .before .before .before .before .keyed in
+    let coded = asks-coded (a .profile) s (a .item) (q .result .code) (q .result .operands) (q .result .runs) (q .ensures) in
+    let keys = keyed-in (q .result .code) (q .result .operands) (m .result) (marked s) (q .result .runs) (a .count) (a .stack .now) (k .result .number) (k .result .base) (k .result .running) (m .ensures ∙ sym (whole-marked (a .version) (a .items .now))) (k .ensures .0) in
     let d = c .before .before .before .before .before .before .step2 in
-    (p .2 .size, key-small (a .profile) (a .count) (a .stack .now) (a .used) (a .table .now) (p .0) (sheetOf (a .items .now)) (a .item) (q .result .code) (q .result .operands) (k .result .number) (k .result .base) (q .ensures) (k .ensures) (c .before .before .before .before .before .before .before .before .before .before .before .before .if1 .left), step-leaves (a .profile) (a .count) (a .stack .now) (a .used) (a .table .now) (p .0) (sheetOf (a .items .now)) (a .item) (q .result .code) (q .result .operands) (k .result .number) (k .result .base) (q .ensures) (k .ensures) (c .before .before .before .before .before .before .before .before .before .before .before .before .if1 .left) (a .at .0) _ _ (d .kept .1 .1 .1 .1 .1 .0 ∙ p .0 .size) (d .result) (d .ensures))
+    (p .2 .size, k .ensures .1, key-small (a .count) (a .stack .now) (a .used) (a .table .now) (p .0) (q .result .code) (q .result .operands) (m .result) (q .result .runs) (k .result .number) (k .result .base) (k .result .running) coded (k .ensures .0) (c .before .before .before .before .before .before .before .before .before .before .before .before .if1 .left), step-leaves (a .profile) (a .count) (a .stack .now) (a .used) (a .table .now) (p .0) s (a .item) (q .result .code) (q .result .operands) (q .result .runs) (k .result .number) (k .result .base) (k .result .running) (q .ensures) keys (c .before .before .before .before .before .before .before .before .before .before .before .before .if1 .left) (a .at .0) _ _ (d .kept .1 .1 .1 .1 .1 .1 .0 ∙ p .0 .size) (d .result) (d .ensures))
 
 same-length-5 : tie.Need-same-length-5
 same-length-5 c = search needs
@@ -91,17 +118,21 @@ same-length-7 : tie.Need-same-length-7
 same-length-7 c = search needs
 
 returns-3 : tie.Need-returns-3
-returns-3 c = let a = c .before .before .before .before .before .before .before .before .before .before .before .before .before .before .before .before .before .before .before .before .before .before .before .before .before .args in
-    let p = c .before .before .before .before .before .before .before .before .before .before .before .before .before .before .before .before .before .before .before .before .before .before .before .before .before .pre in
+returns-3 c = let a = c .before .before .before .before .before .before .before .before .before .before .before .before .before .before .before .before .before .before .before .before .before .before .before .before .before .before .args in
+    let p = c .before .before .before .before .before .before .before .before .before .before .before .before .before .before .before .before .before .before .before .before .before .before .before .before .before .before .pre in
+    let s = sheetOf (a .version) (a .items .now) in
+    let m = c .before .before .before .before .before .before .before .before .before .before .before .before .before .before .before .before .before .before .before .before .keeps-marks in
     let q = c .before .before .before .before .before .before .before .before .before .before .before .before .before .before .before .before .before .before .before .asked in
     let k = c .before .before .before .before .before .before .before .before .before .before .before .before .before .before .before .before .before .keyed in
+    let keys = keyed-in (q .result .code) (q .result .operands) (m .result) (marked s) (q .result .runs) (a .count) (a .stack .now) (k .result .number) (k .result .base) (k .result .running) (m .ensures ∙ sym (whole-marked (a .version) (a .items .now))) (k .ensures .0) in
     let d = c .before .before .before .before .before .before .before .before .before .step2 in
-    (d .ensures, step-noted (a .profile) (a .count) (a .stack .now) (a .used) (a .table .now) (p .0) (sheetOf (a .items .now)) (a .item) (q .result .code) (q .result .operands) (k .result .number) (k .result .base) (q .ensures) (k .ensures) (c .before .before .before .before .before .before .before .before .before .before .before .before .before .before .before .if1 .left) (a .at .0) _ _ (d .kept .1 .1 .1 .1 .1 .0 ∙ p .0 .size) (a .memo .now) _ (p .2) (d .result) (d .ensures) (c .before .before .note-did .ensures))
+    (d .ensures, step-noted (a .profile) (a .count) (a .stack .now) (a .used) (a .table .now) (p .0) s (a .item) (q .result .code) (q .result .operands) (q .result .runs) (k .result .number) (k .result .base) (k .result .running) (q .ensures) keys (c .before .before .before .before .before .before .before .before .before .before .before .before .before .before .before .if1 .left) (a .at .0) _ _ (d .kept .1 .1 .1 .1 .1 .1 .0 ∙ p .0 .size) (a .memo .now) _ (p .2) (d .result) (d .ensures) (c .before .before .note-did .ensures))
 
 pub noted-step-spec : {M : Type 1} → statement M
 noted-step-spec =
     tie.close
     (tie.spec
+    keeps-marks-requires
     asked-requires
     keyed-requires
     step-requires
@@ -109,9 +140,10 @@ noted-step-spec =
     same-length-2
     returns
     recall-requires
+    value-requires
     mul-stack
     slice-write-stack
-    add-t25
+    add-t28
     same-length-3
     same-length-4
     returns-2

@@ -10,10 +10,10 @@ wide-requires : tie.Need-wide-requires
 wide-requires c κs = search needs
 
 returns : tie.Need-returns
-returns c = record { went = inl (refl, refl) }
+returns c = λ keeps. record { went = inl (refl, refl) }
 
 returns-2 : tie.Need-returns-2
-returns-2 c = record { went = inl (refl, refl) }
+returns-2 c = λ keeps. record { went = inl (refl, refl) }
 
 value-requires : tie.Need-value-requires
 value-requires c κs = search needs

@@ -4,7 +4,7 @@ use Prim.Native.Nat.{_<_, _≤_}
 use mathlib.Core.Path.{sym, _∙_, ap}
 use native.Mathlib.Omega.{arith}
 use Rattle.names.proofs.Found.{missing, too-long, with-blank, unknown-profile, found-here, found-later}
-use Rattle.names.proofs.Lines.{rows-count, number-at, profile-at}
+use Rattle.names.proofs.Lines.{rows-count, number-at, profile-at, mark-at}
 use Rattle.names.specs.declared.RuleNo.the-variants.{Is}
 use Rattle.names.specs.inner.Table.{replied}
 use Rattle.names.specs.Names.{count}
@@ -66,16 +66,22 @@ returns-5 c = let s = c .before .before .before .before .before .before .before 
 shared-slice-read-t12 : tie.Need-shared-slice-read-t12
 shared-slice-read-t12 c = search needs
 
+add-t8 : tie.Need-add-t8
+add-t8 c = search needs
+
+shared-slice-read-t15 : tie.Need-shared-slice-read-t15
+shared-slice-read-t15 c = search needs
+
 returns-6 : tie.Need-returns-6
 unfolding replied
-returns-6 c = let s = c .before .before .before .before .before .before .before .before .before .before .before .before in
-    let row = c .before .before .before .before .before .row-of .result in
-    let l : row < count = let e = rows-count (s .args .rows .now) (s .pre) in let h = c .before .before .before .before .if4 .left in omega arith in
+returns-6 c = let s = c .before .before .before .before .before .before .before .before .before .before .before .before .before in
+    let row = c .before .before .before .before .before .before .row-of .result in
+    let l : row < count = let e = rows-count (s .args .rows .now) (s .pre) in let h = c .before .before .before .before .before .if4 .left in omega arith in
     let p = profile-at (s .args .rows .now) (s .pre) row l in
-    let q = c .before .before .wide32 .ensures in
-    let h = c .before .if5 .left in
-    ap Is (number-at (s .args .rows .now) (s .pre) row l)
-    ∙ sym (ap replied (found-here (s .args .profile) (s .args .name .now) row l (c .before .before .before .before .before .row-of .ensures .there l) (c .before .before .before .before .before .before .before .before .before .if1 .left) (omega arith)))
+    let q = c .before .before .before .wide32 .ensures in
+    let h = c .before .before .if5 .left in
+    (λ i. Is (number-at (s .args .rows .now) (s .pre) row l i) (mark-at (s .args .rows .now) (s .pre) row l i))
+    ∙ sym (ap replied (found-here (s .args .profile) (s .args .name .now) row l (c .before .before .before .before .before .before .row-of .ensures .there l) (c .before .before .before .before .before .before .before .before .before .before .if1 .left) (omega arith)))
 
 pub rule-of-spec : {M : Type 1} → statement M
 rule-of-spec =
@@ -94,4 +100,6 @@ rule-of-spec =
     wide32-requires
     returns-5
     shared-slice-read-t12
+    add-t8
+    shared-slice-read-t15
     returns-6)

@@ -34,18 +34,18 @@ numbered k =
     (cond (eqb k 101) arrayLength
     (cond (eqb k 102) ldexp barrier)))
 
--- a reply: the number of the rule that a name has
+-- a reply: the number of the rule that a name has, and whether its result is running even so
 unfoldable pub replied : Named → RuleNo
-replied (rule r) = Is (ruleNumber r)
+replied (rule r running) = Is (ruleNumber r) running
 replied unknown = Unknown
 
--- A LINE: 32 letters, the name filled up with blanks; then the number of its rule and its profile
+-- A LINE: 32 letters, the name filled up with blanks; then the number of its rule, its profile, and 1 where its result is running, else 0
 
 abbrev pub nameWidth : ℕ
 nameWidth = 32
 
 abbrev pub lineWidth : ℕ
-lineWidth = 34
+lineWidth = 35
 
 abbrev pub blank : ℕ
 blank = 32
@@ -55,8 +55,11 @@ filled zero s = []
 filled (suc k) [] = blank ∷ filled k []
 filled (suc k) (c ∷ cs) = c ∷ filled k cs
 
+abbrev pub markByte : Bool → ℕ
+markByte running = cond running 1 0
+
 unfoldable pub line : Name → List ℕ
-line r = filled nameWidth (r .text) ++ (ruleNumber (r .rule) ∷ r .profile ∷ [])
+line r = filled nameWidth (r .text) ++ (ruleNumber (r .rule) ∷ r .profile ∷ markByte (r .running) ∷ [])
 
 unfoldable pub linesOf : List Name → List ℕ
 linesOf [] = []

@@ -1,61 +1,32 @@
--- `ops_ty::type_binary_op` meets its contract: 1, then 2 from left to right, then the call. Assumes nothing.
+-- `ops_ty::type_binary_op` meets its contract: the answer, and the mark that one of its operands gives. Assumes nothing.
 use borrow.Author.Needs.{needs}
-use borrow.Author.Tests.{not-true, not-false}
-use mathlib.Core.Path.{sym, _∙_}
-use Rattle.table.proofs.SoundLaws.{sound-of}
-use Rattle.ruled.proofs.Outcomes.{gave-as, gave-refused}
-use Rattle.ops_ty.proofs.Ways.{binary-unsound, binary-beyond, binary-beyond-2, binary-call}
+use mathlib.Core.Path.{_∙_, ap, ap₂}
+use mathlib.Core.Bool.{Bool, _||_}
+use Rattle.answer.specs.Answer.{markedBy}
+use Rattle.table.proofs.Giving.{gave-marked}
+use Rattle.ops_ty.proofs.Ways.{two-run}
 use Rattle.ops_ty.proofs.type_binary_op.Statement.{statement}
 use Rattle.ops_ty.proofs.type_binary_op.Tie as tie
 
-sound-requires : tie.Need-sound-requires
-sound-requires c κs = search needs
+answer-binary-requires : tie.Need-answer-binary-requires
+answer-binary-requires c κs = search needs
 
-refused-requires : tie.Need-refused-requires
-refused-requires c κs = search needs
+running-requires : tie.Need-running-requires
+running-requires c κs = search needs
+
+running-requires-2 : tie.Need-running-requires-2
+running-requires-2 c κs = search needs
+
+marked-requires : tie.Need-marked-requires
+marked-requires c κs = search needs
 
 same-length : tie.Need-same-length
 same-length c = search needs
 
 returns : tie.Need-returns
 returns c =
-    let a = c .before .before .before .before .before .args in
-    gave-as (binary-unsound (a .words .now) (a .n) (a .op) (a .a .0) (a .b .0) (sym (c .before .before .sound .ensures) ∙ not-true _ (c .before .if1 .taken))) (gave-refused _ _ (a .words .now) (a .n) (c .refused .ensures))
-
-refused-requires-2 : tie.Need-refused-requires-2
-refused-requires-2 c κs = search needs
-
-same-length-2 : tie.Need-same-length-2
-same-length-2 c = search needs
-
-returns-2 : tie.Need-returns-2
-returns-2 c =
-    let a = c .before .before .before .before .before .before .before .args in
-    gave-as (binary-beyond (a .words .now) (a .n) (a .op) (a .a .0) (a .b .0) (sym (c .before .before .before .before .sound .ensures) ∙ not-false _ (c .before .before .before .if1 .left)) (c .before .if2 .taken)) (gave-refused _ _ (a .words .now) (a .n) (c .refused2 .ensures))
-
-refused-requires-3 : tie.Need-refused-requires-3
-refused-requires-3 c κs = search needs
-
-same-length-3 : tie.Need-same-length-3
-same-length-3 c = search needs
-
-returns-3 : tie.Need-returns-3
-returns-3 c =
-    let a = c .before .before .before .before .before .before .before .before .before .args in
-    gave-as (binary-beyond-2 (a .words .now) (a .n) (a .op) (a .a .0) (a .b .0) (sym (c .before .before .before .before .before .before .sound .ensures) ∙ not-false _ (c .before .before .before .before .before .if1 .left)) (c .before .before .before .if2 .left) (c .before .if3 .taken)) (gave-refused _ _ (a .words .now) (a .n) (c .refused3 .ensures))
-
-binary-at-requires : tie.Need-binary-at-requires
-binary-at-requires c κs =
-    let a = c .before .before .before .before .before .before .before .before .before .args in
-    (sound-of (a .words .now) (a .n) (sym (c .before .before .before .before .before .before .sound .ensures) ∙ not-false _ (c .before .before .before .before .before .if1 .left)), c .before .before .before .if2 .left, c .before .if3 .left)
-
-same-length-4 : tie.Need-same-length-4
-same-length-4 c = search needs
-
-returns-4 : tie.Need-returns-4
-returns-4 c =
-    let a = c .before .before .before .before .before .before .before .before .before .before .before .before .args in
-    gave-as (binary-call (a .words .now) (a .n) (a .op) (a .a .0) (a .b .0) (sym (c .before .before .before .before .before .before .before .before .before .sound .ensures) ∙ not-false _ (c .before .before .before .before .before .before .before .before .if1 .left)) (c .before .before .before .before .before .before .if2 .left) (c .before .before .before .before .if3 .left)) (c .before .before .binary-at .ensures)
+    gave-marked (c .before .before .before .before .before .answer-binary .ensures)
+    (c .marked .ensures ∙ ap (λ (m : Bool). markedBy m (c .before .before .before .before .before .answer-binary .result)) (ap₂ (λ (x y : Bool). x || y) (c .before .before .running .ensures) (c .before .running2 .ensures) ∙ two-run _ _))
 
 pub type-binary-op-spec : {M : Type 1} → statement M
-type-binary-op-spec = tie.close (tie.spec sound-requires refused-requires same-length returns refused-requires-2 same-length-2 returns-2 refused-requires-3 same-length-3 returns-3 binary-at-requires same-length-4 returns-4)
+type-binary-op-spec = tie.close (tie.spec answer-binary-requires running-requires running-requires-2 marked-requires same-length returns)

@@ -1,50 +1,29 @@
--- `ops_ty::type_unary_op` meets its contract: 1, then 2, then the call. Assumes nothing.
+-- `ops_ty::type_unary_op` meets its contract: the answer, and the mark of its operand. Assumes nothing.
 use borrow.Author.Needs.{needs}
-use borrow.Author.Tests.{not-true, not-false}
-use mathlib.Core.Path.{sym, _∙_}
-use Rattle.table.proofs.SoundLaws.{sound-of}
-use Rattle.ruled.proofs.Outcomes.{gave-as, gave-refused}
-use Rattle.ops_ty.proofs.Ways.{unary-unsound, unary-beyond, unary-call}
+use mathlib.Core.Path.{_∙_, ap}
+use mathlib.Core.Bool.{Bool}
+use Rattle.answer.specs.Answer.{markedBy}
+use Rattle.table.proofs.Giving.{gave-marked}
+use Rattle.ops_ty.proofs.Ways.{one-runs}
 use Rattle.ops_ty.proofs.type_unary_op.Statement.{statement}
 use Rattle.ops_ty.proofs.type_unary_op.Tie as tie
 
-sound-requires : tie.Need-sound-requires
-sound-requires c κs = search needs
+answer-unary-requires : tie.Need-answer-unary-requires
+answer-unary-requires c κs = search needs
 
-refused-requires : tie.Need-refused-requires
-refused-requires c κs = search needs
+running-requires : tie.Need-running-requires
+running-requires c κs = search needs
+
+marked-requires : tie.Need-marked-requires
+marked-requires c κs = search needs
 
 same-length : tie.Need-same-length
 same-length c = search needs
 
 returns : tie.Need-returns
 returns c =
-    let a = c .before .before .before .before .before .args in
-    gave-as (unary-unsound (a .words .now) (a .n) (a .op) (a .a .0) (sym (c .before .before .sound .ensures) ∙ not-true _ (c .before .if1 .taken))) (gave-refused _ _ (a .words .now) (a .n) (c .refused .ensures))
-
-refused-requires-2 : tie.Need-refused-requires-2
-refused-requires-2 c κs = search needs
-
-same-length-2 : tie.Need-same-length-2
-same-length-2 c = search needs
-
-returns-2 : tie.Need-returns-2
-returns-2 c =
-    let a = c .before .before .before .before .before .before .before .args in
-    gave-as (unary-beyond (a .words .now) (a .n) (a .op) (a .a .0) (sym (c .before .before .before .before .sound .ensures) ∙ not-false _ (c .before .before .before .if1 .left)) (c .before .if2 .taken)) (gave-refused _ _ (a .words .now) (a .n) (c .refused2 .ensures))
-
-unary-at-requires : tie.Need-unary-at-requires
-unary-at-requires c κs =
-    let a = c .before .before .before .before .before .before .before .args in
-    (sound-of (a .words .now) (a .n) (sym (c .before .before .before .before .sound .ensures) ∙ not-false _ (c .before .before .before .if1 .left)), c .before .if2 .left)
-
-same-length-3 : tie.Need-same-length-3
-same-length-3 c = search needs
-
-returns-3 : tie.Need-returns-3
-returns-3 c =
-    let a = c .before .before .before .before .before .before .before .before .before .before .args in
-    gave-as (unary-call (a .words .now) (a .n) (a .op) (a .a .0) (sym (c .before .before .before .before .before .before .before .sound .ensures) ∙ not-false _ (c .before .before .before .before .before .before .if1 .left)) (c .before .before .before .before .if2 .left)) (c .before .before .unary-at .ensures)
+    gave-marked (c .before .before .before .before .answer-unary .ensures)
+    (c .marked .ensures ∙ ap (λ (m : Bool). markedBy m (c .before .before .before .before .answer-unary .result)) (c .before .running .ensures ∙ one-runs _))
 
 pub type-unary-op-spec : {M : Type 1} → statement M
-type-unary-op-spec = tie.close (tie.spec sound-requires refused-requires same-length returns refused-requires-2 same-length-2 returns-2 unary-at-requires same-length-3 returns-3)
+type-unary-op-spec = tie.close (tie.spec answer-unary-requires running-requires marked-requires same-length returns)

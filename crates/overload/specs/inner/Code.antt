@@ -6,13 +6,14 @@ use mathlib.Core.Bool.{Bool, false, not, cond}
 use mathlib.Core.List.{List, [], _∷_, _++_, map}
 use lib.Dec.{T, eqb, leb, ltb}
 use lib.ListN.{length, getD, take}
-use Rattle.conv.specs.Types.{Ty, isWidth, bool, i32, u32, f32}
+use Rattle.conv.specs.Types.{Ty, isWidth, isAbstract, bool, i32, u32, f32}
 use Rattle.conv.specs.Types.Ty.{frexp, modf}
 use Rattle.conv.specs.Rank.{pick, both, none, rankOf, Shape, formOf, columnsOf, rowsOf, sameShape, shapeOf, componentOf, isReference, made}
 use Rattle.conv.specs.Rank.Shape.{one, vector, matrix, other}
-use Rattle.overload.specs.Overload.{or, fits, Judged}
+use Rattle.overload.specs.Overload.{Overload, or, fits, Judged, judge}
+use Rattle.overload.specs.Marks.{anyAbstract, sifted}
 use Rattle.overload.specs.Overload.Judged.{gives, noneFits, nonePreferred}
-use Rattle.overload.specs.Rows.{Size, size, scalars, width, vectors, wides, matrices, matricesByRows, squares, products, Form, Component, Pattern, Wrap, Family, formAt, componentAt, patternTy, float, integer, numeric, signed, bits, concrete, only, N, Row, rows, rowAt, operandCount}
+use Rattle.overload.specs.Rows.{Size, size, scalars, width, vectors, wides, matrices, matricesByRows, squares, products, Form, Component, Pattern, Wrap, Family, formAt, componentAt, patternTy, float, integer, numeric, signed, bits, concrete, only, N, Row, rows, rowAt, overloadsOf, operandCount}
 use Rattle.overload.specs.Rows.Form.{sized, single, vecC, vecR, left, right, turned}
 use Rattle.overload.specs.Rows.Component.{ofT, ofI, expT, just}
 use Rattle.overload.specs.Rows.Wrap.{bare, inFrexp, inModf}
@@ -297,6 +298,19 @@ pub record Reached (of w : ℕ) : Type 0 where
 -- the T to which what is joined so far converts: every one where nothing is, which is the number 7
 abbrev pub allows : ℕ → ℕ → Bool
 allows j t = or (eqb j 7) (reaches j t)
+
+-- WHERE AN OPERAND IS RUNNING, and none is both running and abstract, the overloads that remain and fit are those without an abstract parameter (`proofs/Marks.antt`): so
+-- the engine is told whether one is running, and looks for the first concrete T
+
+abbrev pub kept : Bool → Overload → Bool
+kept running o = or (not running) (not (anyAbstract (o .params)))
+
+abbrev pub judgeKept : Bool → Row → List Ty → Judged
+judgeKept running r ts = judge (sifted (kept running) (overloadsOf r)) ts
+
+-- a T that is left
+abbrev pub leftT : Bool → ℕ → Bool
+leftT running t = or (not running) (not (isAbstract t))
 
 -- WHAT THE ANSWER MEANS
 

@@ -15,6 +15,9 @@ abbrev μ-loop : tie.MeasureT-loop
 loop-holds : tie.Need-loop-holds Inv-loop μ-loop
 loop-holds c = search needs
 
+cast-wrapping-add-usize : tie.Need-cast-wrapping-add-usize Inv-loop μ-loop
+cast-wrapping-add-usize c = search needs
+
 wrapping-add-usize-requires : tie.Need-wrapping-add-usize-requires Inv-loop μ-loop
 wrapping-add-usize-requires c κs = search needs
 
@@ -46,6 +49,7 @@ add-line-spec =
     Inv-loop
     μ-loop
     loop-holds
+    cast-wrapping-add-usize
     wrapping-add-usize-requires
     agrees-requires
     counted-requires

@@ -2,7 +2,7 @@
 use borrow.Author.Needs.{needs}
 use mathlib.Core.Path.{sym, _∙_, ap}
 use mathlib.Core.List.{map}
-use Rattle.overload.specs.inner.Code.{operand, outOf, judgedOf}
+use Rattle.overload.specs.inner.Code.{operand, kept, outOf, judgedOf}
 use Rattle.overload.proofs.Results.{gives-formed}
 use Rattle.ruled.proofs.Outcomes.{gave-as, gave-refused}
 use Rattle.ruled.specs.Call.{judgedOutcome}
@@ -22,7 +22,7 @@ enter-out-requires c κs =
     let a = s .args in
     let g = c .before .before .j .given in
     let e = sym (c .before .before .before .before .resolve .ensures) ∙ ap judgedOf (g .1) in
-    let f = gives-formed (a .row) (map operand (a .codes .now)) (outOf (g .0 .0)) e in
+    let f = gives-formed (a .row) (kept (a .running)) (map operand (a .codes .now)) (outOf (g .0 .0)) e in
     (s .pre, f .0, f .1)
 
 enum-told : tie.Need-enum-told

@@ -12,13 +12,13 @@ use Rattle.sheet.proofs.run_on.Statement.{statement}
 use Rattle.sheet.proofs.run_on.Tie as tie
 
 abbrev Inv-loop : tie.InvT-loop
-Inv-loop items rows profile table₀ given stack₀ memo₀ count₀ used₀ at₀ table stack memo count used at = Left profile (sheetOf items) table₀ given table stack count used at × Recalls memo table used
+Inv-loop version items rows profile table₀ given stack₀ memo₀ count₀ used₀ at₀ table stack memo count used at = Left profile (sheetOf version items) table₀ given table stack count used at × Recalls memo table used
 
 abbrev μ-loop : tie.MeasureT-loop
-μ-loop items rows profile table₀ given stack₀ memo₀ count₀ used₀ at₀ table stack memo count used at = length (sheetOf items) - at
+μ-loop version items rows profile table₀ given stack₀ memo₀ count₀ used₀ at₀ table stack memo count used at = length (sheetOf version items) - at
 
 loop-holds : tie.Need-loop-holds Inv-loop μ-loop
-loop-holds c = let a = c .before .before .before .before .before .args in (left-start (a .profile) (sheetOf (a .items .now)) (a .table .now) (a .used) (a .stack .now) (c .before .before .before .before .before .pre .0) (c .before .before .before .before .before .pre .1), c .before .before .before .before .before .pre .2)
+loop-holds c = let a = c .before .before .before .before .before .args in (left-start (a .profile) (sheetOf (a .version) (a .items .now)) (a .table .now) (a .used) (a .stack .now) (c .before .before .before .before .before .pre .0) (c .before .before .before .before .before .pre .1), c .before .before .before .before .before .pre .2)
 
 rush-requires : tie.Need-rush-requires Inv-loop μ-loop
 rush-requires c κs = (c .before .before .before .loop .inv .0 .ready, c .before .before .before .loop .inv .1)
@@ -34,8 +34,8 @@ loop-less c = let a = c .before .before .before .before .before .before .before 
     let l = c .before .before .before .before .before .before .before .before .before .before .before .before .before .before .before .before .before .before .before .loop in
     let r = c .before .before .before .before .before .before .before .before .before .before .before .before .before .before .before .rush in
     let e = c .before .c .given in
-    let L = left-rushed (a .profile) (sheetOf (a .items .now)) (a .table .now) (a .used) (l .table) (l .stack) (l .count) (l .used) (l .at) (l .inv .0) _ (r .result) (r .ensures) in
-    let f = left-less (a .profile) (sheetOf (a .items .now)) (a .table .now) (a .used) (l .table) _ (r .result .count) (l .used) (r .result .at .0) L _ _ (e .0 .0) (e .0 .1 .0) (e .0 .1 .1 .0) (rw (e .1) at (c .before .before .before .before .before .before .before .before .before .one-turn .ensures .0)) in
+    let L = left-rushed (a .profile) (sheetOf (a .version) (a .items .now)) (a .table .now) (a .used) (l .table) (l .stack) (l .count) (l .used) (l .at) (l .inv .0) _ (r .result) (r .ensures) in
+    let f = left-less (a .profile) (sheetOf (a .version) (a .items .now)) (a .table .now) (a .used) (l .table) _ (r .result .count) (l .used) (r .result .at .0) L _ _ (e .0 .0) (e .0 .1 .0) (e .0 .1 .1 .0) (rw (e .1) at (c .before .before .before .before .before .before .before .before .before .one-turn .ensures .0)) in
     omega (arith, f .0, f .1, r .ensures .onward)
 
 loop-again : tie.Need-loop-again Inv-loop μ-loop
@@ -44,28 +44,28 @@ loop-again c = let a = c .before .before .before .before .before .before .before
     let l = c .before .before .before .before .before .before .before .before .before .before .before .before .before .before .before .before .before .before .before .loop in
     let r = c .before .before .before .before .before .before .before .before .before .before .before .before .before .before .before .rush in
     let e = c .before .c .given in
-    let L = left-rushed (a .profile) (sheetOf (a .items .now)) (a .table .now) (a .used) (l .table) (l .stack) (l .count) (l .used) (l .at) (l .inv .0) _ (r .result) (r .ensures) in
-    (left-again (a .profile) (sheetOf (a .items .now)) (a .table .now) (a .used) (l .table) _ (r .result .count) (l .used) (r .result .at .0) L _ _ (e .0 .0) (e .0 .1 .0) (e .0 .1 .1 .0) (rw (e .1) at (c .before .before .before .before .before .before .before .before .before .one-turn .ensures .0)) (c .before .before .before .before .before .before .before .before .before .one-turn .kept .1 .1 .1 .1 .0) (c .before .before .before .before .before .before .before .before .before .one-turn .kept .1 .1 .1 .1 .1 .1 .0), rw (e .1) at (c .before .before .before .before .before .before .before .before .before .one-turn .ensures .1))
+    let L = left-rushed (a .profile) (sheetOf (a .version) (a .items .now)) (a .table .now) (a .used) (l .table) (l .stack) (l .count) (l .used) (l .at) (l .inv .0) _ (r .result) (r .ensures) in
+    (left-again (a .profile) (sheetOf (a .version) (a .items .now)) (a .table .now) (a .used) (l .table) _ (r .result .count) (l .used) (r .result .at .0) L _ _ (e .0 .0) (e .0 .1 .0) (e .0 .1 .1 .0) (rw (e .1) at (c .before .before .before .before .before .before .before .before .before .one-turn .ensures .0)) (c .before .before .before .before .before .before .before .before .before .one-turn .kept .1 .1 .1 .1 .1 .0) (c .before .before .before .before .before .before .before .before .before .one-turn .kept .1 .1 .1 .1 .1 .1 .1 .0), rw (e .1) at (c .before .before .before .before .before .before .before .before .before .one-turn .ensures .1))
 
 enum-known-a : tie.Need-enum-known-a Inv-loop μ-loop
 enum-known-a c = search needs
 
 same-length : tie.Need-same-length Inv-loop μ-loop
-same-length c = c .before .before .before .before .before .before .before .before .before .one-turn .kept .1 .1 .1 .1 .1 .1 .0 ∙ c .before .before .before .before .before .before .before .before .before .before .before .before .before .before .before .before .before .before .before .loop .inv .0 .long
+same-length c = c .before .before .before .before .before .before .before .before .before .one-turn .kept .1 .1 .1 .1 .1 .1 .1 .0 ∙ c .before .before .before .before .before .before .before .before .before .before .before .before .before .before .before .before .before .before .before .loop .inv .0 .long
 
 same-length-2 : tie.Need-same-length-2 Inv-loop μ-loop
-same-length-2 c = c .before .before .before .before .before .before .before .before .before .one-turn .kept .1 .1 .1 .1 .0 ∙ c .before .before .before .before .before .before .before .before .before .before .before .before .before .before .before .rush .ensures .ready .size ∙ sym (c .before .before .before .before .before .before .before .before .before .before .before .before .before .before .before .before .before .before .before .before .before .before .before .before .before .pre .1)
+same-length-2 c = c .before .before .before .before .before .before .before .before .before .one-turn .kept .1 .1 .1 .1 .1 .0 ∙ c .before .before .before .before .before .before .before .before .before .before .before .before .before .before .before .rush .ensures .ready .size ∙ sym (c .before .before .before .before .before .before .before .before .before .before .before .before .before .before .before .before .before .before .before .before .before .before .before .before .before .pre .1)
 
 same-length-3 : tie.Need-same-length-3 Inv-loop μ-loop
-same-length-3 c = c .before .before .before .before .before .before .before .before .before .one-turn .kept .1 .1 .1 .1 .1 .1 .1 .1 .0 ∙ c .before .before .before .before .before .before .before .before .before .before .before .before .before .before .before .before .before .before .before .loop .inv .1 .size ∙ sym (c .before .before .before .before .before .before .before .before .before .before .before .before .before .before .before .before .before .before .before .before .before .before .before .before .before .pre .2 .size)
+same-length-3 c = c .before .before .before .before .before .before .before .before .before .one-turn .kept .1 .1 .1 .1 .1 .1 .1 .1 .1 .0 ∙ c .before .before .before .before .before .before .before .before .before .before .before .before .before .before .before .before .before .before .before .loop .inv .1 .size ∙ sym (c .before .before .before .before .before .before .before .before .before .before .before .before .before .before .before .before .before .before .before .before .before .before .before .before .before .pre .2 .size)
 
 returns : tie.Need-returns Inv-loop μ-loop
 returns c = let a = c .before .before .before .before .before .before .before .before .before .before .before .before .before .before .before .before .before .before .before .before .before .before .before .before .before .args in
     let l = c .before .before .before .before .before .before .before .before .before .before .before .before .before .before .before .before .before .before .before .loop in
     let r = c .before .before .before .before .before .before .before .before .before .before .before .before .before .before .before .rush in
     let e = c .before .a .given in
-    let L = left-rushed (a .profile) (sheetOf (a .items .now)) (a .table .now) (a .used) (l .table) (l .stack) (l .count) (l .used) (l .at) (l .inv .0) _ (r .result) (r .ensures) in
-    left-done (a .profile) (sheetOf (a .items .now)) (a .table .now) (a .used) (l .table) _ (r .result .count) (l .used) (r .result .at .0) L _ _ (e .0 .0) (rw (e .1) at (c .before .before .before .before .before .before .before .before .before .one-turn .ensures .0))
+    let L = left-rushed (a .profile) (sheetOf (a .version) (a .items .now)) (a .table .now) (a .used) (l .table) (l .stack) (l .count) (l .used) (l .at) (l .inv .0) _ (r .result) (r .ensures) in
+    left-done (a .profile) (sheetOf (a .version) (a .items .now)) (a .table .now) (a .used) (l .table) _ (r .result .count) (l .used) (r .result .at .0) L _ _ (e .0 .0) (rw (e .1) at (c .before .before .before .before .before .before .before .before .before .one-turn .ensures .0))
 
 pub run-on-spec : {M : Type 1} → statement M
 run-on-spec =

@@ -1,6 +1,7 @@
 -- What the code of a turn goes by. Assumes nothing.
 use Prim.Native.Nat.{ℕ, _≤_}
 use mathlib.Core.Path.{_≡_}
+use mathlib.Core.Bool.{Bool}
 use mathlib.Core.List.{List}
 use lib.ListN.{length}
 use Rattle.step.specs.declared.Did.{Did}
@@ -11,12 +12,18 @@ use Rattle.frame.specs.Frame.{itemsFrom}
 use Rattle.sheet.specs.declared.Turn.{Turn}
 use Rattle.sheet.specs.declared.Turn.the-variants as turn
 use Rattle.sheet.specs.declared.Rushed.{Rushed}
-use Rattle.sheet.specs.Machine.{after, Turned, more, done, runItems}
+use Rattle.answer.specs.Answer.{markedBy}
+use Rattle.sheet.specs.Machine.{after, Turned, more, done, runItems, endMark, runsItems}
 
 -- a turn, by the code's answer
 unfoldable pub turnBy : Turn → List ℕ → List ℕ → Turned
 turnBy (turn.More count used next) vals words = more (stateOf count vals used words)
-turnBy (turn.Done a) vals words = done (record { answer = a; words = words })
+turnBy (turn.Done a) vals words = done (record { answer = a .answer; words = words })
+
+-- the sheet's answer has the mark m, where it has a value
+unfoldable pub DoneMarked : Bool → Turn → Type 0
+DoneMarked m (turn.More count used next) = Unit {0}
+DoneMarked m (turn.Done a) = a ≡ markedBy m (a .answer)
 
 -- the counted values lie within the slice, and the turn goes on at the next place
 unfoldable pub TurnCounted : ℕ → Turn → Type 0
@@ -27,10 +34,12 @@ TurnCounted n (turn.Done a) = Unit {0}
 pub record TurnsBy (size place next : ℕ) (d : Did) (vals : List ℕ) (r : Turn) : Type 0 where
   pub turned : (s words : List ℕ) → length s ≡ size → turnBy r vals words ≡ after s place next (effectBy d vals words)
   pub counted : TurnCounted next r
+  pub marked : (words : List ℕ) → DoneMarked (endMark (effectBy d vals words)) r
 
-pub record Turns (t : Turned) (next : ℕ) (r : Turn) (vals words : List ℕ) : Type 0 where
+pub record Turns (t : Turned) (m : Bool) (next : ℕ) (r : Turn) (vals words : List ℕ) : Type 0 where
   pub turned : turnBy r vals words ≡ t
   pub counted : TurnCounted next r
+  pub marked : DoneMarked m r
 
 -- the memo after a turn that goes on
 unfoldable pub AfterTurn : Turn → List ℕ → List ℕ → Type 0
@@ -41,4 +50,5 @@ AfterTurn (turn.Done a) memo w = Unit {0}
 pub record Rushes (s : List ℕ) (from count : ℕ) (vals : List ℕ) (used : ℕ) (w : List ℕ) (r : Rushed) (after : List ℕ) : Type 0 where
   pub ready : Ready (r .count) after used w
   pub rest : (profile : ℕ) → runItems profile s (itemsFrom s (r .at .0)) (stateOf (r .count) after used w) ≡ runItems profile s (itemsFrom s from) (stateOf count vals used w)
+  pub mark : (profile : ℕ) → runsItems profile s (itemsFrom s (r .at .0)) (stateOf (r .count) after used w) ≡ runsItems profile s (itemsFrom s from) (stateOf count vals used w)
   pub onward : from ≤ r .at .0

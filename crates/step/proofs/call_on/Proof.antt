@@ -43,15 +43,17 @@ same-length-2 : tie.Need-same-length-2
 same-length-2 c = search needs
 
 returns : tie.Need-returns
-returns c = let a = c .before .before .before .before .before .before .before .before .before .before .before .before .before .before .args in
+returns c =
+    let a = c .before .before .before .before .before .before .before .before .before .before .before .before .before .before .args in
     let p = c .before .before .before .before .before .before .before .before .before .before .before .before .before .before .pre in
-    call-full (a .at) (a .count) (a .stack .now) (a .used) (a .table .now) (p .0) (a .k) (p .2) (a .profile) (a .name .now) (a .tplt .now) (p .1) (c .before .before .before .before .before .call-at .ensures)
+    call-full (a .at) (a .count) (a .stack .now) (a .used) (a .table .now) (p .0) (a .k) (p .2) (a .keeps) (a .profile) (a .name .now) (a .tplt .now) (p .1) (c .before .before .before .before .before .call-at .ensures)
     (ap (λ (b : Bool). leb 64 (a .count - a .k) && b) (sym (c .before .before .is-valued .ensures)) ∙ c .before .if1 .taken) (c .stopped .ensures)
 
 settle-requires : tie.Need-settle-requires
-settle-requires c κs = let a = c .before .before .before .before .before .before .before .before .before .before .before .before .before .before .args in
-    let p = c .before .before .before .before .before .before .before .before .before .before .before .before .before .before .pre in
-    (p .0 .size, omega (arith, p .0 .fits), call-pushes (a .at) (a .count) (a .stack .now) (a .used) (a .table .now) (p .0) (a .k) (p .2) (a .profile) (a .name .now) (a .tplt .now) (p .1) (c .before .before .before .before .before .call-at .ensures) (ap (λ (b : Bool). leb 64 (a .count - a .k) && b) (sym (c .before .before .is-valued .ensures)) ∙ c .before .if1 .left))
+settle-requires c κs =
+    let a = c .before .before .before .before .before .before .before .before .before .before .before .before .before .before .before .args in
+    let p = c .before .before .before .before .before .before .before .before .before .before .before .before .before .before .before .pre in
+    (p .0 .size, omega (arith, p .0 .fits), call-pushes (a .at) (a .count) (a .stack .now) (a .used) (a .table .now) (p .0) (a .k) (p .2) (a .keeps) (a .profile) (a .name .now) (a .tplt .now) (p .1) (c .before .before .before .before .before .before .call-at .ensures) (ap (λ (b : Bool). leb 64 (a .count - a .k) && b) (sym (c .before .before .before .is-valued .ensures)) ∙ c .before .before .if1 .left))
 
 same-length-3 : tie.Need-same-length-3
 same-length-3 c = search needs
@@ -60,27 +62,11 @@ same-length-4 : tie.Need-same-length-4
 same-length-4 c = search needs
 
 returns-2 : tie.Need-returns-2
-returns-2 c = let a = c .before .before .before .before .before .before .before .before .before .before .before .before .before .before .before .before .before .args in
-    let p = c .before .before .before .before .before .before .before .before .before .before .before .before .before .before .before .before .before .pre in
-    call-does (a .at) (a .count) (a .stack .now) (a .used) (a .table .now) (p .0) (a .k) (p .2) (a .profile) (a .name .now) (a .tplt .now) (p .1) (c .before .before .before .before .before .before .before .before .call-at .ensures)
-    (ap (λ (b : Bool). leb 64 (a .count - a .k) && b) (sym (c .before .before .before .before .before .is-valued .ensures)) ∙ c .before .before .before .before .if1 .left) (c .before .before .settle .ensures)
+returns-2 c =
+    let a = c .before .before .before .before .before .before .before .before .before .before .before .before .before .before .before .before .before .before .args in
+    let p = c .before .before .before .before .before .before .before .before .before .before .before .before .before .before .before .before .before .before .pre in
+    call-does (a .at) (a .count) (a .stack .now) (a .used) (a .table .now) (p .0) (a .k) (p .2) (a .keeps) (a .profile) (a .name .now) (a .tplt .now) (p .1) (c .before .before .before .before .before .before .before .before .before .call-at .ensures)
+    (ap (λ (b : Bool). leb 64 (a .count - a .k) && b) (sym (c .before .before .before .before .before .before .is-valued .ensures)) ∙ c .before .before .before .before .before .if1 .left) (c .before .before .settle .ensures)
 
 pub call-on-spec : {M : Type 1} → statement M
-call-on-spec =
-    tie.close
-    (tie.spec
-    sub-base
-    mul-call-at
-    sub-call-at
-    part-call-at-start
-    part-call-at-end
-    call-at-requires
-    is-valued-requires
-    stopped-requires
-    same-length
-    same-length-2
-    returns
-    settle-requires
-    same-length-3
-    same-length-4
-    returns-2)
+call-on-spec = tie.close (tie.spec sub-base mul-call-at sub-call-at part-call-at-start part-call-at-end call-at-requires is-valued-requires stopped-requires same-length same-length-2 returns settle-requires same-length-3 same-length-4 returns-2)

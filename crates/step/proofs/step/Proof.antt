@@ -3,6 +3,7 @@ use Rattle.step.specs.Effect.{effectOf}
 use Rattle.step.specs.inner.Code.{operatorEffect, effectBy, Counted}
 use Rattle.answer.specs.declared.Reason.the-variants.{Framing}
 use Rattle.step.proofs.Effects.{refusing}
+use Rattle.frame.specs.inner.Items.{sheetOf}
 use mathlib.Core.Path.{refl}
 use borrow.Author.Needs.{needs}
 use Rattle.step.proofs.step.Statement.{statement}
@@ -17,11 +18,17 @@ push-requires c κs = search needs
 enum-known-item-2 : tie.Need-enum-known-item-2
 enum-known-item-2 c = search needs
 
+keeps-marks-requires : tie.Need-keeps-marks-requires
+keeps-marks-requires c κs = search needs
+
 operator-requires : tie.Need-operator-requires
 operator-requires c κs = search needs
 
 enum-known-item-3 : tie.Need-enum-known-item-3
 enum-known-item-3 c = search needs
+
+keeps-marks-requires-2 : tie.Need-keeps-marks-requires-2
+keeps-marks-requires-2 c κs = search needs
 
 operator-requires-2 : tie.Need-operator-requires-2
 operator-requires-2 c κs = search needs
@@ -73,8 +80,8 @@ same-length-4 : tie.Need-same-length-4
 same-length-4 c = search needs
 
 returns-2 : tie.Need-returns-2
-unfolding effectOf operatorEffect
-returns-2 c = rw (c .before .before .before .before .before .before .before .before .item2 .given .1) (c .before .before .before .before .operator .ensures)
+unfolding effectOf operatorEffect sheetOf
+returns-2 c = rw (c .before .before .before .before .before .before .before .before .before .item2 .given .1) (rw (c .before .before .before .before .before .before .before .keeps-marks .ensures) at (c .before .before .before .before .operator .ensures))
 
 same-length-5 : tie.Need-same-length-5
 same-length-5 c = search needs
@@ -83,8 +90,8 @@ same-length-6 : tie.Need-same-length-6
 same-length-6 c = search needs
 
 returns-3 : tie.Need-returns-3
-unfolding effectOf operatorEffect
-returns-3 c = rw (c .before .before .before .before .before .before .before .before .item3 .given .1) (c .before .before .before .before .operator2 .ensures)
+unfolding effectOf operatorEffect sheetOf
+returns-3 c = rw (c .before .before .before .before .before .before .before .before .before .item3 .given .1) (rw (c .before .before .before .before .before .before .before .keeps-marks2 .ensures) at (c .before .before .before .before .operator2 .ensures))
 
 same-length-7 : tie.Need-same-length-7
 same-length-7 c = search needs
@@ -93,7 +100,7 @@ same-length-8 : tie.Need-same-length-8
 same-length-8 c = search needs
 
 returns-4 : tie.Need-returns-4
-unfolding effectOf
+unfolding effectOf sheetOf
 returns-4 c = rw (c .before .before .before .before .before .before .before .before .item4 .given .1) (c .before .before .before .before .call .ensures)
 
 same-length-9 : tie.Need-same-length-9
@@ -103,7 +110,7 @@ same-length-10 : tie.Need-same-length-10
 same-length-10 c = search needs
 
 returns-5 : tie.Need-returns-5
-unfolding effectOf
+unfolding effectOf sheetOf
 returns-5 c = rw (c .before .before .before .before .before .before .before .before .item5 .given .1) (c .before .before .before .before .call-template .ensures)
 
 same-length-11 : tie.Need-same-length-11
@@ -131,8 +138,10 @@ step-spec =
     enum-known-item
     push-requires
     enum-known-item-2
+    keeps-marks-requires
     operator-requires
     enum-known-item-3
+    keeps-marks-requires-2
     operator-requires-2
     enum-known-item-4
     call-requires

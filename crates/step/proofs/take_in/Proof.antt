@@ -19,7 +19,7 @@ same-length c = search needs
 
 returns : tie.Need-returns
 returns c = let a = c .before .before .before .before .before .before .args in
-    refusing (a .at) (a .count) (a .stack .now) (a .used) (a .table .now) Template (c .stopped .ensures) (take-wrong (a .at) (a .count) (a .stack .now) (a .used) (a .table .now) (c .before .before .before .before .before .before .pre) (a .e) (sym (c .before .before .allowed .ensures) ∙ not-true _ (c .before .if1 .taken)))
+    refusing (a .at) (a .count) (a .stack .now) (a .used) (a .table .now) Template (c .stopped .ensures) (take-wrong (a .at) (a .count) (a .stack .now) (a .used) (a .table .now) (c .before .before .before .before .before .before .pre) (a .e) (a .running) (sym (c .before .before .allowed .ensures) ∙ not-true _ (c .before .if1 .taken)))
 
 stopped-requires-2 : tie.Need-stopped-requires-2
 stopped-requires-2 c κs = search needs
@@ -29,7 +29,7 @@ same-length-2 c = search needs
 
 returns-2 : tie.Need-returns-2
 returns-2 c = let a = c .before .before .before .before .before .before .before .args in
-    refusing (a .at) (a .count) (a .stack .now) (a .used) (a .table .now) Stack (c .stopped2 .ensures) (take-full (a .at) (a .count) (a .stack .now) (a .used) (a .table .now) (c .before .before .before .before .before .before .before .pre) (a .e) (sym (c .before .before .before .allowed .ensures) ∙ not-false _ (c .before .before .if1 .left)) (c .before .if2 .taken))
+    refusing (a .at) (a .count) (a .stack .now) (a .used) (a .table .now) Stack (c .stopped2 .ensures) (take-full (a .at) (a .count) (a .stack .now) (a .used) (a .table .now) (c .before .before .before .before .before .before .before .pre) (a .e) (a .running) (sym (c .before .before .before .allowed .ensures) ∙ not-false _ (c .before .before .if1 .left)) (c .before .if2 .taken))
 
 enter-requires : tie.Need-enter-requires
 enter-requires c κs = search needs
@@ -49,7 +49,7 @@ same-length-4 c = search needs
 
 returns-3 : tie.Need-returns-3
 returns-3 c = let a = c .before .before .before .before .before .before .before .before .before .before .before .before .before .before .before .args in
-    take-does (a .at) (a .count) (a .stack .now) (a .used) (a .table .now) (c .before .before .before .before .before .before .before .before .before .before .before .before .before .before .before .pre) (a .e) (sym (c .before .before .before .before .before .before .before .before .before .before .before .allowed .ensures) ∙ not-false _ (c .before .before .before .before .before .before .before .before .before .before .if1 .left)) (c .before .before .before .before .before .before .before .before .before .if2 .left) (c .before .before .before .before .before .before .before .enter .result) _ (c .before .before .before .before .before .before .before .enter .ensures) (c .before .before .before .answer-of .ensures) (c .before .before .settle .ensures)
+    take-does (a .at) (a .count) (a .stack .now) (a .used) (a .table .now) (c .before .before .before .before .before .before .before .before .before .before .before .before .before .before .before .pre) (a .e) (sym (c .before .before .before .before .before .before .before .before .before .before .before .allowed .ensures) ∙ not-false _ (c .before .before .before .before .before .before .before .before .before .before .if1 .left)) (c .before .before .before .before .before .before .before .before .before .if2 .left) (c .before .before .before .before .before .before .before .enter .result) _ (c .before .before .before .before .before .before .before .enter .ensures) (c .before .before .before .answer-of .ensures) (a .running) (c .before .before .settle .ensures)
 
 pub take-in-spec : {M : Type 1} → statement M
 take-in-spec =

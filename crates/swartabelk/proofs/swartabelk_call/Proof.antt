@@ -1,6 +1,7 @@
 -- `swartabelk::swartabelk_call` meets its contract: the answer of `type_builtin_fn` fits and is told in numbers. Assumes nothing.
 use Rattle.call_ty.specs.Calls.{typeBuiltinFn}
 use Rattle.swartabelk.proofs.Fitting.{call-fits, replied}
+use mathlib.Core.Path.{refl}
 use native.Mathlib.Omega.{arith}
 use borrow.Author.Needs.{needs}
 use Rattle.swartabelk.proofs.swartabelk_call.Statement.{statement}
@@ -20,7 +21,7 @@ same-length c = search needs
 
 returns : tie.Need-returns
 returns c = let a = c .before .before .before .before .before .before .before .before .before .before .args in
-    replied (λ i. typeBuiltinFn (a .profile) (a .words .now) (c .before .before .before .before .before .word .ensures i) (a .name .now) (a .tplt .now) (a .args .now)) (c .before .before .before .type-builtin-fn .ensures) (c .reply-of .ensures)
+    replied (λ i. typeBuiltinFn (a .profile) (a .words .now) (c .before .before .before .before .before .word .ensures i) (a .name .now) (a .tplt .now) (a .args .now)) refl (c .before .before .before .type-builtin-fn .ensures) (c .reply-of .ensures)
 
 pub swartabelk-call-spec : {M : Type 1} → statement M
 swartabelk-call-spec =

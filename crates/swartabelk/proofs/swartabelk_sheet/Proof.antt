@@ -1,5 +1,5 @@
 -- `swartabelk::swartabelk_sheet` meets its contract: the answer of `type_sheet` fits and is told in numbers. Assumes nothing.
-use Rattle.sheet.specs.Machine.{typeSheet}
+use Rattle.sheet.specs.Machine.{typeSheet, sheetRuns}
 use Rattle.swartabelk.proofs.Sheets.{sheet-fits}
 use Rattle.swartabelk.proofs.Fitting.{replied}
 use native.Mathlib.Omega.{arith}
@@ -20,7 +20,9 @@ same-length : tie.Need-same-length
 same-length c = search needs
 
 returns : tie.Need-returns
-returns c = let a = c .before .before .before .before .before .before .before .before .args in replied (λ i. typeSheet (a .profile) (a .words .now) (c .before .before .before .before .before .word .ensures i) (a .sheet .now)) (c .before .before .before .type-sheet .ensures) (c .reply-of .ensures)
+returns c = let a = c .before .before .before .before .before .before .before .before .args in
+    replied (λ i. typeSheet (a .profile) (a .words .now) (c .before .before .before .before .before .word .ensures i) (a .sheet .now))
+    (λ i. sheetRuns (a .profile) (a .words .now) (c .before .before .before .before .before .word .ensures i) (a .sheet .now)) (c .before .before .before .type-sheet .ensures) (c .reply-of .ensures)
 
 pub swartabelk-sheet-spec : {M : Type 1} → statement M
 swartabelk-sheet-spec =

@@ -11,7 +11,7 @@ narrow-requires-2 : tie.Need-narrow-requires-2
 narrow-requires-2 c κs = search needs
 
 returns : tie.Need-returns
-returns c = let a = c .before .before .args in λ i. tell (a .refusal) (a .ty) (c .before .narrow .ensures i) (c .narrow2 .ensures i) (a .lacking)
+returns c = let a = c .before .before .args in λ i. tell (a .refusal) (a .ty) (a .mark) (c .before .narrow .ensures i) (c .narrow2 .ensures i) (a .lacking)
 
 pub told-spec : {M : Type 1} → statement M
 told-spec = tie.close (tie.spec narrow-requires narrow-requires-2 returns)
