@@ -1,12 +1,10 @@
 -- The laws of comparing names byte for byte: the test passes exactly at equal bytes. By induction on the two names. Assumes nothing.
-use Prim.Native.Nat.{ℕ, _<_}
+use Prim.Native.Nat.{ℕ}
 use mathlib.Core.Path.{_≡_, refl, sym, _∙_}
 use native.Mathlib.Omega.{arith}
 use mathlib.Core.Bool.{Bool, true, false}
 use mathlib.Core.List.{List, [], _∷_}
 use lib.Dec.{eqb}
-use lib.ListN.{length, getD}
-use lib.Seq.{ext-getD}
 use borrow.Author.Tests.{eqb-true, eq-eqb}
 use Rattle.conv.specs.Rank.{both}
 use Rattle.names.specs.Names.{sameBytes}
@@ -38,10 +36,6 @@ differ s t n = go (sameBytes s t) refl
     go : (b : Bool) → sameBytes s t ≡ b → sameBytes s t ≡ false
     go true e = absurd (n (same-bytes s t e))
     go false e = e
-
--- names as long as each other, with equal bytes at every place
-pub alike : (s t : List ℕ) → length s ≡ length t → ((k : ℕ) → k < length s → getD s k 0 ≡ getD t k 0) → sameBytes s t ≡ true
-alike s t l e = rw (ext-getD 0 s t l e) (same-self t)
 
 pub not-same : (s t : List ℕ) → sameBytes s t ≡ false → s ≡ t → ⊥
 not-same s t e p =

@@ -1,85 +1,20 @@
--- A name is found at the row that has it: a test of the letters, filled up with blanks, is one of the bytes, since no name has a blank or is longer than a line; and a name
--- that no row has, has no rule. What holds of every row is computed. Assumes nothing.
+-- A name that stands at a row has the rule of that row, where the profile has it; and a name that no row has, has no rule. Assumes nothing.
 use Prim.Native.Nat.{ℕ, zero, suc, _≤_, _<_, zero-le, suc-le-suc}
 use native.Mathlib.Nat.{not-suc-le-zero, le-of-suc-le-suc}
 use native.Mathlib.Omega.{arith}
 use mathlib.Core.Path.{_≡_, refl, sym, _∙_, ap}
-use mathlib.Core.Bool.{Bool, true, false, _&&_, _||_, cond}
+use mathlib.Core.Bool.{Bool, true, false, _&&_, cond}
 use mathlib.Core.List.{List, [], _∷_}
-use lib.Dec.{T, eqb, ltb, leb, leb→le}
+use lib.Dec.{ltb}
 use lib.ListN.{length, getD}
-use borrow.Author.Tests.{eqb-false, eq-eqb, ne-eqb, lt-ltb, le-ltb, lt-leb, le-leb}
-use Rattle.conv.specs.Rank.{both}
-use Rattle.conv.proofs.Finite.{below, both-left, both-right, same, same-eq}
-use Rattle.text.specs.Text.{ascii}
-use Rattle.names.specs.Names.{Rule, Name, names, noName, nameAt, count, sameBytes, profiles, within, Named, ruleFor, ruleIn, ruleOf}
+use borrow.Author.Tests.{lt-ltb, le-ltb, lt-leb, le-leb}
+use Rattle.names.specs.Names.{Name, names, noName, nameAt, count, sameBytes, profiles, within, ruleFor, ruleIn, ruleOf}
 use Rattle.names.specs.Names.Named.{rule, unknown}
-use Rattle.names.specs.inner.Table.{nameWidth, blank, hasBlank}
-use Rattle.names.proofs.Bytes.{differ, same-self, not-same}
+use Rattle.names.specs.inner.Table.{nameWidth, endsBlank}
+use Rattle.names.proofs.Bytes.{differ, same-self}
 use Rattle.names.proofs.Order.{once}
 use Rattle.names.proofs.Lines.{at}
-
--- BLANKS
-
-or-right : (a b : Bool) → (a || b) ≡ false → b ≡ false
-or-right true b e = absurd (let z : _≡_ {A = ℕ} 0 1 = cc in omega arith)
-or-right false b e = e
-
-or-left : (a b : Bool) → (a || b) ≡ false → a ≡ false
-or-left true b e = e
-or-left false b e = refl
-
-pub some-blank : (s : List ℕ) (i : ℕ) → i < length s → getD s i 0 ≡ blank → hasBlank s ≡ true
-unfolding hasBlank
-some-blank [] i l e = absurd (not-suc-le-zero l)
-some-blank (c ∷ cs) zero l e = rw (eq-eqb c blank e)
-some-blank (c ∷ cs) (suc i) l e = rw (some-blank cs i (le-of-suc-le-suc l) e) (go (eqb c blank))
-  where
-    go : (b : Bool) → (b || true) ≡ true
-    go true = refl
-    go false = refl
-
-pub none-blank : (s : List ℕ) → ((i : ℕ) → i < length s → getD s i 0 ≡ blank → ⊥) → hasBlank s ≡ false
-unfolding hasBlank
-none-blank [] h = refl
-none-blank (c ∷ cs) h = rw (ne-eqb c blank (h zero (suc-le-suc zero-le)), none-blank cs (λ i l. h (suc i) (suc-le-suc l)))
-
--- TWO NAMES WITHOUT BLANKS, no longer than a width, with the same letters when they are filled up to it
-pub filled-same : (w : ℕ) (s t : List ℕ) → length s ≤ w → length t ≤ w → hasBlank s ≡ false → hasBlank t ≡ false
-    → ((i : ℕ) → i < w → getD s i blank ≡ getD t i blank) → s ≡ t
-unfolding hasBlank
-filled-same w [] [] hs ht bs bt e = refl
-filled-same zero (x ∷ xs) t hs ht bs bt e = absurd (not-suc-le-zero hs)
-filled-same zero [] (y ∷ ys) hs ht bs bt e = absurd (not-suc-le-zero ht)
-filled-same (suc w) [] (y ∷ ys) hs ht bs bt e = absurd (eqb-false y blank (or-left (eqb y blank) _ bt) (sym (e zero (suc-le-suc zero-le))))
-filled-same (suc w) (x ∷ xs) [] hs ht bs bt e = absurd (eqb-false x blank (or-left (eqb x blank) _ bs) (e zero (suc-le-suc zero-le)))
-filled-same (suc w) (x ∷ xs) (y ∷ ys) hs ht bs bt e =
-    let p : x ≡ y = e zero (suc-le-suc zero-le) in
-    let q = filled-same w xs ys (le-of-suc-le-suc hs) (le-of-suc-le-suc ht) (or-right (eqb x blank) _ bs) (or-right (eqb y blank) _ bt) (λ i l. e (suc i) (suc-le-suc l)) in
-    λ i. p i ∷ q i
-
--- no listed name is longer than a line is wide, and none has a blank; a bound of their count
-
-pub few : count ≤ 1000
-unfolding names
-few = leb→le _ _ tt
-
-pub short : (k : ℕ) → k < count → length (nameAt k) ≤ nameWidth
-unfolding ascii names nameAt both
-short k h = leb→le _ _ (below count (λ k. leb (length (nameAt k)) nameWidth) tt k h)
-
-pub unbroken : (k : ℕ) → k < count → hasBlank (nameAt k) ≡ false
-unfolding ascii names nameAt both hasBlank same
-unbroken k h = same-eq _ _ (below count (λ k. same (hasBlank (nameAt k)) false) tt k h)
-
--- A ROW HAS A NAME where all their letters are the same
-
-pub row-named : (k : ℕ) → k < count → (s : List ℕ) → length s ≤ nameWidth → hasBlank s ≡ false → ((i : ℕ) → i < nameWidth → getD (nameAt k) i blank ≡ getD s i blank)
-    → sameBytes (nameAt k) s ≡ true
-row-named k h s l b e = rw (filled-same nameWidth (nameAt k) s (short k h) l (unbroken k h) b e) (same-self s)
-
-pub row-other : (k : ℕ) (s : List ℕ) (i : ℕ) → (getD (nameAt k) i blank ≡ getD s i blank → ⊥) → sameBytes (nameAt k) s ≡ false
-row-other k s i n = differ (nameAt k) s (λ e. n (ap (λ (t : List ℕ). getD t i blank) e))
+use Rattle.names.proofs.Letters.{short, no-blank-end}
 
 -- THE RULE OF A NAME, by the row that has it: no name stands twice
 
@@ -104,13 +39,13 @@ pub missing : (profile : ℕ) (s : List ℕ) → ((k : ℕ) → k < count → na
 unfolding nameAt
 missing profile s n = absent profile names s (λ k h. differ (nameAt k) s (n k h))
 
--- a name longer than a line, or with a blank, has none
+-- a name longer than a line, or that ends with a blank, has none
 
 pub too-long : (profile : ℕ) (s : List ℕ) → nameWidth < length s → ruleOf profile s ≡ unknown
 too-long profile s h = missing profile s (λ k l e. let m = short k l in let n : length (nameAt k) ≡ length s = ap length e in omega arith)
 
-pub with-blank : (profile : ℕ) (s : List ℕ) → hasBlank s ≡ true → ruleOf profile s ≡ unknown
-with-blank profile s h = missing profile s (λ k l e. let z = sym (unbroken k l) ∙ ap hasBlank e ∙ h in let y : _≡_ {A = ℕ} 0 1 = cc in omega arith)
+pub blank-end : (profile : ℕ) (s : List ℕ) → endsBlank s ≡ true → ruleOf profile s ≡ unknown
+blank-end profile s h = missing profile s (λ k l e. let z = sym (no-blank-end k l) ∙ ap endsBlank e ∙ h in let y : _≡_ {A = ℕ} 0 1 = cc in omega arith)
 
 -- THE PROFILE: a name that it has, and one that it has not; an unknown profile has none
 

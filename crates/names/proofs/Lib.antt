@@ -1,6 +1,8 @@
 pub mod Bytes
 pub mod Order
 pub mod Lines
+pub mod Letters
+pub mod Halving
 pub mod Found
 pub mod Rules
 pub mod Document

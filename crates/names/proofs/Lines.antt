@@ -1,8 +1,8 @@
 -- The table line by line: how long it is, and what stands at a place of a line. By induction on the names. Assumes nothing.
-use Prim.Native.Nat.{ℕ, zero, suc, _+_, _*_, _/_, _≤_, _<_}
+use Prim.Native.Nat.{ℕ, zero, suc, _+_, _*_, _<_}
 use native.Mathlib.Nat.{not-suc-le-zero, le-of-suc-le-suc}
 use native.Mathlib.Omega.{arith}
-use mathlib.Core.Path.{_≡_, refl, sym, _∙_, ap}
+use mathlib.Core.Path.{_≡_, refl, _∙_, ap}
 use mathlib.Core.Bool.{Bool, true, false}
 use mathlib.Core.List.{List, [], _∷_, _++_}
 use lib.Dec.{eqb}
@@ -17,13 +17,13 @@ getD-in [] i d e l = absurd (not-suc-le-zero l)
 getD-in (x ∷ xs) zero d e l = refl
 getD-in (x ∷ xs) (suc i) d e l = getD-in xs i d e (le-of-suc-le-suc l)
 
-filled-length : (w : ℕ) (s : List ℕ) → length (filled w s) ≡ w
+pub filled-length : (w : ℕ) (s : List ℕ) → length (filled w s) ≡ w
 unfolding filled
 filled-length zero s = refl
 filled-length (suc w) [] = ap suc (filled-length w [])
 filled-length (suc w) (x ∷ xs) = ap suc (filled-length w xs)
 
-filled-at : (w : ℕ) (s : List ℕ) (i : ℕ) → i < w → getD (filled w s) i 0 ≡ getD s i blank
+pub filled-at : (w : ℕ) (s : List ℕ) (i : ℕ) → i < w → getD (filled w s) i 0 ≡ getD s i blank
 unfolding filled
 filled-at zero s i l = absurd (not-suc-le-zero l)
 filled-at (suc w) [] zero l = refl
@@ -69,9 +69,6 @@ module _ (rows : List ℕ) (lent : rows ≡ nameTable) where
   pub rows-length : length rows ≡ count * lineWidth
   unfolding nameTable
   rows-length = ap length lent ∙ lines-length names
-
-  pub rows-count : length rows / lineWidth ≡ count
-  rows-count = let e = rows-length in omega arith
 
   module _ (k : ℕ) (h : k < count) where
     -- a letter of its name

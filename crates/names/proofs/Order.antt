@@ -22,17 +22,17 @@ sorted k h = below (count - 1) (λ k. before (nameAt k) (nameAt (k + 1))) tt k (
 
 -- THE ORDER of names, by the first byte of each
 
-before-less : (x y : ℕ) (xs ys : List ℕ) → x < y → T (before (x ∷ xs) (y ∷ ys))
+pub before-less : (x y : ℕ) (xs ys : List ℕ) → x < y → T (before (x ∷ xs) (y ∷ ys))
 unfolding before
 before-less x y xs ys h =
     let n : x ≡ y → ⊥ = λ e. omega arith in
     rw (ne-eqb x y n, lt-ltb x y h) tt
 
-before-rest : (x y : ℕ) (xs ys : List ℕ) → x ≡ y → T (before xs ys) → T (before (x ∷ xs) (y ∷ ys))
+pub before-rest : (x y : ℕ) (xs ys : List ℕ) → x ≡ y → T (before xs ys) → T (before (x ∷ xs) (y ∷ ys))
 unfolding before
 before-rest x y xs ys e h = rw (eq-eqb x y e) h
 
-before-parts : (x y : ℕ) (xs ys : List ℕ) → T (before (x ∷ xs) (y ∷ ys)) → (x < y) ⊎ ((x ≡ y) × T (before xs ys))
+pub before-parts : (x y : ℕ) (xs ys : List ℕ) → T (before (x ∷ xs) (y ∷ ys)) → (x < y) ⊎ ((x ≡ y) × T (before xs ys))
 unfolding before
 before-parts x y xs ys h = go (eqb x y) refl h
   where
@@ -42,12 +42,12 @@ before-parts x y xs ys h = go (eqb x y) refl h
 
 -- no name stands before itself, and the order carries on
 
-before-self : (s : List ℕ) → T (before s s) → ⊥
+pub before-self : (s : List ℕ) → T (before s s) → ⊥
 unfolding before
 before-self [] t = t
 before-self (x ∷ xs) t = before-self xs (rw (eq-eqb x x refl) at t)
 
-before-trans : (s t u : List ℕ) → T (before s t) → T (before t u) → T (before s u)
+pub before-trans : (s t u : List ℕ) → T (before s t) → T (before t u) → T (before s u)
 unfolding before
 before-trans s t [] p q = q
 before-trans s [] (z ∷ zs) p q = absurd p

@@ -10,7 +10,7 @@ use borrow.Author.Tests.{lt-ltb, le-ltb, eq-eqb, ne-eqb, ltb-true, ltb-false}
 use Rattle.overload.specs.Rows.{Row, rows, noRow, rowAt, Ruling, Known}
 use Rattle.overload.specs.Rows.Ruling.{byRow, address, indirection}
 use Rattle.overload.proofs.Rulings.{row-known}
-use Rattle.names.specs.Names.{Rule, Name, names, sameBytes, within, Named, ruleFor, ruleIn, ruleOf}
+use Rattle.names.specs.Names.{Rule, Name, names, sameBytes, within, Named, ruleIn, ruleOf}
 use Rattle.names.specs.Names.Rule.{ruling, bitcast, arrayLength, ldexp, barrier}
 use Rattle.names.specs.Names.Named.{rule, unknown}
 use Rattle.names.specs.inner.Table.{rulingNumber, ruleNumber, numbered, replied}

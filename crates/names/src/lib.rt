@@ -7,9 +7,9 @@ pub use tables::name_table;
 ghost use mathlib.Core.Path.{_≡_};
 ghost use mathlib.Core.Bool.{false};
 ghost use Prim.Native.Nat.{_<_, _≤_};
-ghost use lib.ListN.{length, getD};
-ghost use Rattle.names.specs.Names.{count, nameAt, sameBytes, ruleOf};
-ghost use Rattle.names.specs.inner.Table.{nameTable, blank, hasBlank, StandsAt, replied};
+ghost use lib.ListN.{length};
+ghost use Rattle.names.specs.Names.{count, nameAt, ruleOf};
+ghost use Rattle.names.specs.inner.Table.{nameTable, endsBlank, Ordered, StandsAt, replied};
 
 // The crate rules' numbers. A number below the first is that of a row of overloads.
 pub const RULE_BITCAST: u8 = 100;
@@ -39,56 +39,71 @@ pub enum RuleNo {
     Unknown,
 }
 
-fn has_blank(name: &[u8]) -> bool
-    ensures { λ r. ⌜ r ≡ hasBlank (now (name .entry)) ⌝ }
-{
-    let mut i = 0;
-    while i < name.len() {
-        if name[i] == BLANK {
-            return true;
-        }
-        i += 1;
-    }
-    false
+// How one name stands to another, both filled up with blanks.
+enum Side {
+    Before,
+    Same,
+    After,
 }
 
-// A letter of a name that is filled up with blanks.
-fn letter(name: &[u8], i: usize) -> u8
-    ensures { λ r. ⌜ r ≡ getD (now (name .entry)) i blank ⌝ }
+// Whether the last byte of a name is a blank.
+fn ends_blank(name: &[u8]) -> bool
+    ensures { λ r. ⌜ r ≡ endsBlank (now (name .entry)) ⌝ }
 {
-    if i < name.len() {
-        return name[i];
+    let count = name.len();
+    if count == 0 {
+        return false;
     }
-    BLANK
+    name[count - 1] == BLANK
 }
 
-// Whether a line's name is this one.
-fn is_named(rows: &[u8], row: usize, name: &[u8]) -> bool
-    requires { ⌜ (now rows ≡ nameTable) × (row < count) × (length (now name) ≤ 32) × (hasBlank (now name) ≡ false) ⌝ }
-    ensures { λ r. ⌜ r ≡ sameBytes (nameAt row) (now (name .entry)) ⌝ }
+// How a line's name stands to this one, by the first letter in which they differ. Where this one ends, the line's next letter decides.
+fn compared(rows: &[u8], row: usize, name: &[u8]) -> Side
+    requires { ⌜ (now rows ≡ nameTable) × (row < count) × (length (now name) ≤ 32) ⌝ }
+    ensures { λ r. ⌜ Ordered r (nameAt row) (now (name .entry)) ⌝ }
 {
     let from = row * LINE_WIDTH;
     let mut i = 0;
-    while i < NAME_WIDTH {
-        if rows[from + i] != letter(name, i) {
-            return false;
+    while i < name.len() {
+        let letter = rows[from + i];
+        let other = name[i];
+        if letter != other {
+            if letter < other {
+                return Side::Before;
+            }
+            return Side::After;
         }
         i += 1;
     }
-    true
+    if NAME_WIDTH <= i {
+        return Side::Same;
+    }
+    if rows[from + i] != BLANK {
+        return Side::After;
+    }
+    Side::Same
 }
 
-// The row that has this name, or their count where none has.
+// The row that has this name, or their count where none has: what is left of the sorted rows is halved until it is there, or none is left.
 fn row_of(rows: &[u8], name: &[u8], lines: usize) -> usize
-    requires { ⌜ (now rows ≡ nameTable) × (length (now name) ≤ 32) × (hasBlank (now name) ≡ false) × (lines ≡ count) ⌝ }
+    requires { ⌜ (now rows ≡ nameTable) × (length (now name) ≤ 32) × (endsBlank (now name) ≡ false) × (lines ≡ count) ⌝ }
     ensures { λ r. ⌜ StandsAt (now (name .entry)) r ⌝ }
 {
-    let mut row = 0;
-    while row < lines {
-        if is_named(rows, row, name) {
-            return row;
+    let mut low = 0;
+    let mut high = lines;
+    while low < high {
+        let middle = (low + high) / 2;
+        match compared(rows, middle, name) {
+            Side::Before => {
+                low = middle + 1;
+            }
+            Side::Same => {
+                return middle;
+            }
+            Side::After => {
+                high = middle;
+            }
         }
-        row += 1;
     }
     lines
 }
@@ -104,10 +119,10 @@ pub fn rule_of(rows: &[u8], profile: u32, name: &[u8]) -> RuleNo
     if NAME_WIDTH < name.len() {
         return RuleNo::Unknown;
     }
-    if has_blank(name) {
+    if ends_blank(name) {
         return RuleNo::Unknown;
     }
-    let lines = rows.len() / LINE_WIDTH;
+    let lines = tables::lines();
     let row = row_of(rows, name, lines);
     if lines <= row {
         return RuleNo::Unknown;

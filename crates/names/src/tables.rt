@@ -1,5 +1,6 @@
 // The names, sorted by their bytes, as rows of one width: a line for each.
 ghost use mathlib.Core.Path.{_≡_};
+ghost use Rattle.names.specs.Names.{count};
 ghost use Rattle.names.specs.inner.Table.{nameTable};
 
 // The width of a line: the longest name that a sheet holds, the number of its rule, its profile and its mark.
@@ -130,6 +131,13 @@ const NAMES: [u8; COUNT * LINE_WIDTH] = *b"\
         unpack4xI8                      \x28\x00\x00\
         unpack4xU8                      \x29\x00\x00\
         workgroupBarrier                \x67\x00\x00";
+
+// How many lines there are.
+pub fn lines() -> usize
+    ensures { λ r. ⌜ r ≡ count ⌝ }
+{
+    COUNT
+}
 
 // The table: made once where a run or a single call begins, and lent from there.
 pub fn name_table() -> [u8; COUNT * LINE_WIDTH]

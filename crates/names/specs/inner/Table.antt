@@ -1,16 +1,19 @@
 -- What the code's constant holds: a line for each name. The promise of a call is read without it. Assumes nothing.
-use Prim.Native.Nat.{ℕ, zero, suc, _≤_, _<_}
+use Prim.Native.Nat.{ℕ, zero, suc, _-_, _≤_, _<_}
 use mathlib.Core.Path.{_≡_}
-use mathlib.Core.Bool.{Bool, false, _||_, cond}
+use mathlib.Core.Bool.{Bool, cond}
 use mathlib.Core.List.{List, [], _∷_, _++_}
-use lib.Dec.{eqb, ltb}
+use lib.Dec.{T, eqb, ltb}
+use lib.ListN.{length, getD}
 use Rattle.overload.specs.Rows.{Ruling, rowAt}
 use Rattle.overload.specs.Rows.Ruling.{byRow, address, indirection}
-use Rattle.names.specs.Names.{Rule, Name, names, count, nameAt, Named}
+use Rattle.names.specs.Names.{Rule, Name, names, before, count, nameAt, Named}
 use Rattle.names.specs.Names.Rule.{ruling, bitcast, arrayLength, ldexp, barrier}
 use Rattle.names.specs.Names.Named.{rule, unknown}
 use Rattle.names.specs.declared.RuleNo.{RuleNo}
 use Rattle.names.specs.declared.RuleNo.the-variants.{Is, Unknown}
+use Rattle.names.specs.declared.Side.{Side}
+use Rattle.names.specs.declared.Side.the-variants.{Before, Same, After}
 
 -- THE NUMBER OF A RULE, a byte, which a name put in later does not move: of a row its own, below 100; no name has the rulings of unary `&` and `*`
 
@@ -69,10 +72,15 @@ linesOf (r ∷ rs) = line r ++ linesOf rs
 unfoldable pub nameTable : List ℕ
 nameTable = linesOf names
 
--- a name with a blank in it is none of them
-unfoldable pub hasBlank : List ℕ → Bool
-hasBlank [] = false
-hasBlank (c ∷ cs) = eqb c blank || hasBlank cs
+-- a name that ends with a blank is none of them
+unfoldable pub endsBlank : List ℕ → Bool
+endsBlank s = eqb (getD s (length s - 1) 0) blank
+
+-- HOW ONE NAME STANDS TO ANOTHER, both filled up with blanks: since a blank is below every letter and digit, as in the order of the names
+unfoldable pub Ordered : Side → List ℕ → List ℕ → Type 0
+Ordered Before s t = T (before (filled nameWidth s) (filled nameWidth t))
+Ordered Same s t = filled nameWidth s ≡ filled nameWidth t
+Ordered After s t = T (before (filled nameWidth t) (filled nameWidth s))
 
 -- where a name stands: at the row that has it, or past the last where none has
 pub record StandsAt (s : List ℕ) (r : ℕ) : Type 0 where
