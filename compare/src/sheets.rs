@@ -4,14 +4,16 @@
 
 use crate::call_ty::type_builtin_fn;
 use crate::case::{Answer, Case, Operation};
+use crate::domain::{PLAINS, simples};
 use crate::ops_ty::{type_binary_op, type_unary_op};
-use crate::oracle::{binary_operator, from_rust, to_rust, unary_operator};
+use crate::oracle::{binary_operator, from_rust, oracle_call, quiet, to_rust, unary_operator};
 use crate::ours::table::Table;
+use crate::random::Random;
 use crate::standard::Standard;
 use crate::tplt::TpltParam;
 use crate::ty::Type;
-use crate::types::WType;
-use std::collections::BTreeSet;
+use crate::types::{SCALARS, WType};
+use std::collections::{BTreeMap, BTreeSet};
 
 /// Kinds of items.
 mod item {
@@ -50,6 +52,15 @@ impl Sheet {
     }
     pub fn call(&mut self, name: &str, operands: u8) {
         self.item(item::CALL, &[&[operands], name.as_bytes()].concat());
+    }
+    /// One value, and as many calls of a name on it as 60,000 bytes hold.
+    pub fn of_calls(name: &str, number: u32) -> Sheet {
+        let mut sheet = Sheet::default();
+        sheet.push(number);
+        while sheet.length() + 3 + name.len() <= MOST_BYTES {
+            sheet.call(name, 1);
+        }
+        sheet
     }
     /// How many bytes the items have.
     pub fn length(&self) -> usize {
@@ -343,6 +354,137 @@ pub fn two_in_turn() -> (Table, Vec<Type>, Sheet) {
     panic!("two keys of one slot");
 }
 
+/// Calls of a name that both sides answer with the same scalar or vector: the operands' places in a list of types, and the result's.
+type Agreed = Vec<(Vec<usize>, usize)>;
+
+/// The first of them, with as few operands as the name takes.
+fn agreed(standard: &Standard, name: &'static str, types: &[WType], rust: &[Type]) -> Agreed {
+    const MOST: usize = 40;
+    const MOST_OPERANDS: u32 = 4;
+    for count in 0..=MOST_OPERANDS {
+        let place = |list: usize, i: u32| list / types.len().pow(count - 1 - i) % types.len();
+        let places = |list| (0..count).map(|i| place(list, i)).collect::<Vec<_>>();
+        let result = |places: &Vec<usize>| {
+            let operands: Vec<&WType> = places.iter().map(|&i| &types[i]).collect();
+            let case = Case {
+                operation: Operation::Call(name),
+                template: &[],
+                operands: &operands,
+                running: &[],
+            };
+            let answer = standard.answer(&case);
+            let by_crate: Vec<Type> = places.iter().map(|&i| rust[i].clone()).collect();
+            if answer != oracle_call(name, &[], &by_crate) {
+                return None;
+            }
+            types
+                .iter()
+                .position(|ty| answer == Answer::Type(ty.clone()))
+        };
+        let lists = (0..types.len().pow(count)).map(places);
+        let met = lists.filter_map(|list| Some((list.clone(), result(&list)?)));
+        let met: Agreed = met.take(MOST).collect();
+        if !met.is_empty() {
+            return met;
+        }
+    }
+    panic!("{name} on scalars and vectors")
+}
+
+/// The names that are not answered with a scalar or a vector of such operands alone.
+const OTHERS: [&str; 9] = [
+    "arrayLength",
+    "bitcast",
+    "determinant",
+    "frexp",
+    "modf",
+    "storageBarrier",
+    "textureBarrier",
+    "transpose",
+    "workgroupBarrier",
+];
+
+/// What joins the comparisons of vectors; it is called for that alone.
+const JOIN: &str = "all";
+
+/// A call of a name on operands whose places in a list of types are given, and its result's.
+struct Called<'a> {
+    name: &'a str,
+    places: &'a [usize],
+    result: usize,
+}
+
+/// A sheet in which each result is compared with itself, and all comparisons are joined; `numbers` are those of the plain types.
+fn joined(calls: &[Called], numbers: &[u32]) -> Sheet {
+    const EQUAL: u8 = 7;
+    // On bool alone, and on vectors of bool.
+    const ALSO: u8 = 1;
+    const AND: u8 = 14;
+    let width = |call: &&Called| call.result / SCALARS.len();
+    let mut sheet = Sheet::default();
+    sheet.push(numbers[0]);
+    for wide in 0..PLAINS / SCALARS.len() {
+        let mut of_width = calls.iter().filter(|call| width(call) == wide).peekable();
+        let is_vector = wide > 0 && of_width.peek().is_some();
+        if is_vector {
+            sheet.push(numbers[SCALARS.len() * wide]);
+        }
+        for call in of_width {
+            call.places
+                .iter()
+                .for_each(|&place| sheet.push(numbers[place]));
+            sheet.call(call.name, call.places.len() as u8);
+            sheet.push(numbers[call.result]);
+            sheet.binary(EQUAL);
+            sheet.binary(if is_vector { AND } else { ALSO });
+        }
+        if is_vector {
+            sheet.call(JOIN, 1);
+            sheet.binary(ALSO);
+        }
+    }
+    sheet
+}
+
+/// Sheets that call all names of a list but `OTHERS`, some times over, each time in another order, and how many of these calls there are. Names that are answered
+/// alike have operands of their own in a sheet, so that no run meets a call twice.
+pub fn all_names(names: &[&'static str]) -> (Table, Vec<Type>, Vec<Sheet>, usize) {
+    const TIMES: usize = 20;
+    quiet();
+    let types = &simples()[..PLAINS];
+    let (table, rust, numbers) = table_with(types, types.len());
+    let operands: Vec<Type> = types.iter().map(to_rust).collect();
+    let standard = Standard::default();
+    let is_called = |name: &&&'static str| !OTHERS.contains(name) && **name != JOIN;
+    let mut calls: Vec<(&str, Agreed)> = names
+        .iter()
+        .filter(is_called)
+        .map(|name| (*name, agreed(&standard, name, types, &operands)))
+        .collect();
+    let mut random = Random::new(1);
+    let mut sheets = Vec::new();
+    for _ in 0..TIMES {
+        for i in (1..calls.len()).rev() {
+            calls.swap(i, random.below(i + 1));
+        }
+        let mut met: BTreeMap<&Agreed, usize> = BTreeMap::new();
+        let mut parts: BTreeMap<usize, Vec<Called>> = BTreeMap::new();
+        for (name, agreed) in &calls {
+            let turn = met.entry(agreed).or_default();
+            let (places, result) = &agreed[*turn % agreed.len()];
+            parts.entry(*turn / agreed.len()).or_default().push(Called {
+                name,
+                places,
+                result: *result,
+            });
+            *turn += 1;
+        }
+        sheets.extend(parts.values().map(|calls| joined(calls, &numbers)));
+    }
+    let count = TIMES * calls.len();
+    (table, rust, sheets, count)
+}
+
 #[cfg(test)]
 mod tests {
     use super::*;
@@ -354,6 +496,16 @@ mod tests {
         let (_, rust, _) = table_with(&[], 7);
         let ty = type_sheet(&rust, &sheet).unwrap().unwrap();
         assert_eq!(from_rust(&ty).to_string(), "f32");
+    }
+
+    #[test]
+    fn sheets_of_all_names_have_a_type() {
+        let (_, rust, sheets, calls) = all_names(&crate::standard::NAMES);
+        assert_eq!(calls, 20 * (94 - OTHERS.len() - 1));
+        for sheet in sheets {
+            let made = type_sheet(&rust, &sheet.bytes()).unwrap().unwrap();
+            assert_eq!(from_rust(&made).to_string(), "bool");
+        }
     }
 
     #[test]

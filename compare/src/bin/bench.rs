@@ -4,14 +4,17 @@
 //! its instructions.
 
 use compare::call_ty::type_builtin_fn;
+use compare::case::profile::{BASE, SUBGROUPS};
 use compare::case::{Answer, Case, Operation};
 use compare::domain::simples;
 use compare::ops_ty::type_binary_op;
 use compare::oracle::{binary_operator, from_rust, to_rust};
 use compare::ours;
 use compare::ours::table::Table;
-use compare::sheets::{PATTERNS, Pattern, kinds, table_with, two_in_turn, type_sheet};
-use compare::standard::Standard;
+use compare::sheets::{
+    PATTERNS, Pattern, Sheet, all_names, kinds, table_with, two_in_turn, type_sheet,
+};
+use compare::standard::{NAMES, Standard, names};
 use compare::ty::Type;
 use compare::types::WType;
 use std::hint::black_box;
@@ -37,6 +40,14 @@ const CALLS: [(&str, &[&str]); 14] = [
     ("sqrt", &["vec3<f32>"]),
     ("clamp", &["AbstractInt", "AbstractFloat", "f16"]),
     ("mix", &["vec3<f32>", "vec3<f32>", "f32"]),
+];
+
+/// Names of one row, by where they stand among the names, and one that stands nowhere.
+const PLACES: [(&str, &str); 4] = [
+    ("of the first", "acos"),
+    ("of the middle", "log2"),
+    ("of the last", "trunc"),
+    ("of none", "trunk"),
 ];
 
 /// `struct timespec` of C.
@@ -138,7 +149,6 @@ fn rust_call(operation: Operation, operands: &[Type]) -> Option<Type> {
 mod side {
     //! Swartabelk's side.
     use super::*;
-    use compare::case::profile::BASE;
     use compare::ours::linked;
 
     pub const IS: bool = true;
@@ -153,9 +163,14 @@ mod side {
         reply.ty
     }
 
+    /// Whether a name is answered.
+    pub fn knows(table: &mut Table, name: &str, numbers: &[u32]) -> bool {
+        linked::call(table, BASE, name, &[], numbers).refusal == 0
+    }
+
     #[inline(never)]
-    pub fn sheet(table: &mut Table, sheet: &[u8]) -> (u32, u32) {
-        let reply = linked::sheet(table, BASE, sheet);
+    pub fn sheet(table: &mut Table, profile: u32, sheet: &[u8]) -> (u32, u32) {
+        let reply = linked::sheet(table, profile, sheet);
         assert_eq!(reply.refusal, 0, "{reply:?}");
         (reply.ty, reply.used)
     }
@@ -172,7 +187,11 @@ mod side {
         0
     }
 
-    pub fn sheet(_: &mut Table, _: &[u8]) -> (u32, u32) {
+    pub fn knows(_: &mut Table, _: &str, _: &[u32]) -> bool {
+        false
+    }
+
+    pub fn sheet(_: &mut Table, _: u32, _: &[u8]) -> (u32, u32) {
         (0, 0)
     }
 }
@@ -239,7 +258,7 @@ fn sheets() {
                     black_box(rust_sheet(black_box(&rust_table), black_box(&bytes)));
                 };
                 let mut ours = || {
-                    black_box(side::sheet(&mut table, black_box(&bytes)));
+                    black_box(side::sheet(&mut table, BASE, black_box(&bytes)));
                 };
                 let ours: Option<&mut dyn FnMut()> = if side::IS { Some(&mut ours) } else { None };
                 let what = format!("{} sheet of {} items", pattern.name(), sheet.items);
@@ -247,6 +266,64 @@ fn sheets() {
                 line(&what, entries, per, both(&mut rust, ours));
             }
         }
+    }
+}
+
+/// How long a name is looked for: in a single call and in a full sheet of that call, by where it stands; and in sheets of all names, of which no run meets a call twice.
+fn searches() {
+    head("names, ns a call");
+    let f32 = WType::Scalar(compare::types::Scalar::F32);
+    let operands = [to_rust(&f32)];
+    let (mut table, rust_table, numbers) = table_with(&[f32], 7);
+    for (place, name) in PLACES {
+        let known = type_builtin_fn(name, None, &operands).is_ok();
+        assert!(!side::IS || side::knows(&mut table, name, &numbers) == known);
+        let mut rust = || {
+            black_box(type_builtin_fn(black_box(name), None, black_box(&operands))).ok();
+        };
+        let mut ours = || {
+            black_box(side::knows(
+                &mut table,
+                black_box(name),
+                black_box(&numbers),
+            ));
+        };
+        let ours: Option<&mut dyn FnMut()> = if side::IS { Some(&mut ours) } else { None };
+        let what = format!("`{name}(f32)`, {place}");
+        line(&what, 7, 1.0, both(&mut rust, ours));
+    }
+    for (place, name) in &PLACES[..3] {
+        let sheet = Sheet::of_calls(name, numbers[0]);
+        let bytes = sheet.bytes();
+        let mut rust = || {
+            black_box(rust_sheet(black_box(&rust_table), black_box(&bytes)));
+        };
+        let mut ours = || {
+            black_box(side::sheet(&mut table, BASE, black_box(&bytes)));
+        };
+        let ours: Option<&mut dyn FnMut()> = if side::IS { Some(&mut ours) } else { None };
+        let calls = sheet.items - 1;
+        let what = format!("{calls} calls of `{name}`, {place}");
+        line(&what, 7, calls as f64, both(&mut rust, ours));
+    }
+    let all: Vec<&'static str> = names().collect();
+    for (profile, names) in [(BASE, &NAMES[..]), (SUBGROUPS, &all)] {
+        let (mut table, rust_table, sheets, calls) = all_names(names);
+        let bytes: Vec<Vec<u8>> = sheets.iter().map(Sheet::bytes).collect();
+        let entries = table.used as usize;
+        let mut rust = || {
+            for bytes in &bytes {
+                black_box(rust_sheet(black_box(&rust_table), black_box(bytes)));
+            }
+        };
+        let mut ours = || {
+            for bytes in &bytes {
+                black_box(side::sheet(&mut table, profile, black_box(bytes)));
+            }
+        };
+        let ours: Option<&mut dyn FnMut()> = if side::IS { Some(&mut ours) } else { None };
+        let what = format!("all of profile {profile}, {} sheets", sheets.len());
+        line(&what, entries, calls as f64, both(&mut rust, ours));
     }
 }
 
@@ -285,7 +362,7 @@ fn hard() {
             black_box(rust_sheet(black_box(&rust_table), black_box(&bytes)));
         };
         let mut ours = || {
-            black_box(side::sheet(&mut table, black_box(&bytes)));
+            black_box(side::sheet(&mut table, BASE, black_box(&bytes)));
         };
         let ours: Option<&mut dyn FnMut()> = if side::IS { Some(&mut ours) } else { None };
         let what = format!("{what}, {} items", sheet.items);
@@ -305,7 +382,7 @@ fn count(words: &[String]) -> Option<()> {
     let result = match which.as_str() {
         "rust" => from_rust(&rust_sheet(&rust_table, &bytes)?),
         "ours" if side::IS => {
-            let (ty, used) = side::sheet(&mut table, &bytes);
+            let (ty, used) = side::sheet(&mut table, BASE, &bytes);
             table.used = used;
             table.read(ty).ok()?
         }
@@ -332,6 +409,7 @@ fn main() {
     println!("median of {ROUNDS} rounds, both sides in turn; {library}");
     single_calls();
     sheets();
+    searches();
     hard();
     println!(
         "
