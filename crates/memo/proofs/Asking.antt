@@ -21,7 +21,10 @@ use Rattle.table.proofs.PlacingLaws.{standing-outcome}
 use Rattle.table.proofs.Giving.{gave-whole}
 use Rattle.names.specs.Names.{Named, ruleOf}
 use Rattle.names.specs.Names.Named.{rule}
-use Rattle.names.specs.inner.Table.{numbered}
+use Rattle.names.specs.inner.Table.{numbered, StandsAt, ruleAt, replied}
+use Rattle.names.specs.declared.RuleNo.the-variants.{Is}
+use Rattle.names.proofs.Found.{stands-rule}
+use Rattle.names.proofs.Rules.{said-rule}
 use Rattle.conv.specs.Types.{bool}
 use Rattle.conv.specs.Types.Ty.{scalar}
 use Rattle.held.specs.Held.{numberOf, valueOf}
@@ -46,7 +49,7 @@ use Rattle.step.proofs.Effects.{settled, settle-value, value-below}
 use Rattle.step.proofs.Keeping.{item-kept}
 use Rattle.memo.specs.inner.Memo.{nothing, Question, codeOf, On, typed, digits, numbersIn, marksIn, keyOf, slotOf, Holds, Recalls, Recalled, Leaves, NotedStep, AfterStep}
 use Rattle.memo.specs.inner.Memo.Question.{binary, unary, builtin}
-use Rattle.memo.specs.inner.Asking.{Small, Coded, runsOn, AskedBy, Asks, lastOf, KeyedBy, Keyed}
+use Rattle.memo.specs.inner.Asking.{Small, Coded, runsOn, AskedBy, Asks, AsksRow, lastOf, KeyedBy, Keyed}
 use Rattle.memo.proofs.MemoLaws.{slot-with, value-noted, recalls-on, recalls-noted, digits-many, digits-small, digits-numbers, digits-marks}
 
 impossible : {P : Type 0} → _≡_ {A = ℕ} 0 1 → P
@@ -64,6 +67,11 @@ unnoted memo vals key (did.Refused r) h = refl
 pub neither : (a b : Bool) → (a || b) ≡ false → (a ≡ false) × (b ≡ false)
 neither true b h = impossible (cc)
 neither false b h = (refl, h)
+
+-- a test that does not fail holds
+pub not-false : (b : Bool) → not b ≡ false → b ≡ true
+not-false true h = refl
+not-false false h = impossible (cc)
 
 -- A CODE is of a question, and a key of a code
 
@@ -207,6 +215,19 @@ pub call-asked : (profile : ℕ) (s : List ℕ) (name : Part) (k number : ℕ) (
 call-asked profile s name k number runs code j l m h e c d =
     let z : code ≡ number + 24 = omega arith in
     record { asks = inr (rw (z, d) (call-asks profile s name k number runs l m h e)) }
+
+-- a row asks by its rule, which is that of every name that stands there
+module _ (profile row k number : ℕ) (runs : Bool) where
+  pub row-asked : (code j : ℕ) → 1 ≤ k → k ≤ 3 → number < 128 → replied (ruleAt profile row) ≡ Is number runs → code ≡ 24 + number → j ≡ k → AsksRow profile row k code j runs
+  row-asked code j l m h e c d =
+      record {
+        asks = λ s name stands.
+            call-asked profile s name k number runs code j l m h
+            (said-rule profile (bytesOf s name) number (ap replied (sym (stands-rule profile (bytesOf s name) row stands)) ∙ e)) c d;
+      }
+
+pub row-none : (profile row k code j : ℕ) (runs : Bool) → code ≡ 0 → AsksRow profile row k code j runs
+row-none profile row k code j runs e = record { asks = λ s name stands. record { asks = inl e } }
 
 -- THE LAST VALUES of a slice
 

@@ -46,7 +46,7 @@ use Rattle.call_ty.proofs.Ends.{Ends, rule-call-ends}
 use Rattle.call_ty.proofs.Ends.Ends.{refused, silent, valued}
 use Rattle.step.specs.Kept.{Grew}
 use Rattle.step.proofs.StackLaws.{value-under}
-use Rattle.memo.specs.inner.Memo.{slots, nothing, Question, codeOf, On, typed, Gives, digitOf, digits, numberIn, numbersIn, markIn, marksIn, keyUp, keyOf, slotOf, Holds, Recalls, Recalled, Noted}
+use Rattle.memo.specs.inner.Memo.{room, slots, nothing, Question, codeOf, On, typed, Gives, digitOf, digits, numberIn, numbersIn, markIn, marksIn, keyUp, keyOf, slotOf, Holds, Recalls, Hinted, Recalled, Noted}
 use Rattle.memo.specs.inner.Memo.Question.{binary, unary, builtin}
 
 impossible : {P : Type 0} → _≡_ {A = ℕ} 0 1 → P
@@ -153,6 +153,17 @@ module _ (w : List ℕ) (n : ℕ) (v : List ℕ) (m : ℕ) (g : Grew w n v m) wh
   pub recalls-on : (memo : List ℕ) → Recalls memo w n → Recalls memo v m
   recalls-on memo r = record { size = r .size; holds = λ i h. holds-on (getD memo i 0) (r .holds i h) }
 
+-- a hint keeps what the slots say
+
+pub hinted : (memo : List ℕ) (k x : ℕ) → slots ≤ k → Hinted memo (set memo k x)
+hinted memo k x h = record { size = length-set memo k x; each = λ i l. getD-set-other memo k i x 0 (λ e. omega arith) }
+
+pub unhinted : (memo : List ℕ) → Hinted memo memo
+unhinted memo = record { size = refl; each = λ i l. refl }
+
+pub recalls-hinted : (memo w : List ℕ) (n : ℕ) (after : List ℕ) → Recalls memo w n → Hinted memo after → Recalls after w n
+recalls-hinted memo w n after r h = record { size = h .size ∙ r .size; holds = λ i l. rw (h .each i l) (r .holds i l) }
+
 -- noting keeps what the slots say
 pub recalls-noted : (memo w : List ℕ) (n key t : ℕ) (after : List ℕ) → Recalls memo w n → Holds w n (slotOf key t) → Noted memo key t after → Recalls after w n
 recalls-noted memo w n key t after r h d = record { size = d .size ∙ r .size; holds = λ i l. go i (d .each i l) }
@@ -162,7 +173,7 @@ recalls-noted memo w n key t after r h d = record { size = d .size ∙ r .size; 
     go i (inr z) = rw (z .2) (r .holds (z .0) (z .1))
 
 -- a note in the first of two slots, with what that had in the second
-pub noted-first : (memo : List ℕ) (k key t x : ℕ) → x ≡ slotOf key t → length memo ≡ slots → k + 1 < slots → Noted memo key t (set (set memo (k + 1) (getD memo k 0)) k x)
+pub noted-first : (memo : List ℕ) (k key t x : ℕ) → x ≡ slotOf key t → length memo ≡ room → k + 1 < slots → Noted memo key t (set (set memo (k + 1) (getD memo k 0)) k x)
 noted-first memo k key t x e l h =
     let moved = set memo (k + 1) (getD memo k 0) in
     let m : length moved ≡ length memo = length-set memo (k + 1) (getD memo k 0) in
@@ -178,7 +189,7 @@ noted-first memo k key t x e l h =
     }
 
 -- a memo of empty slots, which a test finds
-pub recalls-none : (memo w : List ℕ) (n : ℕ) → length memo ≡ slots → zeros memo ≡ true → Recalls memo w n
+pub recalls-none : (memo w : List ℕ) (n : ℕ) → length memo ≡ room → zeros memo ≡ true → Recalls memo w n
 recalls-none memo w n l z = record { size = l; holds = λ i h. rw (zero-at memo z i) (holds-none w n) }
 
 -- the slot of a value that was recalled

@@ -27,13 +27,18 @@ ghost use Rattle.names.specs.inner.Table.{nameTable};
 ghost use Rattle.call_ty.specs.inner.Codes.{Under};
 ghost use Rattle.step.specs.Effect.{effectOf};
 ghost use Rattle.step.specs.inner.Code.{stateOf, Ready, Does};
-ghost use Rattle.memo.specs.inner.Memo.{digitOf, digits, keyOf, Recalls, Recalled, Noted, Leaves, NotedStep, AfterStep};
-ghost use Rattle.memo.specs.inner.Asking.{Small, Coded, runsOn, Asks, Keyed};
-ghost use Rattle.memo.specs.inner.Quick.{AsksShort, Quick, QuickEver, QuickAt};
+ghost use Rattle.memo.specs.inner.Memo.{digitOf, digits, keyOf, Recalls, Hinted, Recalled, Noted, Leaves, NotedStep, AfterStep};
+ghost use Rattle.memo.specs.inner.Asking.{Small, Coded, runsOn, Asks, AsksRow, Keyed};
+ghost use Rattle.memo.specs.inner.Quick.{AsksShort, Answers, Quick, QuickEver, QuickAt, CallAt};
 
-// How many values the memo holds, and what it answers where it has none.
-pub const SLOTS: usize = 256;
+// How many numbers the memo has: the values that it holds and, from FIRST_HINT on, rows in which names were found.
+pub const SLOTS: usize = 320;
 
+const FIRST_HINT: usize = 256;
+
+const HINTS: usize = 64;
+
+// What it answers where it has no value.
 const NOTHING: usize = 256;
 
 // How many operators there are, below which number the rules of builtins are, and how many operands of a call are looked at.
@@ -52,12 +57,18 @@ const UNARY_CODES: u32 = 19;
 
 const BUILTIN_CODES: u32 = 24;
 
-// How a slot is found.
+// How a slot is found, and a hint.
 const MIX_CODE: u64 = 9;
 
 const MIX_SECOND: u64 = 85;
 
 const MIX_THIRD: u64 = 37;
+
+const MIX_BEGIN: usize = 17;
+
+const MIX_MIDDLE: usize = 55;
+
+const MIX_END: usize = 31;
 
 // What an item asks, by its code, and on how many values, and whether its result is running even where they are const; 0 where the memo has nothing of its kind.
 pub struct Ask {
@@ -107,7 +118,7 @@ fn slot_of(mix: u64) -> usize
 
 // The number of the type that the memo has for a key, or NOTHING.
 fn recall(memo: &[u64], slot: usize, key: u64) -> usize
-    requires { ⌜ (length (now memo) ≡ 256) × (slot + 1 < 256) ⌝ }
+    requires { ⌜ (length (now memo) ≡ 320) × (slot + 1 < 256) ⌝ }
     ensures { λ r. ⌜ Recalled (now (memo .entry)) key r ⌝ }
 {
     let v = memo[slot];
@@ -123,7 +134,7 @@ fn recall(memo: &[u64], slot: usize, key: u64) -> usize
 
 // Notes the type for a key in its first slot; what that had moves to the second.
 fn note(memo: &mut [u64], slot: usize, key: u64, t: TypeNo)
-    requires { ⌜ (length (now memo) ≡ 256) × (slot + 1 < 256) × (key < 2 ^ 35) × (t .0 < 256) ⌝ }
+    requires { ⌜ (length (now memo) ≡ 320) × (slot + 1 < 256) × (key < 2 ^ 35) × (t .0 < 256) ⌝ }
     ensures { λ _. ⌜ Noted (now (memo .entry)) key (t .0) (now (memo .exit)) ⌝ }
 {
     memo[slot + 1] = memo[slot];
@@ -132,7 +143,7 @@ fn note(memo: &mut [u64], slot: usize, key: u64, t: TypeNo)
 
 // What an item left, noted where it went.
 fn note_did(memo: &mut [u64], slot: usize, key: u64, d: Did, stack: &[u32])
-    requires { ⌜ (length (now memo) ≡ 256) × (slot + 1 < 256) × (key < 2 ^ 35) × Leaves d (now stack) ⌝ }
+    requires { ⌜ (length (now memo) ≡ 320) × (slot + 1 < 256) × (key < 2 ^ 35) × Leaves d (now stack) ⌝ }
     ensures { λ _. ⌜ NotedStep (now (memo .entry)) key d (now (stack .entry)) (now (memo .exit)) ⌝ }
 {
     match d {
@@ -182,15 +193,28 @@ fn asked_short(x: Short) -> Ask
     no_ask()
 }
 
-// A call of a builtin asks by the rule of its name in a profile.
-fn asked_call(version: u8, items: &[u8], rows: &[u8], profile: u32, name: Part, k: u8) -> Ask
-    requires { ⌜ LiesIn (length (now items)) name × (now rows ≡ nameTable) ⌝ }
-    ensures { λ r. ⌜ Asks profile (sheetOf version (now (items .entry))) (Call k name) (r .code) (r .operands) (r .runs) ⌝ }
+// Where the memo has a hint for a name: the row in which one of this place was found last. Any place would do: whether that row has the name is asked of the names.
+fn hint_of(name: &[u8]) -> usize
+    ensures { λ r. ⌜ (256 ≤ r) × (r < 320) ⌝ }
+{
+    let length = name.len();
+    if length == 0 {
+        return FIRST_HINT;
+    }
+    let ends = wide(name[0]) * MIX_BEGIN + wide(name[length - 1]) * MIX_END;
+    let mix = ends + wide(name[length / 2]) * MIX_MIDDLE + length % HINTS;
+    FIRST_HINT + mix % HINTS
+}
+
+// A call of a builtin on k operands asks by the rule that the row of its name has in a profile.
+fn asked_row(rows: &[u8], profile: u32, row: usize, k: u8) -> Ask
+    requires { ⌜ now rows ≡ nameTable ⌝ }
+    ensures { λ r. ⌜ AsksRow profile row k (r .code) (r .operands) (r .runs) ⌝ }
 {
     if (k < 1) | (OPERANDS < k) {
         return no_ask();
     }
-    match names::rule_of(rows, profile, frame::name_in(items, name)) {
+    match names::rule_at(rows, profile, row) {
         RuleNo::Is { rule, running } => {
             if RULES <= rule {
                 return no_ask();
@@ -205,9 +229,51 @@ fn asked_call(version: u8, items: &[u8], rows: &[u8], profile: u32, name: Part, 
     }
 }
 
-fn asked(version: u8, items: &[u8], rows: &[u8], profile: u32, item: Item) -> Ask
-    requires { ⌜ NameIn (length (now items)) item × (now rows ≡ nameTable) ⌝ }
-    ensures { λ r. ⌜ Asks profile (sheetOf version (now (items .entry))) item (r .code) (r .operands) (r .runs) ⌝ }
+// The row of its name is looked for, and becomes the hint.
+fn asked_call(
+    version: u8,
+    items: &[u8],
+    rows: &[u8],
+    profile: u32,
+    name: Part,
+    k: u8,
+    memo: &mut [u64],
+) -> Ask
+    requires { ⌜ LiesIn (length (now items)) name × (now rows ≡ nameTable) × (length (now memo) ≡ 320) ⌝ }
+    ensures { λ r. ⌜ Asks profile (sheetOf version (now (items .entry))) (Call k name) (r .code) (r .operands) (r .runs) × Hinted (now (memo .entry)) (now (memo .exit)) ⌝ }
+{
+    let bytes = frame::name_in(items, name);
+    let row = names::find(rows, bytes);
+    let hint = hint_of(bytes);
+    memo[hint] = row as u64;
+    asked_row(rows, profile, row, k)
+}
+
+// The same by the hint; nothing is asked where that is no row of this name.
+fn asked_again(
+    version: u8,
+    items: &[u8],
+    rows: &[u8],
+    profile: u32,
+    name: Part,
+    k: u8,
+    memo: &[u64],
+) -> Ask
+    requires { ⌜ LiesIn (length (now items)) name × (now rows ≡ nameTable) × (length (now memo) ≡ 320) ⌝ }
+    ensures { λ r. ⌜ Asks profile (sheetOf version (now (items .entry))) (Call k name) (r .code) (r .operands) (r .runs) ⌝ }
+{
+    let bytes = frame::name_in(items, name);
+    let hint = hint_of(bytes);
+    let row = memo[hint] as usize;
+    if !names::has_name(rows, row, bytes) {
+        return no_ask();
+    }
+    asked_row(rows, profile, row, k)
+}
+
+fn asked(version: u8, items: &[u8], rows: &[u8], profile: u32, item: Item, memo: &mut [u64]) -> Ask
+    requires { ⌜ NameIn (length (now items)) item × (now rows ≡ nameTable) × (length (now memo) ≡ 320) ⌝ }
+    ensures { λ r. ⌜ Asks profile (sheetOf version (now (items .entry))) item (r .code) (r .operands) (r .runs) × Hinted (now (memo .entry)) (now (memo .exit)) ⌝ }
 {
     match item {
         Item::Unary(op) => asked_short(Short {
@@ -222,7 +288,7 @@ fn asked(version: u8, items: &[u8], rows: &[u8], profile: u32, item: Item) -> As
             running: false,
             bytes: SHORT_BYTES,
         }),
-        Item::Call { count: k, name } => asked_call(version, items, rows, profile, name, k),
+        Item::Call { count: k, name } => asked_call(version, items, rows, profile, name, k, memo),
         _ => no_ask(),
     }
 }
@@ -289,7 +355,7 @@ fn keyed(keeps: bool, a: Ask, stack: &[u32], count: usize) -> Key
     }
 }
 
-// QUICK ITEMS: a push, and an operator that the memo has, change the stack alone.
+// QUICK ITEMS: a push, and an operator or a call that the memo has, change the stack alone.
 
 // A push: how many values stand then, or 0 where it cannot be.
 fn quick_push(x: Short, stack: &mut [u32], count: usize, table: &[u32], used: usize) -> usize
@@ -307,7 +373,33 @@ fn quick_push(x: Short, stack: &mut [u32], count: usize, table: &[u32], used: us
     count + 1
 }
 
-// The same of an operator, by the memo.
+// What is asked, by the memo: the same.
+fn recalled(
+    keeps: bool,
+    ask: Ask,
+    stack: &mut [u32],
+    count: usize,
+    table: &[u32],
+    used: usize,
+    memo: &[u64],
+) -> usize
+    requires { ⌜ Ready count (now stack) used (now table) × Recalls (now memo) (now table) used × Coded (ask .code) (ask .operands) ⌝ }
+    ensures { λ r. ⌜ Answers keeps (ask .code) (ask .operands) (ask .runs) count (now (stack .entry)) used (now (table .entry)) r (now (stack .exit)) ⌝ }
+{
+    let a = keyed(keeps, ask, stack, count);
+    if a.number == 0 {
+        return 0;
+    }
+    let t = recall(memo, a.slot, a.number);
+    if t == NOTHING {
+        return 0;
+    }
+    let base = a.base;
+    stack[base] = held::value(TypeNo(t), a.running);
+    base + 1
+}
+
+// The same of a push or an operator.
 fn quick(
     keeps: bool,
     x: Short,
@@ -323,17 +415,7 @@ fn quick(
     if x.kind == ITEM_PUSH {
         return quick_push(x, stack, count, table, used);
     }
-    let a = keyed(keeps, asked_short(x), stack, count);
-    if a.number == 0 {
-        return 0;
-    }
-    let t = recall(memo, a.slot, a.number);
-    if t == NOTHING {
-        return 0;
-    }
-    let base = a.base;
-    stack[base] = held::value(TypeNo(t), a.running);
-    base + 1
+    recalled(keeps, asked_short(x), stack, count, table, used, memo)
 }
 
 // The item at a place, where it is a quick one: how many values stand then; else 0.
@@ -366,6 +448,46 @@ pub fn quick_at(
     }
 }
 
+// The same of a call in a profile, where the memo has its name and what it gives.
+pub fn call_at(
+    version: u8,
+    items: &[u8],
+    rows: &[u8],
+    profile: u32,
+    at: Place,
+    stack: &mut [u32],
+    count: usize,
+    table: &[u32],
+    used: usize,
+    memo: &[u64],
+) -> Went
+    requires { ⌜ Ready count (now stack) used (now table) × Recalls (now memo) (now table) used × (now rows ≡ nameTable) ⌝ }
+    ensures { λ r. ⌜ CallAt profile (sheetOf version (now (items .entry))) (at .0) count (now (stack .entry)) used (now (table .entry)) (r .count) (r .bytes) (now (stack .exit)) ⌝ }
+{
+    let found = frame::item_in(version, items, at);
+    let item = found.item;
+    match item {
+        Item::Call { count: k, name } => {
+            let ask = asked_again(version, items, rows, profile, name, k, memo);
+            let left = recalled(
+                step::keeps_marks(version),
+                ask,
+                stack,
+                count,
+                table,
+                used,
+                memo,
+            );
+            let next = found.next;
+            Went {
+                count: left,
+                bytes: next.0 - at.0,
+            }
+        }
+        _ => Went { count: 0, bytes: 0 },
+    }
+}
+
 // What stands at a place of the sheet: recalled where the memo has it, else typed, and noted. The memo is that of a run, which has one profile.
 pub fn noted_step(
     version: u8,
@@ -385,7 +507,7 @@ pub fn noted_step(
 {
     let a = keyed(
         step::keeps_marks(version),
-        asked(version, items, rows, profile, item),
+        asked(version, items, rows, profile, item, memo),
         stack,
         count,
     );

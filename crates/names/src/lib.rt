@@ -9,7 +9,7 @@ ghost use mathlib.Core.Bool.{false};
 ghost use Prim.Native.Nat.{_<_, _≤_};
 ghost use lib.ListN.{length};
 ghost use Rattle.names.specs.Names.{count, nameAt, ruleOf};
-ghost use Rattle.names.specs.inner.Table.{nameTable, endsBlank, Ordered, StandsAt, replied};
+ghost use Rattle.names.specs.inner.Table.{nameTable, endsBlank, Ordered, StandsAt, hasName, ruleAt, replied};
 
 // The crate rules' numbers. A number below the first is that of a row of overloads.
 pub const RULE_BITCAST: u8 = 100;
@@ -108,23 +108,51 @@ fn row_of(rows: &[u8], name: &[u8], lines: usize) -> usize
     lines
 }
 
-// The number of the rule that the name with these bytes has in a profile, and whether its result is running. For the crates above, which lend the table: a host calls nothing of this crate.
-pub fn rule_of(rows: &[u8], profile: u32, name: &[u8]) -> RuleNo
+// The row that has the name with these bytes, or their count where none has.
+pub fn find(rows: &[u8], name: &[u8]) -> usize
     requires { ⌜ now rows ≡ nameTable ⌝ }
-    ensures { λ r. ⌜ r ≡ replied (ruleOf profile (now (name .entry))) ⌝ }
+    ensures { λ r. ⌜ StandsAt (now (name .entry)) r ⌝ }
+{
+    let lines = tables::lines();
+    if NAME_WIDTH < name.len() {
+        return lines;
+    }
+    if ends_blank(name) {
+        return lines;
+    }
+    row_of(rows, name, lines)
+}
+
+// Whether a row has the name with these bytes: it need be no row at all.
+pub fn has_name(rows: &[u8], row: usize, name: &[u8]) -> bool
+    requires { ⌜ now rows ≡ nameTable ⌝ }
+    ensures { λ r. ⌜ r ≡ hasName row (now (name .entry)) ⌝ }
+{
+    if tables::lines() <= row {
+        return false;
+    }
+    if NAME_WIDTH < name.len() {
+        return false;
+    }
+    if ends_blank(name) {
+        return false;
+    }
+    match compared(rows, row, name) {
+        Side::Before => false,
+        Side::Same => true,
+        Side::After => false,
+    }
+}
+
+// The number of the rule that the name of a row has in a profile, and whether its result is running.
+pub fn rule_at(rows: &[u8], profile: u32, row: usize) -> RuleNo
+    requires { ⌜ now rows ≡ nameTable ⌝ }
+    ensures { λ r. ⌜ r ≡ replied (ruleAt profile row) ⌝ }
 {
     if PROFILES <= profile {
         return RuleNo::Unknown;
     }
-    if NAME_WIDTH < name.len() {
-        return RuleNo::Unknown;
-    }
-    if ends_blank(name) {
-        return RuleNo::Unknown;
-    }
-    let lines = tables::lines();
-    let row = row_of(rows, name, lines);
-    if lines <= row {
+    if tables::lines() <= row {
         return RuleNo::Unknown;
     }
     let number = row * LINE_WIDTH + NAME_WIDTH;
@@ -135,4 +163,12 @@ pub fn rule_of(rows: &[u8], profile: u32, name: &[u8]) -> RuleNo
         rule: rows[number],
         running: rows[number + MARK_AT] == MARK_RUNNING,
     }
+}
+
+// The same of the name with these bytes. For the crates above, which lend the table: a host calls nothing of this crate.
+pub fn rule_of(rows: &[u8], profile: u32, name: &[u8]) -> RuleNo
+    requires { ⌜ now rows ≡ nameTable ⌝ }
+    ensures { λ r. ⌜ r ≡ replied (ruleOf profile (now (name .entry))) ⌝ }
+{
+    rule_at(rows, profile, find(rows, name))
 }

@@ -25,8 +25,8 @@ use Rattle.sheet.specs.declared.Turn.the-variants as turn
 use Rattle.step.specs.Effect.{most, State, Effect, goes, silent, ends, stops, effectOf}
 use Rattle.sheet.specs.Machine.{after, more, done, turnOf, onward, runItems, endMark, onwardMark, runsItems, begun, typeSheet}
 use Rattle.step.specs.inner.Code.{stateOf, Good, Ready}
-use Rattle.memo.specs.inner.Quick.{WentAt, QuickAt}
-use Rattle.sheet.specs.inner.Code.{turnBy, DoneMarked, TurnCounted, Turns, Rushes}
+use Rattle.memo.specs.inner.Quick.{WentIn, WentAt, QuickAt, CallAt}
+use Rattle.sheet.specs.inner.Code.{turnBy, DoneMarked, TurnCounted, Turns, RushesIn}
 use Rattle.step.specs.Kept.{Grew, Needed}
 use Rattle.sheet.specs.declared.Rushed.{Rushed}
 use Rattle.step.proofs.Keeping.{item-kept}
@@ -120,8 +120,8 @@ module _ (profile : ℕ) (s w₀ : List ℕ) (n₀ : ℕ) (w vals : List ℕ) (c
   st = stateOf count vals n w
 
   -- after quick items
-  pub left-rushed : (r : Rushed) → Rushes s at count vals n w r vals' → Left profile s w₀ n₀ w vals' (r .count) n (r .at .0)
-  left-rushed r h = record { long = l .long; ready = h .ready; rest = h .rest profile ∙ l .rest; mark = h .mark profile ∙ l .mark }
+  pub left-rushed : (r : Rushed) → RushesIn profile s at count vals n w r vals' → Left profile s w₀ n₀ w vals' (r .count) n (r .at .0)
+  left-rushed r h = record { long = l .long; ready = h .ready; rest = h .rest ∙ l .rest; mark = h .mark ∙ l .mark }
 
   module _ (w' : List ℕ) where
     module _ (c u : ℕ) (p : Place) (t : Turns (turnOf profile s (itemAt s at) st) (endMark (effectOf profile at st s (itemAt s at .item))) (itemAt s at .next .0) (turn.More c u p) vals' w') where
@@ -156,48 +156,60 @@ module _ (profile : ℕ) (s w₀ : List ℕ) (n₀ : ℕ) (w vals : List ℕ) (c
 
 -- QUICK ITEMS: one more leaves the rest as it was
 
-module _ (s : List ℕ) (at count : ℕ) (vals : List ℕ) (used : ℕ) (w : List ℕ) (r bytes : ℕ) (vals' : List ℕ) (q : QuickAt s at count vals used w r bytes vals') where
-  pub quick-stays : r ≡ 0 → vals' ≡ vals
-  quick-stays e = go (q .went)
-    where
-      go : ((r ≡ 0) × (vals' ≡ vals)) ⊎ WentAt s at count vals used w r bytes vals' → vals' ≡ vals
-      go (inl z) = z .1
-      go (inr z) = let b = z .some in absurd (omega (arith, e, b))
+module _ {X : Type 0} {r : ℕ} {vals vals' : List ℕ} (some : X → 1 ≤ r) where
+  stayed : r ≡ 0 → ((r ≡ 0) × (vals' ≡ vals)) ⊎ X → vals' ≡ vals
+  stayed e (inl z) = z .1
+  stayed e (inr z) = let b = some z in absurd (omega (arith, e, b))
 
-  pub quick-went : r ≢ 0 → WentAt s at count vals used w r bytes vals'
-  quick-went k = go (q .went)
-    where
-      go : ((r ≡ 0) × (vals' ≡ vals)) ⊎ WentAt s at count vals used w r bytes vals' → WentAt s at count vals used w r bytes vals'
-      go (inl z) = absurd (k (z .0))
-      go (inr z) = z
+  moved : r ≢ 0 → ((r ≡ 0) × (vals' ≡ vals)) ⊎ X → X
+  moved k (inl z) = absurd (k (z .0))
+  moved k (inr z) = z
 
-module _ (s : List ℕ) (from at : ℕ) (high count : ℕ) (vals₀ vals : List ℕ) (used : ℕ) (w : List ℕ) (h : Rushes s from high vals₀ used w (record { at = record { 0 = at }; count = count }) vals)
-    (c bytes : ℕ) (vals' : List ℕ) (g : WentAt s at count vals used w c bytes vals') where
-  abbrev now : State
-  now = stateOf count vals used w
+module _ (s : List ℕ) (at count : ℕ) (vals : List ℕ) (used : ℕ) (w : List ℕ) (r bytes : ℕ) (vals' : List ℕ) where
+  pub quick-stays : QuickAt s at count vals used w r bytes vals' → r ≡ 0 → vals' ≡ vals
+  quick-stays q e = stayed {X = WentAt s at count vals used w r bytes vals'} (λ z. z 0 .some) e (q .went)
 
-  turns : (profile : ℕ) → turnOf profile s (itemAt s at) now ≡ more (stateOf c vals' used w)
-  unfolding turnOf after
-  turns profile = ap (λ (p : Place). after s (p .0) (itemAt s at .next .0) (effectOf profile (p .0) now s (itemAt s at .item))) (own-place s at) ∙ ap (after s at (itemAt s at .next .0)) (g .effect profile)
+  pub quick-went : QuickAt s at count vals used w r bytes vals' → r ≢ 0 → WentAt s at count vals used w r bytes vals'
+  quick-went q k = moved {X = WentAt s at count vals used w r bytes vals'} (λ z. z 0 .some) k (q .went)
 
-  -- it has bytes
-  pub rush-further : at < at + bytes
-  rush-further = let f = run-forward 0 s at now (stateOf c vals' used w) (turns 0) .0 in omega (arith, f, g .next)
+  pub call-stays : (profile : ℕ) → CallAt profile s at count vals used w r bytes vals' → r ≡ 0 → vals' ≡ vals
+  call-stays profile q e = stayed {X = WentIn profile s at count vals used w r bytes vals'} (λ z. z .some) e (q .went)
 
-  pub rush-on : length vals' ≡ length vals → Rushes s from high vals₀ used w (record { at = record { 0 = at + bytes }; count = c }) vals'
-  rush-on a =
-      let k = turn-kept 0 s (itemAt s at) now (stateOf c vals' used w) (turns 0) (h .ready .good) in
-      let b = h .onward in
-      record {
-        ready = record { size = a ∙ h .ready .size; fits = g .high; good = k .0 };
-        rest = λ profile.
-            sym (ap (λ (n : ℕ). runItems profile s (itemsFrom s n) (stateOf c vals' used w)) (g .next))
-            ∙ sym (run-more profile s at now (stateOf c vals' used w) (turns profile)) ∙ h .rest profile;
-        mark = λ profile.
-            sym (ap (λ (n : ℕ). runsItems profile s (itemsFrom s n) (stateOf c vals' used w)) (g .next))
-            ∙ sym (mark-more profile s at now (stateOf c vals' used w) (turns profile)) ∙ h .mark profile;
-        onward = omega (arith, b);
-      }
+  pub call-went : (profile : ℕ) → CallAt profile s at count vals used w r bytes vals' → r ≢ 0 → WentIn profile s at count vals used w r bytes vals'
+  call-went profile q k = moved {X = WentIn profile s at count vals used w r bytes vals'} (λ z. z .some) k (q .went)
+
+module _ (profile : ℕ) (s : List ℕ) (from at : ℕ) (high count : ℕ) (vals₀ vals : List ℕ) (used : ℕ) (w : List ℕ)
+    (h : RushesIn profile s from high vals₀ used w (record { at = record { 0 = at }; count = count }) vals) where
+  -- then others
+  pub rush-join : (r : Rushed) (vals' : List ℕ) → RushesIn profile s at count vals used w r vals' → RushesIn profile s from high vals₀ used w r vals'
+  rush-join r vals' g =
+      let a = h .onward in
+      let b = g .onward in
+      record { ready = g .ready; rest = g .rest ∙ h .rest; mark = g .mark ∙ h .mark; onward = omega arith }
+
+  -- then one that went
+  module _ (c bytes : ℕ) (vals' : List ℕ) (g : WentIn profile s at count vals used w c bytes vals') where
+    abbrev now : State
+    now = stateOf count vals used w
+
+    turns : turnOf profile s (itemAt s at) now ≡ more (stateOf c vals' used w)
+    unfolding turnOf after
+    turns = ap (λ (p : Place). after s (p .0) (itemAt s at .next .0) (effectOf profile (p .0) now s (itemAt s at .item))) (own-place s at) ∙ ap (after s at (itemAt s at .next .0)) (g .effect)
+
+    -- it has bytes
+    pub rush-further : at < at + bytes
+    rush-further = let f = run-forward profile s at now (stateOf c vals' used w) turns .0 in omega (arith, f, g .next)
+
+    pub rush-on : length vals' ≡ length vals → RushesIn profile s from high vals₀ used w (record { at = record { 0 = at + bytes }; count = c }) vals'
+    rush-on a =
+        let k = turn-kept profile s (itemAt s at) now (stateOf c vals' used w) turns (h .ready .good) in
+        let b = h .onward in
+        record {
+          ready = record { size = a ∙ h .ready .size; fits = g .high; good = k .0 };
+          rest = sym (ap (λ (n : ℕ). runItems profile s (itemsFrom s n) (stateOf c vals' used w)) (g .next)) ∙ sym (run-more profile s at now (stateOf c vals' used w) turns) ∙ h .rest;
+          mark = sym (ap (λ (n : ℕ). runsItems profile s (itemsFrom s n) (stateOf c vals' used w)) (g .next)) ∙ sym (mark-more profile s at now (stateOf c vals' used w) turns) ∙ h .mark;
+          onward = omega (arith, b);
+        }
 
 -- A SHEET, test by test
 

@@ -22,7 +22,7 @@ ghost use Rattle.sheet.specs.Machine.{endAnswer, leftAnswer, turnOf, end
 ghost use Rattle.memo.specs.inner.Memo.{Recalls};
 ghost use Rattle.step.specs.Effect.{effectOf};
 ghost use Rattle.step.specs.inner.Code.{stateOf, Ready, Counted};
-ghost use Rattle.sheet.specs.inner.Code.{TurnsBy, Turns, AfterTurn, Rushes};
+ghost use Rattle.sheet.specs.inner.Code.{TurnsBy, Turns, AfterTurn, Rushes, RushesIn};
 
 // A call's name, as that part of the lent sheet.
 pub use frame::call_name;
@@ -155,6 +155,47 @@ fn rush(
     }
 }
 
+// The items from a place on, as long as they are quick or calls that the memo has.
+fn rush_calls(
+    version: u8,
+    items: &[u8],
+    rows: &[u8],
+    profile: u32,
+    from: Place,
+    stack: &mut [u32],
+    count: usize,
+    table: &[u32],
+    used: usize,
+    memo: &[u64],
+) -> Rushed
+    requires { ⌜ Ready count (now stack) used (now table) × Recalls (now memo) (now table) used × (now rows ≡ nameTable) ⌝ }
+    ensures { λ r. ⌜ RushesIn profile (sheetOf version (now (items .entry))) (from .0) count (now (stack .entry)) used (now (table .entry)) r (now (stack .exit)) ⌝ }
+{
+    let mut at = from.0;
+    let mut count = count;
+    loop {
+        let r = rush(version, items, Place(at), stack, count, table, used, memo);
+        let went = memo::call_at(
+            version,
+            items,
+            rows,
+            profile,
+            r.at,
+            stack,
+            r.count,
+            table,
+            used,
+            memo,
+        );
+        if went.count == 0 {
+            return r;
+        }
+        let left = r.at;
+        at = left.0 + went.bytes;
+        count = went.count;
+    }
+}
+
 // The items from the first to the end, or to the first that is refused, over a stack of no values and a memo that has nothing.
 fn run_on(
     version: u8,
@@ -173,7 +214,18 @@ fn run_on(
     let mut used = used;
     let mut at = HEADER;
     loop {
-        let r = rush(version, items, Place(at), stack, count, table, used, memo);
+        let r = rush_calls(
+            version,
+            items,
+            rows,
+            profile,
+            Place(at),
+            stack,
+            count,
+            table,
+            used,
+            memo,
+        );
         match one_turn(
             version,
             items,

@@ -1,82 +1,51 @@
--- `memo::asked_call` meets its contract: the rule of the name, on as many operands as the call has. Assumes nothing.
-use Prim.Native.Nat.{ℕ, _+_}
-use Rattle.memo.proofs.Asking.{neither, call-asked}
-use Rattle.names.specs.Names.{ruleOf}
-use Rattle.names.proofs.Rules.{said-rule}
-use borrow.Author.Tests.{ltb-false}
-use mathlib.Core.Path.{sym, _∙_, ap}
-use mathlib.Core.Logic.{inl}
-use Rattle.frame.specs.inner.Items.{sheetOf}
+-- `memo::asked_call` meets its contract: the call asks by the row where its name stands, and what is written is a hint. Assumes nothing.
+use Rattle.memo.proofs.MemoLaws.{hinted}
+use Rattle.names.specs.inner.Table.{StandsAt}
 use Rattle.frame.proofs.Parts.{name-bytes}
+use Rattle.frame.specs.inner.Items.{sheetOf}
+use Prim.Native.Nat.{ℕ}
+use mathlib.Core.List.{List}
+use mathlib.Core.Path.{subst}
 use borrow.Author.Needs.{needs}
 use Rattle.memo.proofs.asked_call.Statement.{statement}
 use Rattle.memo.proofs.asked_call.Tie as tie
 
-no-ask-requires : tie.Need-no-ask-requires
-no-ask-requires c κs = search needs
-
-returns : tie.Need-returns
-returns c = record { asks = inl (c .no-ask .ensures) }
-
 name-in-requires : tie.Need-name-in-requires
 name-in-requires c κs = search needs
 
-rule-of-requires : tie.Need-rule-of-requires
-rule-of-requires c κs = search needs
+find-requires : tie.Need-find-requires
+find-requires c κs = search needs
 
-enum-known-rule : tie.Need-enum-known-rule
-enum-known-rule c = search needs
+hint-of-requires : tie.Need-hint-of-requires
+hint-of-requires c κs = search needs
 
-no-ask-requires-2 : tie.Need-no-ask-requires-2
-no-ask-requires-2 c κs = search needs
+mul-memo : tie.Need-mul-memo
+mul-memo c = search needs
 
-returns-2 : tie.Need-returns-2
-returns-2 c = record { asks = inl (c .no-ask2 .ensures) }
+slice-write-memo : tie.Need-slice-write-memo
+slice-write-memo c = search needs
 
-wide32-requires : tie.Need-wide32-requires
-wide32-requires c κs = search needs
+asked-row-requires : tie.Need-asked-row-requires
+asked-row-requires c κs = search needs
 
-add-word64 : tie.Need-add-word64
-add-word64 c = search needs
+same-length : tie.Need-same-length
+same-length c = search needs
 
-word64-requires : tie.Need-word64-requires
-word64-requires c κs = search needs
-
-wide-requires : tie.Need-wide-requires
-wide-requires c κs = search needs
-
-enum-told : tie.Need-enum-told
-enum-told c = search needs
-
-no-ask-requires-3 : tie.Need-no-ask-requires-3
-no-ask-requires-3 c κs = search needs
-
-returns-3 : tie.Need-returns-3
-returns-3 c = let a = c .before .before .before .before .before .before .before .before .before .before .before .before .args in
-    let n = neither _ _ (c .before .before .before .before .before .before .before .before .before .if1 .left) in
-    let g = c .before .before .before .before .before .rule .given in
-    let e = ap (ruleOf (a .profile)) (sym (name-bytes (a .version) (a .items .now) (a .name) (c .before .before .before .before .before .before .before .before .before .before .before .before .pre .0 .0) (c .before .before .before .before .before .before .before .before .name-in .ensures .bytes))) ∙ said-rule (a .profile) _ _ (sym (c .before .before .before .before .before .before .before .rule-of .ensures) ∙ g .1) in
-    call-asked (a .profile) (sheetOf (a .version) (a .items .now)) (a .name) (a .k) (g .0 .0) (g .0 .1 .0) (c .before .word64 .result) (c .wide .result) (ltb-false _ _ (n .0)) (ltb-false _ _ (n .1)) (c .before .before .before .if2 .left) e (c .before .word64 .ensures ∙ ap (λ (x : ℕ). 24 + x) (c .before .before .wide32 .ensures)) (c .wide .ensures)
-
-returns-4 : tie.Need-returns-4
-returns-4 c = record { asks = inl (c .no-ask3 .ensures) }
+returns : tie.Need-returns
+returns c = let a = c .before .before .before .before .before .before .before .args in
+    let row = c .before .before .find .result in
+    let b = name-bytes (a .version) (a .items .now) (a .name) (c .before .before .before .before .before .before .before .pre .0 .0) (c .before .before .before .name-in .ensures .bytes) in
+    (c .asked-row .ensures .asks (sheetOf (a .version) (a .items .now)) (a .name) (subst (λ (y : List ℕ). StandsAt y row) b (c .before .before .find .ensures)), hinted (a .memo .now) (c .before .hint-of .result) row (c .before .hint-of .ensures .0))
 
 pub asked-call-spec : {M : Type 1} → statement M
 asked-call-spec =
     tie.close
     (tie.spec
-    no-ask-requires
-    returns
     name-in-requires
-    rule-of-requires
-    enum-known-rule
-    no-ask-requires-2
-    returns-2
-    wide32-requires
-    add-word64
-    word64-requires
-    wide-requires
-    enum-told
-    no-ask-requires-3
-    returns-3
-    returns-4)
+    find-requires
+    hint-of-requires
+    mul-memo
+    slice-write-memo
+    asked-row-requires
+    same-length
+    returns)

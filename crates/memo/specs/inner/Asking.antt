@@ -10,8 +10,11 @@ use Rattle.overload.specs.Marks.{anyRunning}
 use Rattle.held.specs.Held.{numberOf}
 use Rattle.call_ty.specs.Calls.{numbers, marksOf, types}
 use Rattle.frame.specs.Frame.{marked}
+use Rattle.frame.specs.declared.Part.{Part}
 use Rattle.frame.specs.declared.Item.{Item}
-use Rattle.step.specs.Effect.{most, State, height, operands, below, onto, effectOf}
+use Rattle.frame.specs.declared.Item.the-variants.{Call}
+use Rattle.names.specs.inner.Table.{StandsAt}
+use Rattle.step.specs.Effect.{most, State, height, operands, below, onto, bytesOf, effectOf}
 use Rattle.memo.specs.inner.Memo.{Question, codeOf, On, typed, digits, keyOf}
 
 -- the numbers of the stack's values are bytes, as those of a table of 256 entries are
@@ -39,6 +42,10 @@ pub record AskedBy (profile : ℕ) (s : List ℕ) (i : Item) (code k : ℕ) (run
 
 pub record Asks (profile : ℕ) (s : List ℕ) (i : Item) (code k : ℕ) (runs : Bool) : Type 0 where
   pub asks : (code ≡ 0) ⊎ AskedBy profile s i code k runs
+
+-- a row of the names asks on k operands: every call of the name that stands there
+pub record AsksRow (profile row k code j : ℕ) (runs : Bool) : Type 0 where
+  pub asks : (s : List ℕ) (name : Part) → StandsAt (bytesOf s name) row → Asks profile s (Call k name) code j runs
 
 -- the last k of `count` values; their key under a code, and the mark of what it asks
 abbrev pub lastOf : ℕ → ℕ → List ℕ → List ℕ

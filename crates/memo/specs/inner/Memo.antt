@@ -25,6 +25,10 @@ slots = 256
 abbrev pub nothing : ℕ
 nothing = 256
 
+-- how many numbers the memo has: behind the slots stand the hints, rows in which names were found. Nothing is known of them: whether a row has a name is asked of the names
+abbrev pub room : ℕ
+room = 320
+
 -- what is asked: a binary operator, a unary one, or a builtin by the number of its rule
 pub data Question : Type 0 where
   binary : ℕ → Question
@@ -90,8 +94,13 @@ pub record Holds (w : List ℕ) (n x : ℕ) : Type 0 where
       → Under n (numbersIn ds) × (t < n) × Gives q (types w (numbersIn ds)) (marksIn ds) (typeAt w t)
 
 pub record Recalls (memo w : List ℕ) (n : ℕ) : Type 0 where
-  pub size : length memo ≡ slots
+  pub size : length memo ≡ room
   pub holds : (i : ℕ) → i < slots → Holds w n (getD memo i 0)
+
+-- what a hint that is written promises: every slot has what it had
+pub record Hinted (memo after : List ℕ) : Type 0 where
+  pub size : length after ≡ length memo
+  pub each : (i : ℕ) → i < slots → getD after i 0 ≡ getD memo i 0
 
 -- what looking a key up promises: nothing, or a value that a slot has with this key
 pub record Recalled (memo : List ℕ) (key r : ℕ) : Type 0 where

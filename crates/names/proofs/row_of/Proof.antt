@@ -65,6 +65,7 @@ returns c =
     let l : m < count = omega (arith, s .pre .3, c .before .before .before .loop-test .taken) in
     let b = subst (λ (x : Side). Ordered x (nameAt m) (a .name .now)) (c .enum-told2 .given .1) (c .before .before .compared .ensures) in
     record {
+      within = omega arith;
       there = λ h. row-named m h (a .name .now) (s .pre .1) (s .pre .2) b;
       nowhere = λ h. absurd (omega arith);
     }
@@ -98,7 +99,7 @@ returns-2 : tie.Need-returns-2 Inv-loop μ-loop
 returns-2 c =
     let e = c .before .before .before .before .pre .3 in
     let g = c .before .loop in
-    record { there = λ h. absurd (omega arith); nowhere = λ h k l. gone (g .low) (g .high) (c .before .before .before .before .args .name .now) (c .loop-test .left) (g .inv .1) (g .inv .2) k l }
+    record { within = omega arith; there = λ h. absurd (omega arith); nowhere = λ h k l. gone (g .low) (g .high) (c .before .before .before .before .args .name .now) (c .loop-test .left) (g .inv .1) (g .inv .2) k l }
 
 pub row-of-spec : {M : Type 1} → statement M
 row-of-spec =

@@ -1,13 +1,13 @@
 -- What the code's constant holds: a line for each name. The promise of a call is read without it. Assumes nothing.
 use Prim.Native.Nat.{ℕ, zero, suc, _-_, _≤_, _<_}
 use mathlib.Core.Path.{_≡_}
-use mathlib.Core.Bool.{Bool, cond}
+use mathlib.Core.Bool.{Bool, _&&_, cond}
 use mathlib.Core.List.{List, [], _∷_, _++_}
 use lib.Dec.{T, eqb, ltb}
 use lib.ListN.{length, getD}
 use Rattle.overload.specs.Rows.{Ruling, rowAt}
 use Rattle.overload.specs.Rows.Ruling.{byRow, address, indirection}
-use Rattle.names.specs.Names.{Rule, Name, names, before, count, nameAt, Named}
+use Rattle.names.specs.Names.{Rule, Name, names, noName, before, sameBytes, count, nameAt, Named, ruleFor}
 use Rattle.names.specs.Names.Rule.{ruling, bitcast, arrayLength, ldexp, barrier}
 use Rattle.names.specs.Names.Named.{rule, unknown}
 use Rattle.names.specs.declared.RuleNo.{RuleNo}
@@ -84,5 +84,14 @@ Ordered After s t = T (before (filled nameWidth t) (filled nameWidth s))
 
 -- where a name stands: at the row that has it, or past the last where none has
 pub record StandsAt (s : List ℕ) (r : ℕ) : Type 0 where
+  pub within : r ≤ count
   pub there : r < count → nameAt r ≡ s
   pub nowhere : count ≤ r → (k : ℕ) → k < count → nameAt k ≡ s → ⊥
+
+-- whether a row has a name, byte for byte
+unfoldable pub hasName : ℕ → List ℕ → Bool
+hasName k s = ltb k count && sameBytes (nameAt k) s
+
+-- THE RULE OF A ROW: that of its name in a profile; past the last there is none
+unfoldable pub ruleAt : ℕ → ℕ → Named
+ruleAt profile k = cond (ltb k count) (ruleFor profile (getD names k noName)) unknown

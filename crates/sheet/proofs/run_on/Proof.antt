@@ -20,11 +20,11 @@ abbrev μ-loop : tie.MeasureT-loop
 loop-holds : tie.Need-loop-holds Inv-loop μ-loop
 loop-holds c = let a = c .before .before .before .before .before .args in (left-start (a .profile) (sheetOf (a .version) (a .items .now)) (a .table .now) (a .used) (a .stack .now) (c .before .before .before .before .before .pre .0) (c .before .before .before .before .before .pre .1), c .before .before .before .before .before .pre .2)
 
-rush-requires : tie.Need-rush-requires Inv-loop μ-loop
-rush-requires c κs = (c .before .before .before .loop .inv .0 .ready, c .before .before .before .loop .inv .1)
+rush-calls-requires : tie.Need-rush-calls-requires Inv-loop μ-loop
+rush-calls-requires c κs = (c .before .before .before .loop .inv .0 .ready, c .before .before .before .loop .inv .1, c .before .before .before .before .before .before .before .before .before .pre .3)
 
 one-turn-requires : tie.Need-one-turn-requires Inv-loop μ-loop
-one-turn-requires c κs = (c .before .before .before .before .before .rush .ensures .ready, c .before .before .before .before .before .before .before .before .before .loop .inv .1, c .before .before .before .before .before .before .before .before .before .before .before .before .before .before .before .pre .3)
+one-turn-requires c κs = (c .before .before .before .before .before .rush-calls .ensures .ready, c .before .before .before .before .before .before .before .before .before .loop .inv .1, c .before .before .before .before .before .before .before .before .before .before .before .before .before .before .before .pre .3)
 
 enum-known-c : tie.Need-enum-known-c Inv-loop μ-loop
 enum-known-c c = search needs
@@ -32,7 +32,7 @@ enum-known-c c = search needs
 loop-less : tie.Need-loop-less Inv-loop μ-loop
 loop-less c = let a = c .before .before .before .before .before .before .before .before .before .before .before .before .before .before .before .before .before .before .before .before .before .before .before .before .before .args in
     let l = c .before .before .before .before .before .before .before .before .before .before .before .before .before .before .before .before .before .before .before .loop in
-    let r = c .before .before .before .before .before .before .before .before .before .before .before .before .before .before .before .rush in
+    let r = c .before .before .before .before .before .before .before .before .before .before .before .before .before .before .before .rush-calls in
     let e = c .before .c .given in
     let L = left-rushed (a .profile) (sheetOf (a .version) (a .items .now)) (a .table .now) (a .used) (l .table) (l .stack) (l .count) (l .used) (l .at) (l .inv .0) _ (r .result) (r .ensures) in
     let f = left-less (a .profile) (sheetOf (a .version) (a .items .now)) (a .table .now) (a .used) (l .table) _ (r .result .count) (l .used) (r .result .at .0) L _ _ (e .0 .0) (e .0 .1 .0) (e .0 .1 .1 .0) (rw (e .1) at (c .before .before .before .before .before .before .before .before .before .one-turn .ensures .0)) in
@@ -42,7 +42,7 @@ loop-again : tie.Need-loop-again Inv-loop μ-loop
 unfolding AfterTurn
 loop-again c = let a = c .before .before .before .before .before .before .before .before .before .before .before .before .before .before .before .before .before .before .before .before .before .before .before .before .before .args in
     let l = c .before .before .before .before .before .before .before .before .before .before .before .before .before .before .before .before .before .before .before .loop in
-    let r = c .before .before .before .before .before .before .before .before .before .before .before .before .before .before .before .rush in
+    let r = c .before .before .before .before .before .before .before .before .before .before .before .before .before .before .before .rush-calls in
     let e = c .before .c .given in
     let L = left-rushed (a .profile) (sheetOf (a .version) (a .items .now)) (a .table .now) (a .used) (l .table) (l .stack) (l .count) (l .used) (l .at) (l .inv .0) _ (r .result) (r .ensures) in
     (left-again (a .profile) (sheetOf (a .version) (a .items .now)) (a .table .now) (a .used) (l .table) _ (r .result .count) (l .used) (r .result .at .0) L _ _ (e .0 .0) (e .0 .1 .0) (e .0 .1 .1 .0) (rw (e .1) at (c .before .before .before .before .before .before .before .before .before .one-turn .ensures .0)) (c .before .before .before .before .before .before .before .before .before .one-turn .kept .1 .1 .1 .1 .1 .0) (c .before .before .before .before .before .before .before .before .before .one-turn .kept .1 .1 .1 .1 .1 .1 .1 .0), rw (e .1) at (c .before .before .before .before .before .before .before .before .before .one-turn .ensures .1))
@@ -54,7 +54,7 @@ same-length : tie.Need-same-length Inv-loop μ-loop
 same-length c = c .before .before .before .before .before .before .before .before .before .one-turn .kept .1 .1 .1 .1 .1 .1 .1 .0 ∙ c .before .before .before .before .before .before .before .before .before .before .before .before .before .before .before .before .before .before .before .loop .inv .0 .long
 
 same-length-2 : tie.Need-same-length-2 Inv-loop μ-loop
-same-length-2 c = c .before .before .before .before .before .before .before .before .before .one-turn .kept .1 .1 .1 .1 .1 .0 ∙ c .before .before .before .before .before .before .before .before .before .before .before .before .before .before .before .rush .ensures .ready .size ∙ sym (c .before .before .before .before .before .before .before .before .before .before .before .before .before .before .before .before .before .before .before .before .before .before .before .before .before .pre .1)
+same-length-2 c = c .before .before .before .before .before .before .before .before .before .one-turn .kept .1 .1 .1 .1 .1 .0 ∙ c .before .before .before .before .before .before .before .before .before .before .before .before .before .before .before .rush-calls .ensures .ready .size ∙ sym (c .before .before .before .before .before .before .before .before .before .before .before .before .before .before .before .before .before .before .before .before .before .before .before .before .before .pre .1)
 
 same-length-3 : tie.Need-same-length-3 Inv-loop μ-loop
 same-length-3 c = c .before .before .before .before .before .before .before .before .before .one-turn .kept .1 .1 .1 .1 .1 .1 .1 .1 .1 .0 ∙ c .before .before .before .before .before .before .before .before .before .before .before .before .before .before .before .before .before .before .before .loop .inv .1 .size ∙ sym (c .before .before .before .before .before .before .before .before .before .before .before .before .before .before .before .before .before .before .before .before .before .before .before .before .before .pre .2 .size)
@@ -62,7 +62,7 @@ same-length-3 c = c .before .before .before .before .before .before .before .bef
 returns : tie.Need-returns Inv-loop μ-loop
 returns c = let a = c .before .before .before .before .before .before .before .before .before .before .before .before .before .before .before .before .before .before .before .before .before .before .before .before .before .args in
     let l = c .before .before .before .before .before .before .before .before .before .before .before .before .before .before .before .before .before .before .before .loop in
-    let r = c .before .before .before .before .before .before .before .before .before .before .before .before .before .before .before .rush in
+    let r = c .before .before .before .before .before .before .before .before .before .before .before .before .before .before .before .rush-calls in
     let e = c .before .a .given in
     let L = left-rushed (a .profile) (sheetOf (a .version) (a .items .now)) (a .table .now) (a .used) (l .table) (l .stack) (l .count) (l .used) (l .at) (l .inv .0) _ (r .result) (r .ensures) in
     left-done (a .profile) (sheetOf (a .version) (a .items .now)) (a .table .now) (a .used) (l .table) _ (r .result .count) (l .used) (r .result .at .0) L _ _ (e .0 .0) (rw (e .1) at (c .before .before .before .before .before .before .before .before .before .one-turn .ensures .0))
@@ -74,7 +74,7 @@ run-on-spec =
     Inv-loop
     μ-loop
     loop-holds
-    rush-requires
+    rush-calls-requires
     one-turn-requires
     enum-known-c
     loop-less

@@ -19,13 +19,13 @@ abbrev μ-loop : tie.MeasureT-loop
 μ-loop version items stack₀ high table used memo at₀ count₀ stack at count = length (sheetOf version items) - at
 
 loop-holds : tie.Need-loop-holds Inv-loop μ-loop
-loop-holds c = record { ready = c .before .before .before .before .pre .0; rest = λ profile. refl; mark = λ profile. refl; onward = omega arith }
+loop-holds c = λ profile. record { ready = c .before .before .before .before .pre .0; rest = refl; mark = refl; onward = omega arith }
 
 quick-at-requires : tie.Need-quick-at-requires Inv-loop μ-loop
-quick-at-requires c κs = (c .before .loop .inv .ready, c .before .before .before .before .before .before .pre .1)
+quick-at-requires c κs = (c .before .loop .inv 0 .ready, c .before .before .before .before .before .before .pre .1)
 
 same-length : tie.Need-same-length Inv-loop μ-loop
-same-length c = c .before .before .before .before .quick-at .kept .1 .1 .1 .0 ∙ c .before .before .before .before .before .before .loop .inv .ready .size ∙ sym (c .before .before .before .before .before .before .before .before .before .before .before .pre .0 .size)
+same-length c = c .before .before .before .before .quick-at .kept .1 .1 .1 .0 ∙ c .before .before .before .before .before .before .loop .inv 0 .ready .size ∙ sym (c .before .before .before .before .before .before .before .before .before .before .before .pre .0 .size)
 
 returns : tie.Need-returns Inv-loop μ-loop
 returns c = let a = c .before .before .before .before .before .before .before .before .before .before .before .args in
@@ -36,7 +36,7 @@ returns c = let a = c .before .before .before .before .before .before .before .b
 add-at : tie.Need-add-at Inv-loop μ-loop
 add-at c = let a = c .before .before .before .before .before .before .before .before .before .before .before .before .args in
     let l = c .before .before .before .before .before .before .before .loop in
-    let h = quick-went (sheetOf (a .version) (a .items .now)) (l .at) (l .count) (l .stack) (a .used) (a .table .now) (c .before .before .before .before .before .quick-at .result .count) (c .before .before .before .before .before .quick-at .result .bytes) _ (c .before .before .before .before .before .quick-at .ensures) (c .before .if1 .left) .within in
+    let h = quick-went (sheetOf (a .version) (a .items .now)) (l .at) (l .count) (l .stack) (a .used) (a .table .now) (c .before .before .before .before .before .quick-at .result .count) (c .before .before .before .before .before .quick-at .result .bytes) _ (c .before .before .before .before .before .quick-at .ensures) (c .before .if1 .left) 0 .within in
     let n = whole-length (a .version) (a .items .now) in
     search needs
 
@@ -44,14 +44,14 @@ loop-less : tie.Need-loop-less Inv-loop μ-loop
 loop-less c = let a = c .before .before .before .before .before .before .before .before .before .before .before .before .args in
     let l = c .before .before .before .before .before .before .before .loop in
     let h = quick-went (sheetOf (a .version) (a .items .now)) (l .at) (l .count) (l .stack) (a .used) (a .table .now) (c .before .before .before .before .before .quick-at .result .count) (c .before .before .before .before .before .quick-at .result .bytes) _ (c .before .before .before .before .before .quick-at .ensures) (c .before .if1 .left) in
-    let f = rush-further (sheetOf (a .version) (a .items .now)) (a .from .0) (l .at) (a .count) (l .count) (a .stack .now) (l .stack) (a .used) (a .table .now) (l .inv) (c .before .before .before .before .before .quick-at .result .count) (c .before .before .before .before .before .quick-at .result .bytes) _ h in
-    omega (arith, h .within, f)
+    let f = rush-further 0 (sheetOf (a .version) (a .items .now)) (a .from .0) (l .at) (a .count) (l .count) (a .stack .now) (l .stack) (a .used) (a .table .now) (l .inv 0) (c .before .before .before .before .before .quick-at .result .count) (c .before .before .before .before .before .quick-at .result .bytes) _ (h 0) in
+    omega (arith, h 0 .within, f)
 
 loop-again : tie.Need-loop-again Inv-loop μ-loop
 loop-again c = let a = c .before .before .before .before .before .before .before .before .before .before .before .before .args in
     let l = c .before .before .before .before .before .before .before .loop in
     let g = quick-went (sheetOf (a .version) (a .items .now)) (l .at) (l .count) (l .stack) (a .used) (a .table .now) (c .before .before .before .before .before .quick-at .result .count) (c .before .before .before .before .before .quick-at .result .bytes) _ (c .before .before .before .before .before .quick-at .ensures) (c .before .if1 .left) in
-    rush-on (sheetOf (a .version) (a .items .now)) (a .from .0) (l .at) (a .count) (l .count) (a .stack .now) (l .stack) (a .used) (a .table .now) (l .inv) (c .before .before .before .before .before .quick-at .result .count) (c .before .before .before .before .before .quick-at .result .bytes) _ g (c .before .before .before .before .before .quick-at .kept .1 .1 .1 .0)
+    λ profile. rush-on profile (sheetOf (a .version) (a .items .now)) (a .from .0) (l .at) (a .count) (l .count) (a .stack .now) (l .stack) (a .used) (a .table .now) (l .inv profile) (c .before .before .before .before .before .quick-at .result .count) (c .before .before .before .before .before .quick-at .result .bytes) _ (g profile) (c .before .before .before .before .before .quick-at .kept .1 .1 .1 .0)
 
 pub rush-spec : {M : Type 1} → statement M
 rush-spec =

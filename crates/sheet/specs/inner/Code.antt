@@ -46,9 +46,13 @@ unfoldable pub AfterTurn : Turn → List ℕ → List ℕ → Type 0
 AfterTurn (turn.More count used next) memo w = Recalls memo w used
 AfterTurn (turn.Done a) memo w = Unit {0}
 
--- what is left of the items gives what they gave from the first place, whatever the profile
-pub record Rushes (s : List ℕ) (from count : ℕ) (vals : List ℕ) (used : ℕ) (w : List ℕ) (r : Rushed) (after : List ℕ) : Type 0 where
+-- what is left of the items gives what they gave from the first place, in a profile
+pub record RushesIn (profile : ℕ) (s : List ℕ) (from count : ℕ) (vals : List ℕ) (used : ℕ) (w : List ℕ) (r : Rushed) (after : List ℕ) : Type 0 where
   pub ready : Ready (r .count) after used w
-  pub rest : (profile : ℕ) → runItems profile s (itemsFrom s (r .at .0)) (stateOf (r .count) after used w) ≡ runItems profile s (itemsFrom s from) (stateOf count vals used w)
-  pub mark : (profile : ℕ) → runsItems profile s (itemsFrom s (r .at .0)) (stateOf (r .count) after used w) ≡ runsItems profile s (itemsFrom s from) (stateOf count vals used w)
+  pub rest : runItems profile s (itemsFrom s (r .at .0)) (stateOf (r .count) after used w) ≡ runItems profile s (itemsFrom s from) (stateOf count vals used w)
+  pub mark : runsItems profile s (itemsFrom s (r .at .0)) (stateOf (r .count) after used w) ≡ runsItems profile s (itemsFrom s from) (stateOf count vals used w)
   pub onward : from ≤ r .at .0
+
+-- and in every one
+abbrev pub Rushes : List ℕ → ℕ → ℕ → List ℕ → ℕ → List ℕ → Rushed → List ℕ → Type 0
+Rushes s from count vals used w r after = (profile : ℕ) → RushesIn profile s from count vals used w r after
