@@ -6,7 +6,7 @@ use native.Mathlib.Omega.{arith}
 use lib.Dec.{ltb, leb}
 use borrow.Author.Tests.{ltb-true, ltb-false, lt-ltb, le-ltb, le-leb, lt-leb}
 use Rattle.conv.specs.Types.{Ty, formed, isWidth}
-use Rattle.conv.specs.Types.Ty.{scalar, vec, mat, array, runtime, atomic, ptr, ref, frexp, modf}
+use Rattle.conv.specs.Types.Ty.{scalar, vec, mat, array, runtime, atomic, ptr, ref, frexp, modf, exchange}
 use Rattle.conv.specs.Rank.{shapeOf, tagOf, componentOf}
 use Rattle.overload.specs.inner.Code.{codeOf}
 use Rattle.overload.proofs.Operands.{code-scalar, code-vec, code-mat, code-other, between, float-small, and-left, and-right}
@@ -56,6 +56,7 @@ parts (ptr a b t) h = let e = code-other (ptr a b t) refl in beyond (ptr a b t) 
 parts (ref a b t) h = let e = code-other (ref a b t) refl in beyond (ref a b t) _ refl refl (omega arith) (omega arith)
 parts (frexp t) h = let e = code-other (frexp t) refl in beyond (frexp t) _ refl refl (omega arith) (omega arith)
 parts (modf t) h = let e = code-other (modf t) refl in beyond (modf t) _ refl refl (omega arith) (omega arith)
+parts (exchange s) h = let e = code-other (exchange s) refl in beyond (exchange s) _ refl refl (omega arith) (omega arith)
 
 -- a scalar or a vector
 either : (x : ℕ) → (ltb x 7 || (leb 7 x && ltb x 28)) ≡ ltb x 28

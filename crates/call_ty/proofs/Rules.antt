@@ -9,7 +9,7 @@ use lib.Dec.{T, leb, ltb, leb→le}
 use borrow.Author.Tests.{leb-true, ltb-true}
 use Rattle.overload.proofs.Results.{T-true}
 use Rattle.conv.specs.Types.{Ty}
-use Rattle.conv.specs.Types.Ty.{scalar, vec, mat, array, runtime, atomic, ptr, ref, frexp, modf}
+use Rattle.conv.specs.Types.Ty.{scalar, vec, mat, array, runtime, atomic, ptr, ref, frexp, modf, exchange}
 use Rattle.conv.specs.Rank.{both, made, tagOf, firstOf, secondOf, sameTy}
 use Rattle.conv.proofs.Finite.{both-left, both-right}
 use Rattle.overload.proofs.Operands.{and-left, and-right}
@@ -38,6 +38,7 @@ gaveScalar (gives (ptr space access t)) = false
 gaveScalar (gives (ref space access t)) = false
 gaveScalar (gives (frexp t)) = false
 gaveScalar (gives (modf t)) = false
+gaveScalar (gives (exchange s)) = false
 gaveScalar noneFits = false
 gaveScalar nonePreferred = false
 
@@ -70,6 +71,7 @@ gave-scalar (gives (ptr space access t)) h = impossible (cc)
 gave-scalar (gives (ref space access t)) h = impossible (cc)
 gave-scalar (gives (frexp t)) h = impossible (cc)
 gave-scalar (gives (modf t)) h = impossible (cc)
+gave-scalar (gives (exchange s)) h = impossible (cc)
 gave-scalar noneFits h = impossible (cc)
 gave-scalar nonePreferred h = impossible (cc)
 

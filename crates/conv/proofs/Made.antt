@@ -6,7 +6,7 @@ use mathlib.Core.Bool.{Bool, true, false, cond}
 use lib.Dec.{T, eqb, ltb, eqb→eq, eqb-refl}
 use borrow.Author.Tests.{lt-ltb, eq-eqb}
 use Rattle.conv.specs.Types.{Ty}
-use Rattle.conv.specs.Types.Ty.{scalar, vec, mat, array, runtime, atomic, ptr, ref, frexp, modf}
+use Rattle.conv.specs.Types.Ty.{scalar, vec, mat, array, runtime, atomic, ptr, ref, frexp, modf, exchange}
 use Rattle.conv.specs.Rank.{pick, both, none, rankOf, Shape, formOf, columnsOf, rowsOf, shapeOf, componentOf, sameShape, byComponent, tagOf, firstOf, secondOf, elementOf, headed, sameTy, conversionRank, made}
 use Rattle.conv.specs.Rank.Shape.{one, vector, matrix, other}
 use Rattle.conv.proofs.Finite.{both-left, both-right, both-pair}
@@ -22,7 +22,8 @@ remake tag p q s e =
     (cond (eqb tag 5) (atomic p)
     (cond (eqb tag 6) (ptr p q e)
     (cond (eqb tag 7) (ref p q e)
-    (cond (eqb tag 8) (frexp e) (modf e)))))))))
+    (cond (eqb tag 8) (frexp e)
+    (cond (eqb tag 9) (modf e) (exchange p))))))))))
 
 remade : (u : Ty) → remake (tagOf u) (firstOf u) (secondOf u) (componentOf u) (elementOf u) ≡ u
 unfolding remake tagOf firstOf secondOf componentOf elementOf
@@ -36,6 +37,7 @@ remade (ptr a b t) = refl
 remade (ref a b t) = refl
 remade (frexp t) = refl
 remade (modf t) = refl
+remade (exchange s) = refl
 
 module _ (u : Ty) (tag a b : ℕ) (h : T (headed u tag a b)) where
   tag-is : tag ≡ tagOf u
@@ -64,6 +66,7 @@ same-ty (ptr a b t) u h = again u 6 a b (both-left _ _ h) _ t refl (same-ty t (e
 same-ty (ref a b t) u h = again u 7 a b (both-left _ _ h) _ t refl (same-ty t (elementOf u) (both-right (headed u 7 a b) _ h))
 same-ty (frexp t) u h = again u 8 0 0 (both-left _ _ h) _ t refl (same-ty t (elementOf u) (both-right (headed u 8 0 0) _ h))
 same-ty (modf t) u h = again u 9 0 0 (both-left _ _ h) _ t refl (same-ty t (elementOf u) (both-right (headed u 9 0 0) _ h))
+same-ty (exchange s) u h = again u 10 s 0 h _ _ refl refl
 
 head-self : (tag a b : ℕ) → T (both (eqb tag tag) (both (eqb a a) (eqb b b)))
 head-self tag a b = both-pair _ _ (eqb-refl tag) (both-pair _ _ (eqb-refl a) (eqb-refl b))
@@ -81,6 +84,7 @@ self-ty (ptr a b t) = both-pair _ _ (head-self 6 a b) (self-ty t)
 self-ty (ref a b t) = both-pair _ _ (head-self 7 a b) (self-ty t)
 self-ty (frexp t) = both-pair _ _ (head-self 8 0 0) (self-ty t)
 self-ty (modf t) = both-pair _ _ (head-self 9 0 0) (self-ty t)
+self-ty (exchange s) = head-self 10 s 0
 
 -- and converts to itself, at rank 0
 pub self-rank : (t : Ty) → conversionRank t t ≡ 0

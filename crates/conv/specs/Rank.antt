@@ -3,7 +3,7 @@ use Prim.Native.Nat.{ℕ, _+_, _/_, _%_}
 use mathlib.Core.Bool.{Bool, true, false, cond}
 use lib.Dec.{eqb, ltb}
 use Rattle.conv.specs.Types.{Ty, abstractInt, abstractFloat, i32, u32, f32, f16}
-use Rattle.conv.specs.Types.Ty.{scalar, vec, mat, array, runtime, atomic, ptr, ref, frexp, modf}
+use Rattle.conv.specs.Types.Ty.{scalar, vec, mat, array, runtime, atomic, ptr, ref, frexp, modf, exchange}
 
 abbrev pub pick : Bool → ℕ → ℕ → ℕ
 pick true a b = a
@@ -71,6 +71,7 @@ shapeOf (ptr space access t) = other
 shapeOf (ref space access t) = other
 shapeOf (frexp t) = other
 shapeOf (modf t) = other
+shapeOf (exchange s) = other
 
 -- the component of a scalar, a vector or a matrix
 unfoldable pub componentOf : Ty → ℕ
@@ -84,6 +85,7 @@ componentOf (ptr space access t) = 0
 componentOf (ref space access t) = 0
 componentOf (frexp t) = 0
 componentOf (modf t) = 0
+componentOf (exchange s) = 0
 
 -- equal widths, or equal columns and rows
 abbrev pub sameShape : Shape → Shape → Bool
@@ -105,6 +107,7 @@ tagOf (ptr space access t) = 6
 tagOf (ref space access t) = 7
 tagOf (frexp t) = 8
 tagOf (modf t) = 9
+tagOf (exchange s) = 10
 
 abbrev pub isPointer : Ty → Bool
 isPointer t = eqb (tagOf t) 6
@@ -123,6 +126,7 @@ firstOf (ptr space access t) = space
 firstOf (ref space access t) = space
 firstOf (frexp t) = 0
 firstOf (modf t) = 0
+firstOf (exchange s) = s
 
 unfoldable pub secondOf : Ty → ℕ
 secondOf (scalar s) = 0
@@ -135,6 +139,7 @@ secondOf (ptr space access t) = access
 secondOf (ref space access t) = access
 secondOf (frexp t) = 0
 secondOf (modf t) = 0
+secondOf (exchange s) = 0
 
 unfoldable pub elementOf : Ty → Ty
 elementOf (scalar s) = scalar s
@@ -147,6 +152,7 @@ elementOf (ptr space access t) = t
 elementOf (ref space access t) = t
 elementOf (frexp t) = t
 elementOf (modf t) = t
+elementOf (exchange s) = scalar s
 
 -- u is made by the constructor of that number, with these two numbers
 abbrev pub headed : Ty → ℕ → ℕ → ℕ → Bool
@@ -164,6 +170,7 @@ sameTy (ptr space access t) u = both (headed u 6 space access) (sameTy t (elemen
 sameTy (ref space access t) u = both (headed u 7 space access) (sameTy t (elementOf u))
 sameTy (frexp t) u = both (headed u 8 0 0) (sameTy t (elementOf u))
 sameTy (modf t) u = both (headed u 9 0 0) (sameTy t (elementOf u))
+sameTy (exchange s) u = headed u 10 s 0
 
 -- the rank of a conversion: a type to itself 0, else by component
 unfoldable pub conversionRank : Ty → Ty → ℕ

@@ -55,7 +55,8 @@ abbrev pub readWrite : ℕ
 readWrite = 2
 
 -- a type. A vector has its width and its component, a matrix its columns, its rows and its component; an array its count;
--- a pointer and a reference their space and their access. A result of frexp and one of modf have the type of `fract`
+-- a pointer and a reference their space and their access. A result of frexp and one of modf have the type of `fract`; a result of atomicCompareExchangeWeak has the
+-- component of the atomic
 pub data Ty : Type 0 where
   scalar : ℕ → Ty
   vec : ℕ → ℕ → Ty
@@ -65,6 +66,7 @@ pub data Ty : Type 0 where
   atomic : ℕ → Ty
   ptr ref : ℕ → ℕ → Ty → Ty
   frexp modf : Ty → Ty
+  exchange : ℕ → Ty
 
 -- a float scalar: AbstractFloat, f32, f16
 abbrev pub isFloat : ℕ → Bool
@@ -90,6 +92,7 @@ abstractTy (ptr space access t) = abstractTy t
 abstractTy (ref space access t) = abstractTy t
 abstractTy (frexp t) = abstractTy t
 abstractTy (modf t) = abstractTy t
+abstractTy (exchange s) = isAbstract s
 
 -- neither a pointer nor a reference
 unfoldable pub isValue : Ty → Bool
@@ -103,6 +106,7 @@ isValue (ptr space access t) = false
 isValue (ref space access t) = false
 isValue (frexp t) = true
 isValue (modf t) = true
+isValue (exchange s) = true
 
 -- an array without count
 unfoldable pub isRuntime : Ty → Bool
@@ -116,6 +120,7 @@ isRuntime (ptr space access t) = false
 isRuntime (ref space access t) = false
 isRuntime (frexp t) = false
 isRuntime (modf t) = false
+isRuntime (exchange s) = false
 
 -- what `fract` may be: a float scalar or a float vector
 unfoldable pub isFract : Ty → Bool
@@ -129,8 +134,9 @@ isFract (ptr space access t) = false
 isFract (ref space access t) = false
 isFract (frexp t) = false
 isFract (modf t) = false
+isFract (exchange s) = false
 
--- there is such a type: one line for each row of document 01's table
+-- there is such a type: one line for each row of document 01's table, and document 02's kind 16, K5
 unfoldable pub formed : Ty → Bool
 formed (scalar s) = ltb s 7
 formed (vec n s) = isWidth n && ltb s 7
@@ -142,9 +148,10 @@ formed (ptr space access t) = leb space storage && leb access readWrite && isVal
 formed (ref space access t) = leb space handle && leb access readWrite && isValue t && not (abstractTy t) && formed t
 formed (frexp t) = isFract t && formed t
 formed (modf t) = isFract t && formed t
+formed (exchange s) = eqb s i32 || eqb s u32
 
--- the members of a result: that of frexp has `fract` and `exp`, that of modf `fract` and `whole`. No call asks for one. A type that is no result has no
--- members: what is written for it stands for nothing
+-- the members of a result: that of frexp has `fract` and `exp`, that of modf `fract` and `whole`, that of atomicCompareExchangeWeak `old_value` and `exchanged`. No call asks
+-- for one. A type that is no result has no members: what is written for it stands for nothing
 
 -- `exp` is AbstractInt for an abstract `fract`, else i32, with the same width: of `fract` itself, the type that has its width and this component
 abbrev pub exponent : ℕ → ℕ
@@ -161,6 +168,7 @@ expOf (ptr space access t) = ptr space access t
 expOf (ref space access t) = ref space access t
 expOf (frexp t) = expOf t
 expOf (modf t) = modf t
+expOf (exchange s) = exchange s
 
 -- `fract`, and `whole` of the same type
 unfoldable pub fractOf : Ty → Ty
@@ -174,6 +182,48 @@ fractOf (ptr space access t) = ptr space access t
 fractOf (ref space access t) = ref space access t
 fractOf (frexp t) = t
 fractOf (modf t) = t
+fractOf (exchange s) = exchange s
 
 abbrev pub wholeOf : Ty → Ty
 wholeOf t = fractOf t
+
+-- `old_value` has the atomic's component, and `exchanged` is a bool
+unfoldable pub oldValueOf : Ty → Ty
+oldValueOf (scalar s) = scalar s
+oldValueOf (vec n s) = vec n s
+oldValueOf (mat c r s) = mat c r s
+oldValueOf (array k t) = array k t
+oldValueOf (runtime t) = runtime t
+oldValueOf (atomic s) = atomic s
+oldValueOf (ptr space access t) = ptr space access t
+oldValueOf (ref space access t) = ref space access t
+oldValueOf (frexp t) = frexp t
+oldValueOf (modf t) = modf t
+oldValueOf (exchange s) = scalar s
+
+unfoldable pub exchangedOf : Ty → Ty
+exchangedOf (scalar s) = scalar s
+exchangedOf (vec n s) = vec n s
+exchangedOf (mat c r s) = mat c r s
+exchangedOf (array k t) = array k t
+exchangedOf (runtime t) = runtime t
+exchangedOf (atomic s) = atomic s
+exchangedOf (ptr space access t) = ptr space access t
+exchangedOf (ref space access t) = ref space access t
+exchangedOf (frexp t) = frexp t
+exchangedOf (modf t) = modf t
+exchangedOf (exchange s) = scalar bool
+
+-- an atomic stands in it, at any depth
+unfoldable pub holdsAtomic : Ty → Bool
+holdsAtomic (scalar s) = false
+holdsAtomic (vec n s) = false
+holdsAtomic (mat c r s) = false
+holdsAtomic (array k t) = holdsAtomic t
+holdsAtomic (runtime t) = holdsAtomic t
+holdsAtomic (atomic s) = true
+holdsAtomic (ptr space access t) = holdsAtomic t
+holdsAtomic (ref space access t) = holdsAtomic t
+holdsAtomic (frexp t) = holdsAtomic t
+holdsAtomic (modf t) = holdsAtomic t
+holdsAtomic (exchange s) = false

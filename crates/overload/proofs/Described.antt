@@ -9,7 +9,7 @@ use mathlib.Core.List.{[], _∷_}
 use lib.Dec.{T, eqb}
 use borrow.Author.Tests.{eqb-true, eqb-false}
 use Rattle.conv.specs.Types.{Ty, handle, formed}
-use Rattle.conv.specs.Types.Ty.{scalar, vec, mat, array, runtime, atomic, ptr, ref, frexp, modf}
+use Rattle.conv.specs.Types.Ty.{scalar, vec, mat, array, runtime, atomic, ptr, ref, frexp, modf, exchange}
 use Rattle.conv.specs.Rank.{pick, both, none, rankOf, Shape, shapeOf, componentOf, sameShape, byComponent, tagOf, isPointer, isReference, firstOf, secondOf, elementOf, sameTy, conversionRank, converts}
 use Rattle.conv.specs.Rank.Shape.{one, vector, matrix, other}
 use Rattle.conv.proofs.Finite.{both-left, both-right}
@@ -163,6 +163,7 @@ judge-address (runtime t) f = no-address _ (λ e. omega arith)
 judge-address (atomic s) f = no-address _ (λ e. omega arith)
 judge-address (frexp t) f = no-address _ (λ e. omega arith)
 judge-address (modf t) f = no-address _ (λ e. omega arith)
+judge-address (exchange s) f = no-address _ (λ e. omega arith)
 
 pub judge-indirection : (x : Ty) → formed x ≡ true → Resolved indirectionOf (x ∷ []) (judgeIndirection x)
 unfolding judgeIndirection tagOf firstOf secondOf elementOf
@@ -176,6 +177,7 @@ judge-indirection (runtime t) f = no-indirection _ (λ e. omega arith)
 judge-indirection (atomic s) f = no-indirection _ (λ e. omega arith)
 judge-indirection (frexp t) f = no-indirection _ (λ e. omega arith)
 judge-indirection (modf t) f = no-indirection _ (λ e. omega arith)
+judge-indirection (exchange s) f = no-indirection _ (λ e. omega arith)
 
 -- and give nothing where there is no reference, or no pointer
 
@@ -191,6 +193,7 @@ address-other (runtime t) f = refl
 address-other (atomic s) f = refl
 address-other (frexp t) f = refl
 address-other (modf t) f = refl
+address-other (exchange s) f = refl
 
 pub indirection-other : (x : Ty) → isPointer x ≡ false → judgeIndirection x ≡ noneFits
 unfolding judgeIndirection tagOf
@@ -204,3 +207,4 @@ indirection-other (runtime t) f = refl
 indirection-other (atomic s) f = refl
 indirection-other (frexp t) f = refl
 indirection-other (modf t) f = refl
+indirection-other (exchange s) f = refl

@@ -11,7 +11,7 @@ use lib.Dec.{T, T-not, eqb, ltb}
 use lib.ListN.{length}
 use borrow.Author.Tests.{ltb-true, ltb-false}
 use Rattle.conv.specs.Types.{Ty, isAbstract, abstractTy, exponent}
-use Rattle.conv.specs.Types.Ty.{scalar, vec, mat, array, runtime, atomic, ptr, ref, frexp, modf}
+use Rattle.conv.specs.Types.Ty.{scalar, vec, mat, array, runtime, atomic, ptr, ref, frexp, modf, exchange}
 use Rattle.conv.specs.Rank.{pick, both, none, rankOf, Shape, formOf, shapeOf, componentOf, sameShape, byComponent, sameTy, conversionRank, converts, made}
 use Rattle.conv.specs.Rank.Shape.{one, vector, matrix, other}
 use Rattle.conv.proofs.Finite.{both-left, both-right, both-pair, implies, modus, below, below₂}
@@ -307,6 +307,7 @@ shape-abstract (ptr a b t) h = absurd h
 shape-abstract (ref a b t) h = absurd h
 shape-abstract (frexp t) h = absurd h
 shape-abstract (modf t) h = absurd h
+shape-abstract (exchange s) h = absurd h
 
 to-small : (a b : ℕ) → T (reaches a b) → b < 7
 to-small a b h = go (ltb b 7) refl

@@ -9,7 +9,7 @@ use mathlib.Core.List.{List, [], _∷_, map, List·Memᴰ}
 use lib.Dec.{T, eqb, leb, ltb}
 use borrow.Author.Tests.{ne-eqb, lt-ltb, le-ltb, ltb-true, leb-true, eqb-true}
 use Rattle.conv.specs.Types.{Ty, isWidth, isFloat, formed}
-use Rattle.conv.specs.Types.Ty.{scalar, vec, mat, array, runtime, atomic, ptr, ref, frexp, modf}
+use Rattle.conv.specs.Types.Ty.{scalar, vec, mat, array, runtime, atomic, ptr, ref, frexp, modf, exchange}
 use Rattle.conv.specs.Rank.{pick, both, none, rankOf, Shape, formOf, shapeOf, componentOf, sameShape, isReference, conversionRank, made}
 use Rattle.conv.specs.Rank.Shape.{vector, matrix, other}
 use Rattle.conv.proofs.Finite.{both-left, both-right}
@@ -159,6 +159,7 @@ code-alike (ptr a b t) h = others (ptr a b t) refl
 code-alike (ref a b t) h = others (ref a b t) refl
 code-alike (frexp t) h = others (frexp t) refl
 code-alike (modf t) h = others (modf t) refl
+code-alike (exchange s) h = others (exchange s) refl
 
 -- LISTS OF OPERANDS
 

@@ -10,7 +10,7 @@ use mathlib.Core.Logic.{_≢_, ⊎-elim}
 use lib.Dec.{T, T-not, eqb, leb, eqb→eq}
 use borrow.Author.Tests.{eqb-false, le-leb, leb-true}
 use Rattle.conv.specs.Types.{Ty, formed, isValue, abstractTy, storage, handle, readWrite}
-use Rattle.conv.specs.Types.Ty.{scalar, vec, mat, array, runtime, atomic, ptr, ref, frexp, modf}
+use Rattle.conv.specs.Types.Ty.{scalar, vec, mat, array, runtime, atomic, ptr, ref, frexp, modf, exchange}
 use Rattle.conv.specs.Rank.{both, converts}
 use Rattle.conv.proofs.Finite.{both-right, below}
 use Rattle.overload.specs.Overload.{Overload, or, fits, Judged, Resolved}
@@ -124,6 +124,7 @@ address-formed (runtime t) f R e = absurd (clash e)
 address-formed (atomic s) f R e = absurd (clash e)
 address-formed (frexp t) f R e = absurd (clash e)
 address-formed (modf t) f R e = absurd (clash e)
+address-formed (exchange s) f R e = absurd (clash e)
 
 indirection-formed : (x : Ty) → formed x ≡ true → (R : Ty) → judgeIndirection x ≡ gives R → formed R ≡ true
 unfolding judgeIndirection
@@ -137,6 +138,7 @@ indirection-formed (runtime t) f R e = absurd (clash e)
 indirection-formed (atomic s) f R e = absurd (clash e)
 indirection-formed (frexp t) f R e = absurd (clash e)
 indirection-formed (modf t) f R e = absurd (clash e)
+indirection-formed (exchange s) f R e = absurd (clash e)
 
 -- what a known row gives is a type that there is, on any operands
 pub row-formed : (r : Row) → Known (byRow r) → (ts : List Ty) (ms : List Bool) (R : Ty) → judgeBy (byRow r) ts ms ≡ gives R → formed R ≡ true

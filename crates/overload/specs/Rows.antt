@@ -7,7 +7,7 @@ use lib.Dec.{T, eqb}
 use mathlib.Core.List.{List, [], _∷_, _++_, map}
 use lib.ListN.{getD, length}
 use Rattle.conv.specs.Types.{Ty, bool, abstractInt, abstractFloat, i32, u32, f32, f16, exponent, handle, formed}
-use Rattle.conv.specs.Types.Ty.{scalar, vec, mat, array, runtime, atomic, ptr, ref, frexp, modf}
+use Rattle.conv.specs.Types.Ty.{scalar, vec, mat, array, runtime, atomic, ptr, ref, frexp, modf, exchange}
 use Rattle.conv.specs.Rank.{Shape, columnsOf, rowsOf, made}
 use Rattle.conv.specs.Rank.Shape.{one, vector, matrix}
 use Rattle.overload.specs.Overload.{Overload, listed, Judged, judge}
@@ -489,6 +489,7 @@ judgeAddress (runtime t) = noneFits
 judgeAddress (atomic s) = noneFits
 judgeAddress (frexp t) = noneFits
 judgeAddress (modf t) = noneFits
+judgeAddress (exchange s) = noneFits
 
 unfoldable pub judgeIndirection : Ty → Judged
 judgeIndirection (ptr space access t) = gives (ref space access t)
@@ -501,6 +502,7 @@ judgeIndirection (runtime t) = noneFits
 judgeIndirection (atomic s) = noneFits
 judgeIndirection (frexp t) = noneFits
 judgeIndirection (modf t) = noneFits
+judgeIndirection (exchange s) = noneFits
 
 -- a rule for one operand
 unfoldable pub alone : (Ty → Judged) → List Ty → Judged

@@ -8,7 +8,7 @@ use native.Mathlib.Omega.{arith}
 use lib.Dec.{eqb}
 use borrow.Author.Tests.{ltb-true, eq-eqb, ne-eqb}
 use Rattle.conv.specs.Types.{Ty, formed, isWidth}
-use Rattle.conv.specs.Types.Ty.{scalar, vec, mat, array, runtime, atomic, ptr, ref, frexp, modf}
+use Rattle.conv.specs.Types.Ty.{scalar, vec, mat, array, runtime, atomic, ptr, ref, frexp, modf, exchange}
 use Rattle.conv.specs.Rank.{shapeOf, tagOf, isReference, isPointer}
 use Rattle.overload.specs.Marks.{anyRunning, runningAbstract}
 use Rattle.overload.specs.Rows.{Row, rowAt, Ruling, judgeRow, judgeBy}
@@ -54,6 +54,7 @@ code-ref (ptr a b t) h = let e = code-other (ptr a b t) refl in (omega arith, sy
 code-ref (ref a b t) h = let e = code-other (ref a b t) refl in (omega arith, sym (rw e))
 code-ref (frexp t) h = let e = code-other (frexp t) refl in (omega arith, sym (rw e))
 code-ref (modf t) h = let e = code-other (modf t) refl in (omega arith, sym (rw e))
+code-ref (exchange s) h = let e = code-other (exchange s) refl in (omega arith, sym (rw e))
 
 -- whether an operand is a reference, by its number
 module _ (w : List ℕ) (n : ℕ) (s : Sound w n) (t : ℕ) (l : t < n) (x : ℕ) (e : x ≡ codeOf (typeAt w t)) where
@@ -80,6 +81,7 @@ module _ (w : List ℕ) (n : ℕ) (s : Sound w n) (t : ℕ) (l : t < n) where
   pointer-kind (ref a b u) h = (refl, refl)
   pointer-kind (frexp u) h = (refl, refl)
   pointer-kind (modf u) h = (refl, refl)
+  pointer-kind (exchange k) h = (refl, refl)
 
   pub is-pointer : isPointer (typeAt w t) ≡ eqb (entryAt w t .kind) kindPtr
   is-pointer = pointer-kind (typeAt w t) (formed-at w n s t l) .0 ∙ ap (λ (k : ℕ). eqb k kindPtr) (sym (kind-of w n s t l))

@@ -9,7 +9,7 @@ use lib.Seq.{getD-append-add}
 use lib.Dec.{ltb, eqb}
 use borrow.Author.Tests.{ne-eqb, ltb-true, ltb-false, eqb-true}
 use Rattle.conv.specs.Types.{Ty, isFloat, isFract, formed}
-use Rattle.conv.specs.Types.Ty.{scalar, vec, mat, array, runtime, atomic, ptr, ref, frexp, modf}
+use Rattle.conv.specs.Types.Ty.{scalar, vec, mat, array, runtime, atomic, ptr, ref, frexp, modf, exchange}
 use Rattle.table.specs.Table.{entryAt, Key, rowOk, Sound}
 use Rattle.table.specs.Denote.{typeAt, kindOf}
 use Rattle.table.specs.declared.Entry.{Entry}

@@ -1,7 +1,7 @@
 -- The spellings that document 01 writes out, and one of each other kind, letter by letter: all compute. Assumes nothing.
 use mathlib.Core.Path.{_≡_, refl}
 use Rattle.conv.specs.Types.{abstractInt, abstractFloat, i32, u32, f32, f16, storage, handle, read, write}
-use Rattle.conv.specs.Types.Ty.{scalar, vec, mat, array, runtime, atomic, ptr, ref, frexp, modf}
+use Rattle.conv.specs.Types.Ty.{scalar, vec, mat, array, runtime, atomic, ptr, ref, frexp, modf, exchange}
 use Rattle.text.specs.Text.{ascii, decimalBy, decimal}
 use Rattle.spell.specs.Spell.{named, fractScalar, fractName, spelling}
 

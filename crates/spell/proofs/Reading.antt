@@ -9,7 +9,7 @@ use lib.ListN.{getD, drop}
 use lib.Dec.{ltb, eqb}
 use borrow.Author.Tests.{lt-ltb}
 use Rattle.conv.specs.Types.{Ty, isFloat, isFract, formed}
-use Rattle.conv.specs.Types.Ty.{scalar, vec, mat, array, runtime, atomic, ptr, ref, frexp, modf}
+use Rattle.conv.specs.Types.Ty.{scalar, vec, mat, array, runtime, atomic, ptr, ref, frexp, modf, exchange}
 use Rattle.text.specs.Text.{ascii, decimal}
 use Rattle.spell.specs.Spell.{scalarNames, spaceNames, accessNames, named, fractScalar, fractName, spelling}
 use Rattle.table.proofs.SoundLaws.{and-right}
@@ -92,6 +92,7 @@ depth (ptr space access t) = suc (depth t)
 depth (ref space access t) = suc (depth t)
 depth (frexp t) = 0
 depth (modf t) = 0
+depth (exchange s) = 0
 
 -- a spelling may be followed by nothing, or by what ends a word
 abbrev pub Ended : List ℕ → Type 0
@@ -217,6 +218,7 @@ module _ (x : List ℕ) (e : Ended x) where
   read-fract head (ref p a t) h = absurd (false≢true h)
   read-fract head (frexp t) h = absurd (false≢true h)
   read-fract head (modf t) h = absurd (false≢true h)
+  read-fract head (exchange s) h = absurd (false≢true h)
 
   read-frexp : (f : ℕ) (t : Ty) → (isFract t && formed t) ≡ true → read (suc f) (spelling (frexp t) ++ x) ≡ got (frexp t) x
   unfolding spelling ascii

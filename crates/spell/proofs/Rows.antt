@@ -6,7 +6,7 @@ use native.Mathlib.Omega.{arith}
 use lib.Dec.{leb, ltb}
 use borrow.Author.Tests.{ltb-true, leb-true}
 use Rattle.conv.specs.Types.{Ty, isFloat, isWidth, isValue, isRuntime, abstractTy, formed}
-use Rattle.conv.specs.Types.Ty.{scalar, vec, mat, array, runtime, atomic, ptr, ref}
+use Rattle.conv.specs.Types.Ty.{scalar, vec, mat, array, runtime, atomic, ptr, ref, exchange}
 use Rattle.table.proofs.SoundLaws.{and-left, and-right}
 use Rattle.table.proofs.KindLaws.{float-scalar, int-scalar}
 

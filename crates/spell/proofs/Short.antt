@@ -9,7 +9,7 @@ use lib.ListN.{length, getD, length-append}
 use lib.Dec.{leb, ltb, eqb}
 use borrow.Author.Tests.{leb-true}
 use Rattle.conv.specs.Types.{Ty, abstractFloat}
-use Rattle.conv.specs.Types.Ty.{scalar, vec, mat, array, runtime, atomic, ptr, ref, frexp, modf}
+use Rattle.conv.specs.Types.Ty.{scalar, vec, mat, array, runtime, atomic, ptr, ref, frexp, modf, exchange}
 use Rattle.table.specs.Table.{entryAt, scalars, chainBy, chain}
 use Rattle.table.specs.Denote.{made, typeAt}
 use Rattle.table.specs.declared.Entry.{Entry}

@@ -7,7 +7,7 @@ use lib.Dec.{eqb}
 use lib.ListN.{getD}
 use Rattle.text.specs.Text.{ascii, decimal}
 use Rattle.conv.specs.Types.{Ty, abstractFloat}
-use Rattle.conv.specs.Types.Ty.{scalar, vec, mat, array, runtime, atomic, ptr, ref, frexp, modf}
+use Rattle.conv.specs.Types.Ty.{scalar, vec, mat, array, runtime, atomic, ptr, ref, frexp, modf, exchange}
 
 -- "Scalars, spaces and accesses are spelled as named above", each by its number
 abbrev pub scalarNames : List String
@@ -38,6 +38,7 @@ fractName (ptr space access t) = []
 fractName (ref space access t) = []
 fractName (frexp t) = []
 fractName (modf t) = []
+fractName (exchange s) = []
 
 -- the spelling of a type
 unfoldable pub spelling : Ty → List ℕ

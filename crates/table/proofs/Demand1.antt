@@ -10,7 +10,7 @@ use native.Mathlib.Omega.{arith}
 use lib.Dec.{leb}
 use borrow.Author.Tests.{lt-ltb, ltb-true, leb-true, leb-false}
 use Rattle.conv.specs.Types.{Ty, storage, handle, readWrite, isWidth, isValue, isRuntime, abstractTy, isFract, formed}
-use Rattle.conv.specs.Types.Ty.{scalar, vec, mat, array, runtime, atomic, ptr, ref, frexp, modf}
+use Rattle.conv.specs.Types.Ty.{scalar, vec, mat, array, runtime, atomic, ptr, ref, frexp, modf, exchange}
 use Rattle.conv.specs.Rank.{sameTy, elementOf}
 use Rattle.conv.proofs.Made.{same-ty}
 use Rattle.answer.specs.Answer.{accept, refuse}
@@ -51,6 +51,7 @@ entry-clean (ptr a b t) k h = refl
 entry-clean (ref a b t) k h = refl
 entry-clean (frexp t) k h = refl
 entry-clean (modf t) k h = refl
+entry-clean (exchange s) k h = refl
 
 -- and it stands for the type, where a component's number is the component
 entry-made : (R : Ty) (k : ℕ) → isScalar R ≡ false → ((s : ℕ) → elementOf R ≡ scalar s → k ≡ s) → made (entryOf R k) (elementOf R) ≡ R
@@ -65,6 +66,7 @@ entry-made (ptr a b t) k h c = refl
 entry-made (ref a b t) k h c = refl
 entry-made (frexp t) k h c = refl
 entry-made (modf t) k h c = refl
+entry-made (exchange s) k h c = ap exchange (c s refl)
 
 -- the element of a formed type is formed
 pub element-formed : (R : Ty) → formed R ≡ true → formed (elementOf R) ≡ true
@@ -79,6 +81,7 @@ element-formed (ptr a b t) f = and-right (leb a storage && leb b readWrite && is
 element-formed (ref a b t) f = and-right (leb a handle && leb b readWrite && isValue t && not (abstractTy t)) _ f
 element-formed (frexp t) f = and-right (isFract t) _ f
 element-formed (modf t) f = and-right (isFract t) _ f
+element-formed (exchange s) f = lt-ltb s scalars (int-scalar s f)
 
 -- WHETHER A TYPE STANDS
 
@@ -192,6 +195,7 @@ module _ (w : List ℕ) (n : ℕ) (s : Sound w n) where
   placed-grows (ref a b t) f = over-grows (ref a b t) refl f (placed-grows t (element-formed (ref a b t) f))
   placed-grows (frexp t) f = over-grows (frexp t) refl f (placed-grows t (element-formed (frexp t) f))
   placed-grows (modf t) f = over-grows (modf t) refl f (placed-grows t (element-formed (modf t) f))
+  placed-grows (exchange c) f = over-grows (exchange c) refl f (scalar-grows c (ltb-true c scalars (element-formed (exchange c) f)))
 
 -- THE OUTCOME OF AN ACCEPTED TYPE
 

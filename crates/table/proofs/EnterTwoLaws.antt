@@ -8,7 +8,7 @@ use lib.ListN.{length}
 use lib.Dec.{leb, ltb, eqb}
 use borrow.Author.Tests.{lt-leb, ltb-true, ltb-false, leb-true, leb-false, not-true}
 use Rattle.conv.specs.Types.{Ty, formed}
-use Rattle.table.specs.Table.{stride, ceiling, kindVec, kindMat, kindAtomic, entryAt, putEntry, findIn, allowedb, Sound}
+use Rattle.table.specs.Table.{stride, ceiling, kindVec, kindMat, kindAtomic, kindExchange, entryAt, putEntry, findIn, allowedb, Sound}
 use Rattle.table.specs.Denote.{made, typeAt, tyOf}
 use Rattle.table.specs.Enter.{free, lacking, entered, enterWords, container, missingTwo, enteredTwo, enterTwoWords, EnterTwoDone}
 use Rattle.table.specs.Stands.{Absent, Part, Stands}
@@ -26,9 +26,9 @@ use Rattle.table.proofs.FormedLaws.{clean, clean-above}
 use Rattle.table.proofs.EnterCases.{free-room, outer-absent, two-found, two-full, two-new}
 use Rattle.table.proofs.EnterLaws.{ty-made, part-same, part-trans, allow, found-at, at-type, new-stands, one-stands, one-present}
 
--- a container: its unused words are 0, and its elem may be of any form (no vector, matrix or atomic)
+-- a container: its unused words are 0, and its elem may be of any form (no vector, matrix, atomic or result of an exchange)
 unfoldable pub holder : Entry → Bool
-holder e = clean e && not (eqb (e .kind) kindVec || eqb (e .kind) kindMat || eqb (e .kind) kindAtomic)
+holder e = clean e && not (eqb (e .kind) kindVec || eqb (e .kind) kindMat || eqb (e .kind) kindAtomic || eqb (e .kind) kindExchange)
 
 -- over its element t, a container's elem word plays no part, and its element is t
 pub record Holds (outer : Entry) (t : Ty) : Type 0 where
@@ -41,12 +41,12 @@ module _ (outer : Entry) (hold : holder outer ≡ true) where
   unfolding holder
   holder-clean = and-left _ _ hold
 
-  no-component : (eqb (outer .kind) kindVec || eqb (outer .kind) kindMat || eqb (outer .kind) kindAtomic) ≡ false
+  no-component : (eqb (outer .kind) kindVec || eqb (outer .kind) kindMat || eqb (outer .kind) kindAtomic || eqb (outer .kind) kindExchange) ≡ false
   unfolding holder
   no-component = not-true _ (and-right (clean outer) _ hold)
 
   pub holds : (t : Ty) → Holds outer t
-  unfolding made isScalar elementOf
+  unfolding made isScalar elementOf clean
   holds t =
       by-kind (outer .kind)
       (λ k. clash refl (rw k at no-component))
@@ -58,8 +58,8 @@ module _ (outer : Entry) (hold : holder outer ≡ true) where
       (λ k. record { any = λ j. rw k refl; above = rw k refl; element = rw k refl })
       (λ k. record { any = λ j. rw k refl; above = rw k refl; element = rw k refl })
       (λ k. record { any = λ j. rw k refl; above = rw k refl; element = rw k refl })
-      (λ n1 n2 n3 n4 n5 n6 n7 n8 n9.
-      record { any = λ j. rw (n1, n2, n3, n4, n5, n6, n7, n8) refl; above = rw (n1, n2, n3, n4, n5, n6, n7, n8) refl; element = rw (n1, n2, n3, n4, n5, n6, n7, n8) refl })
+      (λ k. clash refl (rw k at no-component))
+      (λ n1 n2 n3 n4 n5 n6 n7 n8 n9 n10. clash holder-clean (rw (n1, n2, n3, n4, n5, n6, n7, n8, n9, n10)))
 
   -- over the number of an element that it may have, the container is allowed, and stands for its type
   module _ (v : List ℕ) (m : ℕ) (s : Sound v m) (k : ℕ) (l : k < m) (f : formed (made outer (typeAt v k)) ≡ true) where

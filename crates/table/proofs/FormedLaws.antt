@@ -8,7 +8,7 @@ use native.Mathlib.Omega.{arith}
 use lib.Dec.{leb, ltb, eqb}
 use borrow.Author.Tests.{le-ltb, lt-ltb, ltb-true, ltb-false, ne-eqb}
 use Rattle.conv.specs.Types.{Ty, storage, handle, readWrite, isWidth, isFloat, isAbstract, abstractTy, isValue, isRuntime, isFract, formed}
-use Rattle.table.specs.Table.{scalars, kindVec, kindMat, kindArray, kindRuntime, kindAtomic, kindPtr, kindRef, kindFrexp, kindModf, entryAt, wordsUnused, stored, sized, rowOk, baseOf, madeOk, allowedb, Sound}
+use Rattle.table.specs.Table.{scalars, kindVec, kindMat, kindArray, kindRuntime, kindAtomic, kindPtr, kindRef, kindFrexp, kindModf, kindExchange, entryAt, wordsUnused, stored, sized, rowOk, baseOf, madeOk, allowedb, Sound}
 use Rattle.table.specs.Denote.{made, typeAt, tyOf, kindOf}
 use Rattle.table.specs.declared.Entry.{Entry}
 use Rattle.table.proofs.TableLaws.{elemOf, base-scalar}
@@ -26,7 +26,8 @@ clean e =
     (cond (eqb (e .kind) kindAtomic) (wordsUnused e)
     (cond (eqb (e .kind) kindPtr) true
     (cond (eqb (e .kind) kindRef) true
-    (cond (eqb (e .kind) kindFrexp || eqb (e .kind) kindModf) (wordsUnused e) false)))))))
+    (cond (eqb (e .kind) kindFrexp || eqb (e .kind) kindModf) (wordsUnused e)
+    (cond (eqb (e .kind) kindExchange) (wordsUnused e) false))))))))
 
 and-swap : (a b c : Bool) → (a && b && c) ≡ (b && (a && c))
 and-swap true true c = refl
@@ -70,7 +71,8 @@ module _ (e : Entry) (t : Ty) (ek eb : ℕ) (st : stored ek ≡ isValue t) (rt :
       (λ k. rw k (pointer (leb (e .p) handle && leb (e .q) readWrite)))
       (λ k. rw k (result (wordsUnused e)))
       (λ k. rw k (result (wordsUnused e)))
-      (λ n1 n2 n3 n4 n5 n6 n7 n8 n9. rw (n1, n2, n3, n4, n5, n6, n7, n8, n9))
+      (λ k. rw k refl)
+      (λ n1 n2 n3 n4 n5 n6 n7 n8 n9 n10. rw (n1, n2, n3, n4, n5, n6, n7, n8, n9, n10))
 
 module _ (w : List ℕ) (n : ℕ) (s : Sound w n) where
   -- the tests on the kind and the innermost scalar of an entry, told of its type
@@ -150,5 +152,5 @@ clean-above e h =
     let l : e .kind < scalars = ltb-true _ _ b in
     clash h
     (rw
-    (ne-eqb (e .kind) 7 (omega arith), ne-eqb (e .kind) 8 (omega arith), ne-eqb (e .kind) 9 (omega arith), ne-eqb (e .kind) 10 (omega arith), ne-eqb (e .kind) 11 (omega arith), ne-eqb (e .kind) 12 (omega arith), ne-eqb (e .kind) 13 (omega arith), ne-eqb (e .kind) 14 (omega arith), ne-eqb (e .kind) 15 (omega arith))))
+    (ne-eqb (e .kind) 7 (omega arith), ne-eqb (e .kind) 8 (omega arith), ne-eqb (e .kind) 9 (omega arith), ne-eqb (e .kind) 10 (omega arith), ne-eqb (e .kind) 11 (omega arith), ne-eqb (e .kind) 12 (omega arith), ne-eqb (e .kind) 13 (omega arith), ne-eqb (e .kind) 14 (omega arith), ne-eqb (e .kind) 15 (omega arith), ne-eqb (e .kind) 16 (omega arith))))
     (λ b. ltb-false _ _ b)

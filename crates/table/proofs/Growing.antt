@@ -9,7 +9,7 @@ use lib.Dec.{leb, eqb}
 use lib.ListN.{length, getD, length-append, List·getD-append}
 use borrow.Author.Tests.{le-leb, lt-leb, leb-true, leb-false, eq-eqb}
 use Rattle.conv.specs.Types.{Ty}
-use Rattle.conv.specs.Types.Ty.{scalar, vec, mat, array, runtime, atomic, ptr, ref, frexp, modf}
+use Rattle.conv.specs.Types.Ty.{scalar, vec, mat, array, runtime, atomic, ptr, ref, frexp, modf, exchange}
 use Rattle.conv.specs.Rank.{sameTy}
 use Rattle.answer.specs.Answer.{reasonNo, numbersOf, lackingOf, refuse}
 use Rattle.answer.specs.declared.Reason.{Reason}
@@ -110,6 +110,7 @@ module _ (w v : List ℕ) (n k : ℕ) (l : Longer w v n k) where
   used-longer (ref a b t) = over-longer (ref a b t) _ _ (used-longer t)
   used-longer (frexp t) = over-longer (frexp t) _ _ (used-longer t)
   used-longer (modf t) = over-longer (modf t) _ _ (used-longer t)
+  used-longer (exchange c) = over-longer (exchange c) _ _ refl
 
   module _ (s : Sound w n) where
     sound : Sound v n

@@ -6,8 +6,8 @@ use native.Mathlib.Omega.{arith}
 use lib.Dec.{eqb, ltb}
 use borrow.Author.Tests.{eqb-true, ne-eqb, ltb-true, ltb-false}
 use Rattle.conv.specs.Types.{Ty, i32, u32, isFloat, isAbstract, abstractTy, isFract, isValue, isRuntime}
-use Rattle.conv.specs.Types.Ty.{scalar, vec, mat, array, runtime, atomic, ptr, ref, frexp, modf}
-use Rattle.table.specs.Table.{scalars, kindVec, kindMat, kindArray, kindRuntime, kindAtomic, kindPtr, kindRef, kindFrexp, kindModf, stored}
+use Rattle.conv.specs.Types.Ty.{scalar, vec, mat, array, runtime, atomic, ptr, ref, frexp, modf, exchange}
+use Rattle.table.specs.Table.{scalars, kindVec, kindMat, kindArray, kindRuntime, kindAtomic, kindPtr, kindRef, kindFrexp, kindModf, kindExchange, stored}
 use Rattle.conv.specs.Rank.{elementOf}
 use Rattle.table.specs.Denote.{kindOf}
 
@@ -19,13 +19,13 @@ split false f g = g refl
 pub clash : {P : Type 0} {b : Bool} → b ≡ true → b ≡ false → P
 clash p q = absurd (let z : _≡_ {A = ℕ} 0 1 = cc in omega arith)
 
--- the nine kinds above the scalars, and any other
+-- the ten kinds above the scalars, and any other
 pub by-kind : {P : Type 0} (k : ℕ) →
     (k ≡ kindVec → P) → (k ≡ kindMat → P) → (k ≡ kindArray → P) → (k ≡ kindRuntime → P) → (k ≡ kindAtomic → P) →
-    (k ≡ kindPtr → P) → (k ≡ kindRef → P) → (k ≡ kindFrexp → P) → (k ≡ kindModf → P) →
+    (k ≡ kindPtr → P) → (k ≡ kindRef → P) → (k ≡ kindFrexp → P) → (k ≡ kindModf → P) → (k ≡ kindExchange → P) →
     (eqb k kindVec ≡ false → eqb k kindMat ≡ false → eqb k kindArray ≡ false → eqb k kindRuntime ≡ false → eqb k kindAtomic ≡ false →
-    eqb k kindPtr ≡ false → eqb k kindRef ≡ false → eqb k kindFrexp ≡ false → eqb k kindModf ≡ false → P) → P
-by-kind k a b c d e f g h i other =
+    eqb k kindPtr ≡ false → eqb k kindRef ≡ false → eqb k kindFrexp ≡ false → eqb k kindModf ≡ false → eqb k kindExchange ≡ false → P) → P
+by-kind k a b c d e f g h i j other =
     split (eqb k kindVec) (λ t. a (eqb-true _ _ t)) (λ n1.
     split (eqb k kindMat) (λ t. b (eqb-true _ _ t)) (λ n2.
     split (eqb k kindArray) (λ t. c (eqb-true _ _ t)) (λ n3.
@@ -34,7 +34,8 @@ by-kind k a b c d e f g h i other =
     split (eqb k kindPtr) (λ t. f (eqb-true _ _ t)) (λ n6.
     split (eqb k kindRef) (λ t. g (eqb-true _ _ t)) (λ n7.
     split (eqb k kindFrexp) (λ t. h (eqb-true _ _ t)) (λ n8.
-    split (eqb k kindModf) (λ t. i (eqb-true _ _ t)) (λ n9. other n1 n2 n3 n4 n5 n6 n7 n8 n9)))))))))
+    split (eqb k kindModf) (λ t. i (eqb-true _ _ t)) (λ n9.
+    split (eqb k kindExchange) (λ t. j (eqb-true _ _ t)) (λ n10. other n1 n2 n3 n4 n5 n6 n7 n8 n9 n10))))))))))
 
 -- a component is a scalar
 pub float-scalar : (s : ℕ) → isFloat s ≡ true → s < scalars
@@ -59,6 +60,7 @@ innermost (ptr space access t) = innermost t
 innermost (ref space access t) = innermost t
 innermost (frexp t) = innermost t
 innermost (modf t) = innermost t
+innermost (exchange s) = s
 
 unfoldable pub isScalar : Ty → Bool
 isScalar (scalar s) = true
@@ -71,6 +73,7 @@ isScalar (ptr space access t) = false
 isScalar (ref space access t) = false
 isScalar (frexp t) = false
 isScalar (modf t) = false
+isScalar (exchange s) = false
 
 -- the scalar within a type is that of its element
 pub innermost-step : (t : Ty) → innermost t ≡ innermost (elementOf t)
@@ -85,6 +88,7 @@ innermost-step (ptr space access t) = refl
 innermost-step (ref space access t) = refl
 innermost-step (frexp t) = refl
 innermost-step (modf t) = refl
+innermost-step (exchange s) = refl
 
 -- abstract at any depth is abstract within
 pub abstract-innermost : (t : Ty) → isAbstract (innermost t) ≡ abstractTy t
@@ -99,6 +103,7 @@ abstract-innermost (ptr space access t) = abstract-innermost t
 abstract-innermost (ref space access t) = abstract-innermost t
 abstract-innermost (frexp t) = abstract-innermost t
 abstract-innermost (modf t) = abstract-innermost t
+abstract-innermost (exchange s) = refl
 
 pub and-false : (a : Bool) → (a && false) ≡ false
 and-false true = refl
@@ -121,6 +126,7 @@ stored-kind (ptr space access t) h = refl
 stored-kind (ref space access t) h = refl
 stored-kind (frexp t) h = refl
 stored-kind (modf t) h = refl
+stored-kind (exchange s) h = refl
 
 pub runtime-kind : (t : Ty) → isScalar t ≡ false → eqb (kindOf t) kindRuntime ≡ isRuntime t
 unfolding isScalar kindOf isRuntime
@@ -134,6 +140,7 @@ runtime-kind (ptr space access t) h = refl
 runtime-kind (ref space access t) h = refl
 runtime-kind (frexp t) h = refl
 runtime-kind (modf t) h = refl
+runtime-kind (exchange s) h = refl
 
 pub fract-kind : (t : Ty) → isScalar t ≡ false → (isFloat (innermost t) && eqb (kindOf t) kindVec) ≡ isFract t
 unfolding isScalar kindOf isFract innermost
@@ -147,3 +154,4 @@ fract-kind (ptr space access t) h = and-false (isFloat (innermost t))
 fract-kind (ref space access t) h = and-false (isFloat (innermost t))
 fract-kind (frexp t) h = and-false (isFloat (innermost t))
 fract-kind (modf t) h = and-false (isFloat (innermost t))
+fract-kind (exchange s) h = and-false (isFloat s)

@@ -10,7 +10,7 @@ use native.Mathlib.Omega.{arith}
 use lib.Dec.{T, leb, ltb}
 use borrow.Author.Tests.{ltb-true, ltb-false, le-leb, leb-true, leb-false}
 use Rattle.conv.specs.Types.{Ty, formed}
-use Rattle.conv.specs.Types.Ty.{scalar, vec, mat, array, runtime, atomic, ptr, ref, frexp, modf}
+use Rattle.conv.specs.Types.Ty.{scalar, vec, mat, array, runtime, atomic, ptr, ref, frexp, modf, exchange}
 use Rattle.conv.specs.Rank.{sameTy, elementOf}
 use Rattle.conv.proofs.Made.{same-ty, self-ty}
 use Rattle.answer.specs.Answer.{accept}
@@ -82,6 +82,7 @@ placed-over w n (ptr a b t) h = refl
 placed-over w n (ref a b t) h = refl
 placed-over w n (frexp t) h = refl
 placed-over w n (modf t) h = refl
+placed-over w n (exchange s) h = refl
 
 pub placed-scalar : (w : List ℕ) (n s : ℕ) → placed w n (scalar s) ≡ standsAt s n w
 unfolding placed

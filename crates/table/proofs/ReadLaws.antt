@@ -5,8 +5,8 @@ use mathlib.Core.Bool.{false}
 use mathlib.Core.List.{List}
 use native.Mathlib.Omega.{arith}
 use Rattle.conv.specs.Types.{Ty}
-use Rattle.conv.specs.Types.Ty.{scalar, vec, mat, array, runtime, atomic, ptr, ref, frexp, modf}
-use Rattle.table.specs.Table.{kindVec, kindMat, kindArray, kindRuntime, kindAtomic, kindPtr, kindRef, kindFrexp, kindModf, entryAt, Sound}
+use Rattle.conv.specs.Types.Ty.{scalar, vec, mat, array, runtime, atomic, ptr, ref, frexp, modf, exchange}
+use Rattle.table.specs.Table.{kindVec, kindMat, kindArray, kindRuntime, kindAtomic, kindPtr, kindRef, kindFrexp, kindModf, kindExchange, entryAt, Sound}
 use Rattle.table.specs.Denote.{typeAt, kindOf, pOf, qOf}
 use Rattle.conv.specs.Rank.{elementOf}
 use Rattle.table.proofs.KindLaws.{isScalar}
@@ -67,6 +67,10 @@ module _ (w : List ℕ) (n : ℕ) (s : Sound w n) (i : ℕ) (l : i < n) where
   pub modf-words : {t : Ty} → typeAt w i ≡ modf t → Reads w i kindModf 0 0 t
   unfolding kindOf pOf qOf elementOf isScalar
   modf-words h = reads _ refl h
+
+  pub exchange-words : {c : ℕ} → typeAt w i ≡ exchange c → Reads w i kindExchange 0 0 (scalar c)
+  unfolding kindOf pOf qOf elementOf isScalar
+  exchange-words h = reads _ refl h
 
   -- where the elem is a scalar, it is that scalar's number
   pub component : {k x y c : ℕ} → Reads w i k x y (scalar c) → entryAt w i .elem ≡ c

@@ -57,7 +57,7 @@ row-kind e ek eb h =
     (λ t.
     let l : e .kind < 7 = ltb-true _ _ t in
     clash h
-    (rw (ne-eqb (e .kind) 7 (omega arith), ne-eqb (e .kind) 8 (omega arith), ne-eqb (e .kind) 9 (omega arith), ne-eqb (e .kind) 10 (omega arith), ne-eqb (e .kind) 11 (omega arith), ne-eqb (e .kind) 12 (omega arith), ne-eqb (e .kind) 13 (omega arith), ne-eqb (e .kind) 14 (omega arith), ne-eqb (e .kind) 15 (omega arith))))
+    (rw (ne-eqb (e .kind) 7 (omega arith), ne-eqb (e .kind) 8 (omega arith), ne-eqb (e .kind) 9 (omega arith), ne-eqb (e .kind) 10 (omega arith), ne-eqb (e .kind) 11 (omega arith), ne-eqb (e .kind) 12 (omega arith), ne-eqb (e .kind) 13 (omega arith), ne-eqb (e .kind) 14 (omega arith), ne-eqb (e .kind) 15 (omega arith), ne-eqb (e .kind) 16 (omega arith))))
     (λ f. ltb-false _ _ f)
 
 module _ (w : List ℕ) (h : allBelow (scalarAt w) scalars ≡ true) (e : Entry) where

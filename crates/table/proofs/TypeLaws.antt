@@ -8,8 +8,8 @@ use native.Mathlib.Omega.{arith}
 use lib.Dec.{leb, ltb, eqb}
 use borrow.Author.Tests.{le-ltb, lt-ltb, ltb-true, ltb-false, eqb-true}
 use Rattle.conv.specs.Types.{Ty, isWidth}
-use Rattle.conv.specs.Types.Ty.{scalar, vec, mat, array, runtime, atomic, ptr, ref, frexp, modf}
-use Rattle.table.specs.Table.{scalars, kindVec, kindMat, kindArray, kindRuntime, kindAtomic, kindPtr, kindRef, kindFrexp, kindModf, entryAt, Key, entryKey, wordsUnused, rowOk, baseOf, scalarOk, madeOk, entryOk, Sound, Keeps}
+use Rattle.conv.specs.Types.Ty.{scalar, vec, mat, array, runtime, atomic, ptr, ref, frexp, modf, exchange}
+use Rattle.table.specs.Table.{scalars, kindVec, kindMat, kindArray, kindRuntime, kindAtomic, kindPtr, kindRef, kindFrexp, kindModf, kindExchange, entryAt, Key, entryKey, wordsUnused, rowOk, baseOf, scalarOk, madeOk, entryOk, Sound, Keeps}
 use Rattle.table.specs.Denote.{made, typeAt, kindOf, pOf, qOf}
 use Rattle.conv.specs.Rank.{elementOf}
 use Rattle.table.specs.declared.Entry.{Entry}
@@ -55,6 +55,10 @@ module _ (e : Entry) (t : Ty) where
   pub made-modf : e .kind ≡ kindModf → made e t ≡ modf t
   unfolding made
   made-modf h = rw h
+
+  pub made-exchange : e .kind ≡ kindExchange → made e t ≡ exchange (e .elem)
+  unfolding made
+  made-exchange h = rw h
 
 -- a type T gives the words of its entry back: t is the type of elem
 pub record Words (e : Entry) (T t : Ty) : Type 0 where
@@ -107,7 +111,10 @@ module _ (e : Entry) (t : Ty) (component : e .elem < scalars → t ≡ scalar (e
       rw (made-frexp e t k) (record { kind = sym k; p = z .0; q = z .1; elem = refl; above = refl; high = omega arith }))
       (λ k. let r = rw k at h in let z = plain-words (and-left _ _ (and-left _ _ r)) in
       rw (made-modf e t k) (record { kind = sym k; p = z .0; q = z .1; elem = refl; above = refl; high = omega arith }))
-      (λ n1 n2 n3 n4 n5 n6 n7 n8 n9. clash h (rw (n1, n2, n3, n4, n5, n6, n7, n8, n9)))
+      (λ k. let r = rw k at h in let z = plain-words (and-left _ _ r) in
+      rw (made-exchange e t k)
+      (record { kind = sym k; p = z .0; q = z .1; elem = sym (component (int-scalar (e .elem) (and-right (wordsUnused e) _ r))); above = refl; high = omega arith }))
+      (λ n1 n2 n3 n4 n5 n6 n7 n8 n9 n10. clash h (rw (n1, n2, n3, n4, n5, n6, n7, n8, n9, n10)))
 
 -- one type and one elem are one key
 pub same-key : (a b : Entry) {S T t u : Ty} → Words a S t → Words b T u → S ≡ T → a .elem ≡ b .elem → entryKey a ≡ entryKey b
@@ -197,6 +204,9 @@ module _ (w : List ℕ) (n : ℕ) (s : Sound w n) where
 
     pub type-modf : entryAt w i .kind ≡ kindModf → typeAt w i ≡ modf (typeAt w (entryAt w i .elem))
     type-modf h = read _ h (omega arith) ∙ made-modf _ _ h
+
+    pub type-exchange : entryAt w i .kind ≡ kindExchange → typeAt w i ≡ exchange (entryAt w i .elem)
+    type-exchange h = read _ h (omega arith) ∙ made-exchange _ _ h
 
     -- the words kind, p and q from the type
     pub kind-of : entryAt w i .kind ≡ kindOf (typeAt w i)

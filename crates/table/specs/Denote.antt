@@ -4,11 +4,11 @@ use mathlib.Core.Bool.{cond}
 use mathlib.Core.List.{List}
 use lib.Dec.{eqb, ltb}
 use Rattle.conv.specs.Types.{Ty}
-use Rattle.conv.specs.Types.Ty.{scalar, vec, mat, array, runtime, atomic, ptr, ref, frexp, modf}
-use Rattle.table.specs.Table.{scalars, kindVec, kindMat, kindArray, kindRuntime, kindAtomic, kindPtr, kindRef, kindFrexp, kindModf, chain}
+use Rattle.conv.specs.Types.Ty.{scalar, vec, mat, array, runtime, atomic, ptr, ref, frexp, modf, exchange}
+use Rattle.table.specs.Table.{scalars, kindVec, kindMat, kindArray, kindRuntime, kindAtomic, kindPtr, kindRef, kindFrexp, kindModf, kindExchange, chain}
 use Rattle.table.specs.declared.Entry.{Entry}
 
--- an entry above the scalars, over the type t of its elem
+-- an entry above the scalars, over the type t of its elem. A kind that no row has, which no sound table holds, stands for no type that there is
 unfoldable pub made : Entry → Ty → Ty
 made e t =
     cond (eqb (e .kind) kindVec) (vec (e .p) (e .elem))
@@ -18,7 +18,9 @@ made e t =
     (cond (eqb (e .kind) kindAtomic) (atomic (e .elem))
     (cond (eqb (e .kind) kindPtr) (ptr (e .p) (e .q) t)
     (cond (eqb (e .kind) kindRef) (ref (e .p) (e .q) t)
-    (cond (eqb (e .kind) kindFrexp) (frexp t) (modf t))))))))
+    (cond (eqb (e .kind) kindFrexp) (frexp t)
+    (cond (eqb (e .kind) kindModf) (modf t)
+    (cond (eqb (e .kind) kindExchange) (exchange (e .elem)) (scalar (e .kind)))))))))))
 
 -- the type of entry i
 unfoldable pub typeAt : List ℕ → ℕ → Ty
@@ -40,6 +42,7 @@ kindOf (ptr space access t) = kindPtr
 kindOf (ref space access t) = kindRef
 kindOf (frexp t) = kindFrexp
 kindOf (modf t) = kindModf
+kindOf (exchange s) = kindExchange
 
 unfoldable pub pOf : Ty → ℕ
 pOf (scalar s) = 0
@@ -52,6 +55,7 @@ pOf (ptr space access t) = space
 pOf (ref space access t) = space
 pOf (frexp t) = 0
 pOf (modf t) = 0
+pOf (exchange s) = 0
 
 unfoldable pub qOf : Ty → ℕ
 qOf (scalar s) = 0
@@ -64,3 +68,4 @@ qOf (ptr space access t) = access
 qOf (ref space access t) = access
 qOf (frexp t) = 0
 qOf (modf t) = 0
+qOf (exchange s) = 0

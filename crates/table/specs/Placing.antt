@@ -6,7 +6,7 @@ use mathlib.Core.List.{List}
 use mathlib.Core.Path.{_≡_}
 use lib.Dec.{leb}
 use Rattle.conv.specs.Types.{Ty}
-use Rattle.conv.specs.Types.Ty.{scalar, vec, mat, array, runtime, atomic, ptr, ref, frexp, modf}
+use Rattle.conv.specs.Types.Ty.{scalar, vec, mat, array, runtime, atomic, ptr, ref, frexp, modf, exchange}
 use Rattle.conv.specs.Rank.{sameTy}
 use Rattle.answer.specs.Answer.{numbersOf, accept, refuse, markedBy}
 use Rattle.table.specs.Table.{putEntry, orElse}
@@ -57,6 +57,7 @@ placed w n (ptr space access t) = placedOver w n (ptr space access t) (placed w 
 placed w n (ref space access t) = placedOver w n (ref space access t) (placed w n t)
 placed w n (frexp t) = placedOver w n (frexp t) (placed w n t)
 placed w n (modf t) = placedOver w n (modf t) (placed w n t)
+placed w n (exchange s) = placedOver w n (exchange s) (standsAt s n w)
 
 -- a call's answer, and every word of the table afterwards
 pub record Outcome : Type 0 where

@@ -50,6 +50,10 @@ kindFrexp = 14
 abbrev pub kindModf : ℕ
 kindModf = 15
 
+-- document 02, K5: the result of atomicCompareExchangeWeak
+abbrev pub kindExchange : ℕ
+kindExchange = 16
+
 -- entry i
 abbrev pub entryAt : List ℕ → ℕ → Entry
 entryAt w i =
@@ -126,6 +130,10 @@ refRow e ek eb = leb (e .p) handle && leb (e .q) readWrite && stored ek && not (
 abbrev pub resultRow : Entry → ℕ → ℕ → Bool
 resultRow e ek eb = wordsUnused e && isFloat eb && (ltb (e .elem) scalars || eqb ek kindVec)
 
+-- kind 16: "a new entry kind 16 with elem 3 or 4", as the atomic's
+abbrev pub exchangeRow : Entry → Bool
+exchangeRow e = wordsUnused e && (eqb (e .elem) i32 || eqb (e .elem) u32)
+
 -- e is as its row says: ek is the kind of its elem, eb the innermost scalar of its elem
 unfoldable pub rowOk : Entry → ℕ → ℕ → Bool
 rowOk e ek eb =
@@ -136,7 +144,8 @@ rowOk e ek eb =
     (cond (eqb (e .kind) kindAtomic) (atomicRow e)
     (cond (eqb (e .kind) kindPtr) (ptrRow e ek eb)
     (cond (eqb (e .kind) kindRef) (refRow e ek eb)
-    (cond (eqb (e .kind) kindFrexp || eqb (e .kind) kindModf) (resultRow e ek eb) false)))))))
+    (cond (eqb (e .kind) kindFrexp || eqb (e .kind) kindModf) (resultRow e ek eb)
+    (cond (eqb (e .kind) kindExchange) (exchangeRow e) false))))))))
 
 -- the fold over elem. What entry j comes to: a scalar by `leaf`, any other entry by `node` from what its elem comes to.
 -- Where an elem does not fall, which happens in no sound table, the entry counts as a leaf

@@ -78,6 +78,8 @@ pub const KIND_FREXP: u32 = 14;
 
 pub const KIND_MODF: u32 = 15;
 
+pub const KIND_EXCHANGE: u32 = 16;
+
 // Address spaces.
 pub const SPACE_FUNCTION: u32 = 0;
 
@@ -215,7 +217,7 @@ fn flat_ok(e: Entry, ek: u32) -> bool
     false
 }
 
-// The same for the kinds that ask for `eb` too, the innermost scalar of elem.
+// The same for the kinds from the pointers on, of which most ask for `eb` too, the innermost scalar of elem.
 fn deep_ok(e: Entry, ek: u32, eb: usize) -> bool
     requires { ⌜ kindPtr ≤ e .kind ⌝ }
     ensures { λ r. ⌜ r ≡ rowOk e ek eb ⌝ }
@@ -236,6 +238,9 @@ fn deep_ok(e: Entry, ek: u32, eb: usize) -> bool
     }
     if (k == KIND_FREXP) | (k == KIND_MODF) {
         return words_unused(e) & is_float(eb) & ((el < SCALARS) | (ek == KIND_VEC));
+    }
+    if k == KIND_EXCHANGE {
+        return words_unused(e) & ((el == I32) | (el == U32));
     }
     false
 }

@@ -10,7 +10,7 @@ use denote.Enum.Declared.{tagOf}
 use types.Run.{OneOf, miss}
 use borrow.Author.Tests.{ltb-true, ltb-false, ne-eqb}
 use Rattle.conv.specs.Types.{Ty, abstractInt, isWidth, isFloat, isValue, isRuntime, formed}
-use Rattle.conv.specs.Types.Ty.{scalar, vec, mat, array, runtime, atomic, ptr, ref, frexp, modf}
+use Rattle.conv.specs.Types.Ty.{scalar, vec, mat, array, runtime, atomic, ptr, ref, frexp, modf, exchange}
 use Rattle.table.specs.Table.{scalars, ceiling, kindRuntime, entryAt, allowedb, Sound}
 use Rattle.table.specs.Denote.{made, typeAt, tyOf, kindOf}
 use Rattle.table.specs.Enter.{EnterDone, entryAnswer}
@@ -60,6 +60,7 @@ kind-element (ptr a b t) f = refl
 kind-element (ref a b t) f = refl
 kind-element (frexp t) f = refl
 kind-element (modf t) f = refl
+kind-element (exchange s) f = refl
 
 pub element-at : (w : List ℕ) (n : ℕ) → Sound w n → (i : ℕ) → i < n → (e : Entry) → e ≡ entryAt w i → elementKind (e .kind) ≡ isElement (typeAt w i)
 element-at w n s i l e q = ap (λ (x : Entry). elementKind (x .kind)) q ∙ ap elementKind (kind-of w n s i l) ∙ kind-element (typeAt w i) (formed-at w n s i l)

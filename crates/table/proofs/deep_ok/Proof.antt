@@ -48,12 +48,22 @@ returns-3 c =
     let l = c .before .before .before .before .before .before .pre in
     rw (ne-eqb k 7 (omega arith), ne-eqb k 8 (omega arith), ne-eqb k 9 (omega arith), ne-eqb k 10 (omega arith), ne-eqb k 11 (omega arith), ne-eqb k 12 (c .before .before .before .before .if1 .left), ne-eqb k 13 (c .before .before .before .if2 .left), c .before .before .if3 .taken, c .is-float .ensures, c .before .words-unused .ensures, c .before .before .before .before .before .word .ensures)
 
+words-unused-requires-2 : tie.Need-words-unused-requires-2
+words-unused-requires-2 c κs = search needs
+
 returns-4 : tie.Need-returns-4
 unfolding rowOk
 returns-4 c =
-    let k = c .before .before .before .before .args .e .kind in
-    let l = c .before .before .before .before .pre in
-    rw (ne-eqb k 7 (omega arith), ne-eqb k 8 (omega arith), ne-eqb k 9 (omega arith), ne-eqb k 10 (omega arith), ne-eqb k 11 (omega arith), ne-eqb k 12 (c .before .before .if1 .left), ne-eqb k 13 (c .before .if2 .left), c .if3 .left)
+    let k = c .before .before .before .before .before .before .args .e .kind in
+    let l = c .before .before .before .before .before .before .pre in
+    rw (ne-eqb k 7 (omega arith), ne-eqb k 8 (omega arith), ne-eqb k 9 (omega arith), ne-eqb k 10 (omega arith), ne-eqb k 11 (omega arith), ne-eqb k 12 (c .before .before .before .before .if1 .left), ne-eqb k 13 (c .before .before .before .if2 .left), c .before .before .if3 .left, eq-eqb k 16 (c .before .if4 .taken), c .words-unused2 .ensures, c .before .before .before .before .before .word .ensures)
+
+returns-5 : tie.Need-returns-5
+unfolding rowOk
+returns-5 c =
+    let k = c .before .before .before .before .before .args .e .kind in
+    let l = c .before .before .before .before .before .pre in
+    rw (ne-eqb k 7 (omega arith), ne-eqb k 8 (omega arith), ne-eqb k 9 (omega arith), ne-eqb k 10 (omega arith), ne-eqb k 11 (omega arith), ne-eqb k 12 (c .before .before .before .if1 .left), ne-eqb k 13 (c .before .before .if2 .left), c .before .if3 .left, ne-eqb k 16 (c .if4 .left))
 
 pub deep-ok-spec : {M : Type 1} → statement M
 deep-ok-spec =
@@ -69,4 +79,6 @@ deep-ok-spec =
     words-unused-requires
     is-float-requires
     returns-3
-    returns-4)
+    words-unused-requires-2
+    returns-4
+    returns-5)

@@ -58,7 +58,7 @@ unfolding rowOk
 returns-6 c =
     let k = c .before .before .before .before .before .before .args .e .kind in
     let l = c .before .before .before .before .before .before .pre in
-    λ eb. rw (ne-eqb k 7 (c .before .before .before .before .if1 .left), ne-eqb k 8 (c .before .before .before .if2 .left), ne-eqb k 9 (c .before .before .if3 .left), ne-eqb k 10 (c .before .if4 .left), ne-eqb k 11 (c .if5 .left), ne-eqb k 12 (omega arith), ne-eqb k 13 (omega arith), ne-eqb k 14 (omega arith), ne-eqb k 15 (omega arith))
+    λ eb. rw (ne-eqb k 7 (c .before .before .before .before .if1 .left), ne-eqb k 8 (c .before .before .before .if2 .left), ne-eqb k 9 (c .before .before .if3 .left), ne-eqb k 10 (c .before .if4 .left), ne-eqb k 11 (c .if5 .left), ne-eqb k 12 (omega arith), ne-eqb k 13 (omega arith), ne-eqb k 14 (omega arith), ne-eqb k 15 (omega arith), ne-eqb k 16 (omega arith))
 
 pub flat-ok-spec : {M : Type 1} → statement M
 flat-ok-spec =
