@@ -12,7 +12,7 @@ use Rattle.conv.specs.Rank.Shape.{one, vector, matrix, other}
 use Rattle.conv.proofs.Finite.{both-left, both-right, both-pair}
 
 -- a type from its constructor's number, its numbers, its component and its element
-remake : ℕ → ℕ → ℕ → ℕ → Ty → Ty
+unfoldable pub remake : ℕ → ℕ → ℕ → ℕ → Ty → Ty
 remake tag p q s e =
     cond (eqb tag 0) (scalar p)
     (cond (eqb tag 1) (vec p s)
@@ -25,7 +25,7 @@ remake tag p q s e =
     (cond (eqb tag 8) (frexp e)
     (cond (eqb tag 9) (modf e) (exchange p))))))))))
 
-remade : (u : Ty) → remake (tagOf u) (firstOf u) (secondOf u) (componentOf u) (elementOf u) ≡ u
+pub remade : (u : Ty) → remake (tagOf u) (firstOf u) (secondOf u) (componentOf u) (elementOf u) ≡ u
 unfolding remake tagOf firstOf secondOf componentOf elementOf
 remade (scalar s) = refl
 remade (vec n s) = refl

@@ -1,5 +1,5 @@
 -- The names as documents 01 and 02 list them, group by group, and those whose results are running even so: the table and these lists give any bytes the same rule and mark,
--- whatever the profile; and profile 0 has the names of document 01 alone. Every name of the one is computed to have its rule in the other, and a law carries that over to
+-- whatever the profile; and profile 0 has those of document 01 and the calls on memory alone. Every name of the one is computed to have its rule in the other, and a law carries that over to
 -- all bytes. Assumes nothing.
 use Prim.Native.Nat.{ℕ}
 use Prim.Native.String.{String}
@@ -12,8 +12,8 @@ use Rattle.conv.specs.Rank.{both}
 use Rattle.text.specs.Text.{ascii}
 use Rattle.overload.specs.Rows.{Row, oneFloat, twoFloats, threeFloats, mixing, oneNumeric, twoNumerics, threeNumerics, negating, oneBits, extracting, inserting, measuring, distancing, dotting, oneFloatVector, twoFloatVectors, threeFloatVectors, refracting, crossing, squareMatrix, transposing, oneF32, frexpOf, modfOf, packing4F32, packing4I32, packing4U32, packing2F32, unpacking4F32, unpacking4I32, unpacking4U32, unpacking2F32, packedDotU32, packedDotI32, oneBool, selecting, oneConcrete, voting, balloting, electing, ofLane, shuffling}
 use Rattle.overload.specs.Rows.Ruling.{byRow}
-use Rattle.names.specs.Names.{Rule, Name, names, sameBytes, within, Named, ruleFor, ruleIn, ruleOf}
-use Rattle.names.specs.Names.Rule.{ruling, bitcast, arrayLength, ldexp, barrier}
+use Rattle.names.specs.Names.{Rule, loading, updating, exchanging, uniformLoading, Name, names, sameBytes, within, Named, ruleFor, ruleIn, ruleOf}
+use Rattle.names.specs.Names.Rule.{ruling, storing, bitcast, arrayLength, ldexp, barrier}
 use Rattle.names.specs.Names.Named.{rule, unknown}
 use Rattle.names.proofs.Bytes.{same-bytes}
 
@@ -108,6 +108,24 @@ crateRules =
 abbrev pub document : List Name
 document = ruled ++ crateRules
 
+-- document 02, K5: "Add, in both profiles, atomicLoad, atomicStore, the seven read-modify-write calls from atomicAdd to atomicXor, atomicExchange, atomicCompareExchangeWeak and
+-- workgroupUniformLoad"; "Results are running"
+
+abbrev memoryBy : Rule → String → List Name
+memoryBy r text = under 0 (λ w. true) r (words (ascii text))
+
+pub memoryCalls : List Name
+memoryCalls =
+    memoryBy loading "atomicLoad"
+    ++ (memoryBy storing "atomicStore"
+    ++ (memoryBy updating "atomicAdd atomicSub atomicMax atomicMin atomicAnd atomicOr atomicXor atomicExchange"
+    ++ (memoryBy exchanging "atomicCompareExchangeWeak"
+    ++ memoryBy uniformLoading "workgroupUniformLoad")))
+
+-- the names that both profiles have
+abbrev pub olderNames : List Name
+olderNames = document ++ memoryCalls
+
 -- document 02, K1: "1 adds the subgroup and quad names of source document 000, without the naga form of subgroupBallot", by WGSL's subgroup chapter
 pub subgroups : List Name
 subgroups =
@@ -148,17 +166,22 @@ same-rules profile rs other t u s = go (ruleIn profile rs s) refl (ruleIn profil
     go unknown p (rule R m) q = covered profile other rs u s R m q ∙ sym q
     go unknown p unknown q = p ∙ sym q
 
--- THE TABLE SAYS WHAT THE DOCUMENTS SAY, of all bytes: in any profile the rule and the mark are those of the lists; in profile 0 those of document 01's alone
+-- THE TABLE SAYS WHAT THE DOCUMENTS SAY, of all bytes: in any profile the rule and the mark are those of the lists; in profile 0 those of document 01's and of the calls on memory alone
 
-pub as-documents : (profile : ℕ) (s : List ℕ) → ruleOf profile s ≡ ruleIn profile (document ++ subgroups) s
-unfolding ascii words ahead among runningEvenSo under ruled crateRules subgroups names both sameBytes ruleIn
-as-documents profile s = same-rules profile names (document ++ subgroups) refl refl s
+pub as-documents : (profile : ℕ) (s : List ℕ) → ruleOf profile s ≡ ruleIn profile (olderNames ++ subgroups) s
+unfolding ascii words ahead among runningEvenSo under ruled crateRules memoryCalls subgroups names both sameBytes ruleIn
+as-documents profile s = same-rules profile names (olderNames ++ subgroups) refl refl s
 
-pub as-document : (s : List ℕ) → ruleOf 0 s ≡ ruleIn 0 document s
+pub as-older : (s : List ℕ) → ruleOf 0 s ≡ ruleIn 0 olderNames s
+unfolding ascii words ahead among runningEvenSo under ruled crateRules memoryCalls names both sameBytes within ruleIn
+as-older s = same-rules 0 names olderNames refl refl s
+
+-- and each of document 01's names has there the rule that document 01 gives it, and its mark
+pub as-document : (s : List ℕ) (R : Rule) (m : Bool) → ruleIn 0 document s ≡ rule R m → ruleOf 0 s ≡ rule R m
 unfolding ascii words ahead among runningEvenSo under ruled crateRules names both sameBytes within ruleIn
-as-document s = same-rules 0 names document refl refl s
+as-document s R m e = covered 0 document names refl s R m e
 
--- RUNNING EVEN SO are the nine derivatives, arrayLength, the subgroup and quad names, and no other
-pub running-names : map (λ (r : Name). r .running) names ≡ map (λ (r : Name). among (r .text) (runningEvenSo ++ map (λ (r : Name). r .text) subgroups)) names
-unfolding ascii words ahead among runningEvenSo under subgroups names both sameBytes
+-- RUNNING EVEN SO are the nine derivatives, arrayLength, the subgroup and quad names, the calls on memory, and no other
+pub running-names : map (λ (r : Name). r .running) names ≡ map (λ (r : Name). among (r .text) (runningEvenSo ++ map (λ (r : Name). r .text) (memoryCalls ++ subgroups))) names
+unfolding ascii words ahead among runningEvenSo under memoryCalls subgroups names both sameBytes
 running-names = refl

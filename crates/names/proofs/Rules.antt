@@ -1,17 +1,18 @@
 -- The rules that names have: each is the rule of its number, and a row among them is known by its own. Computed of every name. Assumes nothing.
-use Prim.Native.Nat.{ℕ, _<_, _≤_}
+use Prim.Native.Nat.{ℕ, zero, suc, _<_, _≤_}
 use native.Mathlib.Omega.{arith}
 use mathlib.Core.Path.{_≡_, refl, sym, _∙_, ap, subst}
+use mathlib.Core.Logic.{_≢_}
 use mathlib.Core.Bool.{Bool, true, false, cond}
 use mathlib.Core.List.{List, [], _∷_, map}
 use lib.Dec.{eqb, ltb}
 use lib.ListN.{length, List·getD-eq-default}
 use borrow.Author.Tests.{lt-ltb, le-ltb, eq-eqb, ne-eqb, ltb-true, ltb-false}
 use Rattle.overload.specs.Rows.{Row, rows, noRow, rowAt, Ruling, Known}
-use Rattle.overload.specs.Rows.Ruling.{byRow, address, indirection}
+use Rattle.overload.specs.Rows.Ruling.{byRow, address, indirection, onAtomic, comparing, uniformLoad}
 use Rattle.overload.proofs.Rulings.{row-known}
-use Rattle.names.specs.Names.{Rule, Name, names, sameBytes, within, Named, ruleIn, ruleOf}
-use Rattle.names.specs.Names.Rule.{ruling, bitcast, arrayLength, ldexp, barrier}
+use Rattle.names.specs.Names.{Rule, loading, updating, exchanging, uniformLoading, Name, names, sameBytes, within, Named, ruleIn, ruleOf}
+use Rattle.names.specs.Names.Rule.{ruling, storing, bitcast, arrayLength, ldexp, barrier}
 use Rattle.names.specs.Names.Named.{rule, unknown}
 use Rattle.names.specs.inner.Table.{rulingNumber, ruleNumber, numbered, replied}
 use Rattle.names.specs.declared.RuleNo.the-variants.{Is, Unknown}
@@ -83,10 +84,36 @@ module _ (k : ℕ) where
   unfolding numbered
   numbered-ldexp h = rw (le-ltb k 100 (omega arith), ne-eqb k 100 (λ e. omega arith), ne-eqb k 101 (λ e. omega arith), eq-eqb k 102 h)
 
-  pub numbered-barrier : 103 ≤ k → numbered k ≡ barrier
+  -- of a literal number
+  module _ (j : ℕ) (h : k ≡ j) where
+    as-literal : numbered k ≡ numbered j
+    as-literal = ap numbered h
+
+  pub numbered-load : k ≡ 104 → numbered k ≡ loading
   unfolding numbered
-  numbered-barrier h =
-      rw (le-ltb k 100 (omega arith), ne-eqb k 100 (λ e. omega arith), ne-eqb k 101 (λ e. omega arith), ne-eqb k 102 (λ e. omega arith))
+  numbered-load h = as-literal 104 h
+
+  pub numbered-update : k ≡ 105 → numbered k ≡ updating
+  unfolding numbered
+  numbered-update h = as-literal 105 h
+
+  pub numbered-store : k ≡ 106 → numbered k ≡ storing
+  unfolding numbered
+  numbered-store h = as-literal 106 h
+
+  pub numbered-compare : k ≡ 107 → numbered k ≡ exchanging
+  unfolding numbered
+  numbered-compare h = as-literal 107 h
+
+  pub numbered-uniform : k ≡ 108 → numbered k ≡ uniformLoading
+  unfolding numbered
+  numbered-uniform h = as-literal 108 h
+
+  -- and every other is a barrier's
+  pub numbered-barrier : 100 ≤ k → k ≢ 100 → k ≢ 101 → k ≢ 102 → k ≢ 104 → k ≢ 105 → k ≢ 106 → k ≢ 107 → k ≢ 108 → numbered k ≡ barrier
+  unfolding numbered
+  numbered-barrier h a b c d e f g i =
+      rw (le-ltb k 100 h, ne-eqb k 100 a, ne-eqb k 101 b, ne-eqb k 102 c, ne-eqb k 104 d, ne-eqb k 105 e, ne-eqb k 106 f, ne-eqb k 107 g, ne-eqb k 108 i)
 
 -- and a ruling among them is known
 
@@ -94,6 +121,10 @@ again : Rule → Rule
 again (ruling (byRow r)) = ruling (byRow (rowAt (r .number)))
 again (ruling address) = ruling address
 again (ruling indirection) = ruling indirection
+again (ruling (onAtomic k)) = ruling (onAtomic k)
+again (ruling comparing) = ruling comparing
+again (ruling uniformLoad) = ruling uniformLoad
+again storing = storing
 again bitcast = bitcast
 again arrayLength = arrayLength
 again ldexp = ldexp
@@ -108,6 +139,9 @@ unfolding again Known
 ruling-known profile s (byRow r) e = let p : ruling (byRow (rowAt (r .number))) ≡ ruling (byRow r) = name-again profile s (ruling (byRow r)) e in cc
 ruling-known profile s address e = tt
 ruling-known profile s indirection e = tt
+ruling-known profile s (onAtomic k) e = tt
+ruling-known profile s comparing e = tt
+ruling-known profile s uniformLoad e = tt
 
 -- so is a ruling that a number has
 
@@ -126,13 +160,23 @@ row-number k = go (ltb k (length rows)) refl
     go true e = row-known k (ltb-true k (length rows) e)
     go false e = subst (λ (r : Row). Known (byRow r)) (sym (none k (ltb-false k (length rows) e))) no-row
 
+described : (r : Ruling) → (q : Ruling) → Known q → ruling q ≡ ruling r → Known r
+described r q k e = let p : q ≡ r = cc in subst Known p k
+
 pub number-known : (k : ℕ) (r : Ruling) → numbered k ≡ ruling r → Known r
-unfolding numbered
-number-known k r e = go (ltb k 100) (eqb k 100) (eqb k 101) (eqb k 102) e
+unfolding numbered Known
+number-known k r e = go (ltb k 100) (eqb k 100) (eqb k 101) (eqb k 102) (eqb k 104) (eqb k 105) (eqb k 106) (eqb k 107) (eqb k 108) e
   where
-    go : (a b c d : Bool) → cond a (ruling (byRow (rowAt k))) (cond b bitcast (cond c arrayLength (cond d ldexp barrier))) ≡ ruling r → Known r
-    go true b c d q = let p : byRow (rowAt k) ≡ r = cc in subst Known p (row-number k)
-    go false true c d q = impossible (cc)
-    go false false true d q = impossible (cc)
-    go false false false true q = impossible (cc)
-    go false false false false q = impossible (cc)
+    go : (a b c d f g h i j : Bool)
+        → cond a (ruling (byRow (rowAt k))) (cond b bitcast (cond c arrayLength (cond d ldexp (cond f loading (cond g updating (cond h storing (cond i exchanging (cond j uniformLoading barrier)))))))) ≡ ruling r
+        → Known r
+    go true b c d f g h i j q = described r (byRow (rowAt k)) (row-number k) q
+    go false true c d f g h i j q = impossible (cc)
+    go false false true d f g h i j q = impossible (cc)
+    go false false false true f g h i j q = impossible (cc)
+    go false false false false true g h i j q = described r (onAtomic 0) tt q
+    go false false false false false true h i j q = described r (onAtomic 1) tt q
+    go false false false false false false true i j q = impossible (cc)
+    go false false false false false false false true j q = described r comparing tt q
+    go false false false false false false false false true q = described r uniformLoad tt q
+    go false false false false false false false false false q = impossible (cc)

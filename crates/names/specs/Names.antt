@@ -1,4 +1,4 @@
--- THE BUILTIN NAMES of document 01, "Builtins", and of document 02, K1 and K3: each with its profile, its rule and whether its result is running, and the rule of any bytes
+-- THE BUILTIN NAMES of document 01, "Builtins", and of document 02, K1, K3 and K5: each with its profile, its rule and whether its result is running, and the rule of any bytes
 -- that are offered as a name.
 -- Assumes nothing.
 use Prim.Native.Nat.{ℕ, _+_, _<_}
@@ -10,13 +10,29 @@ use lib.ListN.{length, getD}
 use Rattle.text.specs.Text.{ascii}
 use Rattle.conv.specs.Rank.{both}
 use Rattle.overload.specs.Rows.{Row, Ruling, negating, oneFloat, twoFloats, threeFloats, mixing, oneNumeric, twoNumerics, threeNumerics, oneBits, extracting, inserting, measuring, distancing, dotting, oneFloatVector, twoFloatVectors, threeFloatVectors, refracting, crossing, squareMatrix, transposing, oneF32, frexpOf, modfOf, packing4F32, packing4I32, packing4U32, packing2F32, unpacking4F32, unpacking4I32, unpacking4U32, unpacking2F32, packedDotU32, packedDotI32, oneBool, selecting, oneConcrete, voting, balloting, electing, ofLane, shuffling}
-use Rattle.overload.specs.Rows.Ruling.{byRow}
+use Rattle.overload.specs.Rows.Ruling.{byRow, onAtomic, comparing, uniformLoad}
 
--- A RULE: which overloads the calls of a name have, or one of the crate rules; the three barriers have one
+-- A RULE: which overloads the calls of a name have; that of atomicStore, which takes what the other calls on atomics with one value take, and gives no value; or one of the crate
+-- rules, of which the three barriers have one
 
 pub data Rule : Type 0 where
   ruling : Ruling → Rule
+  storing : Rule
   bitcast arrayLength ldexp barrier : Rule
+
+-- the rules of the other calls on memory, of document 02, K5
+
+abbrev pub loading : Rule
+loading = ruling (onAtomic 0)
+
+abbrev pub updating : Rule
+updating = ruling (onAtomic 1)
+
+abbrev pub exchanging : Rule
+exchanging = ruling comparing
+
+abbrev pub uniformLoading : Rule
+uniformLoading = ruling uniformLoad
 
 -- a name: its bytes, the first profile that has it, its rule, and whether its result is running even where all operands are const
 pub record Name : Type 0 where
@@ -25,7 +41,7 @@ pub record Name : Type 0 where
   pub rule : Rule
   pub running : Bool
 
--- a ruled name, with its row of `overload/specs/Rows.antt`; a name with a crate rule; and a name of profile 1
+-- a ruled name, with its row of `overload/specs/Rows.antt`; a name with a crate rule; a name of profile 1; and a call on memory, K5: "Add, in both profiles", "Results are running"
 
 abbrev pub ruled : String → Row → Name
 ruled text row = record { text = ascii text; profile = 0; rule = ruling (byRow row); running = false }
@@ -36,11 +52,14 @@ crateRule text rule = record { text = ascii text; profile = 0; rule = rule; runn
 abbrev pub lanes : String → Row → Name
 lanes text row = record { text = ascii text; profile = 1; rule = ruling (byRow row); running = true }
 
+abbrev pub onMemory : String → Rule → Name
+onMemory text rule = record { text = ascii text; profile = 0; rule = rule; running = true }
+
 -- "Derivatives, barriers, arrayLength and subgroup or quad calls give running results even so": the last by their profile, and no barrier has a result
 abbrev pub whenRunning : Name → Name
 whenRunning r = record { text = r .text; profile = r .profile; rule = r .rule; running = true }
 
--- "The 94 builtin names stand sorted by their bytes", and among them the 25 of subgroups and quads
+-- "The 94 builtin names stand sorted by their bytes", and among them the 25 of subgroups and quads and the 12 of calls on memory
 unfoldable pub names : List Name
 names =
     ruled "abs" oneNumeric
@@ -54,6 +73,17 @@ names =
     ∷ ruled "atan" oneFloat
     ∷ ruled "atan2" twoFloats
     ∷ ruled "atanh" oneFloat
+    ∷ onMemory "atomicAdd" updating
+    ∷ onMemory "atomicAnd" updating
+    ∷ onMemory "atomicCompareExchangeWeak" exchanging
+    ∷ onMemory "atomicExchange" updating
+    ∷ onMemory "atomicLoad" loading
+    ∷ onMemory "atomicMax" updating
+    ∷ onMemory "atomicMin" updating
+    ∷ onMemory "atomicOr" updating
+    ∷ onMemory "atomicStore" storing
+    ∷ onMemory "atomicSub" updating
+    ∷ onMemory "atomicXor" updating
     ∷ crateRule "bitcast" bitcast
     ∷ ruled "ceil" oneFloat
     ∷ ruled "clamp" threeNumerics
@@ -162,9 +192,10 @@ names =
     ∷ ruled "unpack4xI8" unpacking4I32
     ∷ ruled "unpack4xU8" unpacking4U32
     ∷ crateRule "workgroupBarrier" barrier
+    ∷ onMemory "workgroupUniformLoad" uniformLoading
     ∷ []
 
--- A PROFILE has the names of its own number and of every smaller one: 0 those of document 01, 1 all. There is no other, and a profile that is unknown has none
+-- A PROFILE has the names of its own number and of every smaller one: 0 those of document 01 and the calls on memory, 1 all. There is no other, and a profile that is unknown has none
 
 abbrev pub profiles : ℕ
 profiles = 2

@@ -11,7 +11,7 @@ ghost use lib.ListN.{length};
 ghost use Rattle.names.specs.Names.{count, nameAt, ruleOf};
 ghost use Rattle.names.specs.inner.Table.{nameTable, endsBlank, Ordered, StandsAt, hasName, ruleAt, replied};
 
-// The crate rules' numbers. A number below the first is that of a row of overloads.
+// The numbers of the crate rules and of the calls on memory. A number below the first is that of a row of overloads.
 pub const RULE_BITCAST: u8 = 100;
 
 pub const RULE_ARRAY_LENGTH: u8 = 101;
@@ -19,6 +19,16 @@ pub const RULE_ARRAY_LENGTH: u8 = 101;
 pub const RULE_LDEXP: u8 = 102;
 
 pub const RULE_BARRIER: u8 = 103;
+
+pub const RULE_ATOMIC_LOAD: u8 = 104;
+
+pub const RULE_ATOMIC_UPDATE: u8 = 105;
+
+pub const RULE_ATOMIC_STORE: u8 = 106;
+
+pub const RULE_ATOMIC_COMPARE: u8 = 107;
+
+pub const RULE_UNIFORM_LOAD: u8 = 108;
 
 // How many profiles there are.
 pub const PROFILES: u32 = 2;

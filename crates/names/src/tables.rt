@@ -9,7 +9,7 @@ pub const NAME_WIDTH: usize = 32;
 pub const LINE_WIDTH: usize = 35;
 
 // The letters of each name, filled up with blanks, then the number of its rule, the first profile that has it, and 1 where its result is running. `tools/names` writes the lines.
-const COUNT: usize = 119;
+const COUNT: usize = 131;
 
 const NAMES: [u8; COUNT * LINE_WIDTH] = *b"\
         abs                             \x10\x00\x00\
@@ -23,6 +23,17 @@ const NAMES: [u8; COUNT * LINE_WIDTH] = *b"\
         atan                            \x0c\x00\x00\
         atan2                           \x0d\x00\x00\
         atanh                           \x0c\x00\x00\
+        atomicAdd                       \x69\x00\x01\
+        atomicAnd                       \x69\x00\x01\
+        atomicCompareExchangeWeak       \x6b\x00\x01\
+        atomicExchange                  \x69\x00\x01\
+        atomicLoad                      \x68\x00\x01\
+        atomicMax                       \x69\x00\x01\
+        atomicMin                       \x69\x00\x01\
+        atomicOr                        \x69\x00\x01\
+        atomicStore                     \x6a\x00\x01\
+        atomicSub                       \x69\x00\x01\
+        atomicXor                       \x69\x00\x01\
         bitcast                         \x64\x00\x00\
         ceil                            \x0c\x00\x00\
         clamp                           \x12\x00\x00\
@@ -130,7 +141,8 @@ const NAMES: [u8; COUNT * LINE_WIDTH] = *b"\
         unpack4x8unorm                  \x27\x00\x00\
         unpack4xI8                      \x28\x00\x00\
         unpack4xU8                      \x29\x00\x00\
-        workgroupBarrier                \x67\x00\x00";
+        workgroupBarrier                \x67\x00\x00\
+        workgroupUniformLoad            \x6c\x00\x01";
 
 // How many lines there are.
 pub fn lines() -> usize

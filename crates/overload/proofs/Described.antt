@@ -1,11 +1,10 @@
--- Demand 3 for unary `&` and `*`, whose overloads are described: one for each reference or pointer type that their rule takes.
--- Assumes nothing.
+-- Demand 3 for rules whose overloads are described: one for each reference or pointer type that the rule takes. Unary `&` and `*` are two of them. Assumes nothing.
 use Prim.Native.Nat.{ℕ}
 use native.Mathlib.Omega.{arith}
 use mathlib.Core.Path.{_≡_, refl, sym, _∙_, ap, subst}
 use mathlib.Core.Logic.{_≢_, inl}
 use mathlib.Core.Bool.{Bool, true, false, cond}
-use mathlib.Core.List.{[], _∷_}
+use mathlib.Core.List.{List, [], _∷_}
 use lib.Dec.{T, eqb}
 use borrow.Author.Tests.{eqb-true, eqb-false}
 use Rattle.conv.specs.Types.{Ty, handle, formed}
@@ -14,7 +13,7 @@ use Rattle.conv.specs.Rank.{pick, both, none, rankOf, Shape, shapeOf, component
 use Rattle.conv.specs.Rank.Shape.{one, vector, matrix, other}
 use Rattle.conv.proofs.Finite.{both-left, both-right}
 use Rattle.conv.proofs.Made.{same-ty, self-rank}
-use Rattle.overload.specs.Overload.{Overload, fits, Resolved}
+use Rattle.overload.specs.Overload.{Overload, fits, Preferred, Resolved}
 use Rattle.overload.specs.Overload.Judged.{gives, noneFits, nonePreferred}
 use Rattle.overload.specs.Rows.{addressOf, indirectionOf, judgeAddress, judgeIndirection}
 
@@ -40,42 +39,56 @@ only-itself x p e h = go (sameTy x p) refl
     go true q = same-ty x p (rw q tt)
     go false q = absurd (rw (q, far) at h)
 
-fits-one : (x p : Ty) → T (fits (p ∷ []) (x ∷ [])) → T (converts x p)
-unfolding fits
-fits-one x p h = both-left _ _ h
+module _ (x p : Ty) (ps xs : List Ty) where
+  fits-first : T (fits (p ∷ ps) (x ∷ xs)) → T (converts x p)
+  unfolding fits
+  fits-first h = both-left _ _ h
 
-one-fits : (x : Ty) → T (fits (x ∷ []) (x ∷ []))
+  fits-rest : T (fits (p ∷ ps) (x ∷ xs)) → T (fits ps xs)
+  unfolding fits
+  fits-rest h = both-right (converts x p) _ h
+
+self-fits : (x : Ty) (ps xs : List Ty) → T (fits ps xs) → T (fits (x ∷ ps) (x ∷ xs))
 unfolding fits both
-one-fits x = rw (self-rank x) tt
+self-fits x ps xs h = rw (self-rank x) h
 
--- a set whose overloads take one type each, no scalar, vector or matrix, and give one result for it: at such a type its own overload is preferred
-module _ (set : Overload → Type 0) (takes : Ty → Type 0) (out : Ty → Ty)
-    (each : (o : Overload) → set o → (x : Ty) × takes x × (shapeOf x ≡ other) × (o ≡ record { params = x ∷ []; result = out x }))
-    (all : (x : Ty) → takes x → set (record { params = x ∷ []; result = out x })) where
-  taken : (x : Ty) (p : Overload) → set p → T (fits (p .params) (x ∷ [])) → takes x × (p ≡ record { params = x ∷ []; result = out x })
-  taken x p m h =
+-- a set whose overloads have a first parameter each, no scalar, vector or matrix, and for it one list of further ones and one result: at such a first operand its own overload is
+-- preferred, where the others convert
+module _ (set : Overload → Type 0) (takes : Ty → Type 0) (more : Ty → List Ty) (out : Ty → Ty)
+    (each : (o : Overload) → set o → (x : Ty) × takes x × (shapeOf x ≡ other) × (o ≡ record { params = x ∷ more x; result = out x }))
+    (all : (x : Ty) → takes x → set (record { params = x ∷ more x; result = out x })) where
+  taken : (x : Ty) (xs : List Ty) (p : Overload) → set p → T (fits (p .params) (x ∷ xs))
+      → takes x × T (fits (more x) xs) × (p ≡ record { params = x ∷ more x; result = out x })
+  taken x xs p m h =
       let q = each p m in
-      let e : x ≡ q .0 = only-itself x (q .0) (q .2) (fits-one x (q .0) (subst (λ (o : Overload). T (fits (o .params) (x ∷ []))) (q .3) h)) in
-      (subst takes (sym e) (q .1), q .3 ∙ ap (λ (y : Ty). record { params = y ∷ []; result = out y }) (sym e))
+      let f = subst (λ (o : Overload). T (fits (o .params) (x ∷ xs))) (q .3) h in
+      let e : x ≡ q .0 = only-itself x (q .0) (q .2) (fits-first x (q .0) (more (q .0)) xs f) in
+      (subst takes (sym e) (q .1), subst (λ (y : Ty). T (fits (more y) xs)) (sym e) (fits-rest x (q .0) (more (q .0)) xs f), q .3 ∙ ap (λ (y : Ty). record { params = y ∷ more y; result = out y }) (sym e))
 
-  pub described : (x : Ty) → takes x → Resolved set (x ∷ []) (gives (out x))
-  unfolding Resolved
-  described x k = (
-    record { params = x ∷ []; result = out x },
-    record { among = all x k; fitting = one-fits x; over = λ p m h. inl (taken x p m h .1) },
-    refl,
-  )
+  own : (x : Ty) (xs : List Ty) → takes x → T (fits (more x) xs) → Preferred set (x ∷ xs) (record { params = x ∷ more x; result = out x })
+  own x xs k f = record { among = all x k; fitting = self-fits x (more x) xs f; over = λ p m h. inl (taken x xs p m h .2) }
 
-  pub undescribed : (x : Ty) → (takes x → ⊥) → Resolved set (x ∷ []) noneFits
+  pub described : (x : Ty) (xs : List Ty) → takes x → T (fits (more x) xs) → Resolved set (x ∷ xs) (gives (out x))
   unfolding Resolved
-  undescribed x k p m h = k (taken x p m h .0)
+  described x xs k f = (record { params = x ∷ more x; result = out x }, own x xs k f, refl)
+
+  pub undescribed : (x : Ty) (xs : List Ty) → (takes x → T (fits (more x) xs) → ⊥) → Resolved set (x ∷ xs) noneFits
+  unfolding Resolved
+  undescribed x xs k p m h = let t = taken x xs p m h in k (t .0) (t .1)
+
+  pub described-none : Resolved set [] noneFits
+  unfolding Resolved fits
+  described-none p m h = let q = each p m in subst (λ (o : Overload). T (fits (o .params) [])) (q .3) h
 
   -- so 13 is never given
-  pub described-never : (x : Ty) → Resolved set (x ∷ []) nonePreferred → ⊥
+  pub described-never : (ts : List Ty) → Resolved set ts nonePreferred → ⊥
   unfolding Resolved
-  described-never x q =
-      let t = taken x (q .0 .0) (q .0 .1) (q .0 .2) in
-      q .1 (record { params = x ∷ []; result = out x }) (record { among = all x (t .0); fitting = one-fits x; over = λ p m h. inl (taken x p m h .1) })
+  described-never [] q = described-none (q .0 .0) (q .0 .1) (q .0 .2)
+  described-never (x ∷ xs) q = let t = taken x xs (q .0 .0) (q .0 .1) (q .0 .2) in q .1 (record { params = x ∷ more x; result = out x }) (own x xs (t .0) (t .1))
+
+-- a rule for one operand has no further parameter
+abbrev pub nothingMore : Ty → List Ty
+nothingMore x = []
 
 -- UNARY `&`: a reference, not in space handle, to the pointer
 
@@ -120,22 +133,24 @@ module _ (x : Ty) where
   not-pointer h k = h (ap tagOf (k .4))
 
 address-gives : (x : Ty) → Lendable x → Resolved addressOf (x ∷ []) (gives (pointerTo x))
-address-gives = described addressOf Lendable pointerTo each-address all-address
+unfolding fits
+address-gives x k = described addressOf Lendable nothingMore pointerTo each-address all-address x [] k tt
 
 address-none : (x : Ty) → (Lendable x → ⊥) → Resolved addressOf (x ∷ []) noneFits
-address-none = undescribed addressOf Lendable pointerTo each-address all-address
+address-none x h = undescribed addressOf Lendable nothingMore pointerTo each-address all-address x [] (λ k f. h k)
 
-pub address-never : (x : Ty) → Resolved addressOf (x ∷ []) nonePreferred → ⊥
-address-never = described-never addressOf Lendable pointerTo each-address all-address
+pub address-never : (ts : List Ty) → Resolved addressOf ts nonePreferred → ⊥
+address-never = described-never addressOf Lendable nothingMore pointerTo each-address all-address
 
 indirection-gives : (x : Ty) → Pointer x → Resolved indirectionOf (x ∷ []) (gives (referenceTo x))
-indirection-gives = described indirectionOf Pointer referenceTo each-indirection all-indirection
+unfolding fits
+indirection-gives x k = described indirectionOf Pointer nothingMore referenceTo each-indirection all-indirection x [] k tt
 
 indirection-none : (x : Ty) → (Pointer x → ⊥) → Resolved indirectionOf (x ∷ []) noneFits
-indirection-none = undescribed indirectionOf Pointer referenceTo each-indirection all-indirection
+indirection-none x h = undescribed indirectionOf Pointer nothingMore referenceTo each-indirection all-indirection x [] (λ k f. h k)
 
-pub indirection-never : (x : Ty) → Resolved indirectionOf (x ∷ []) nonePreferred → ⊥
-indirection-never = described-never indirectionOf Pointer referenceTo each-indirection all-indirection
+pub indirection-never : (ts : List Ty) → Resolved indirectionOf ts nonePreferred → ⊥
+indirection-never = described-never indirectionOf Pointer nothingMore referenceTo each-indirection all-indirection
 
 -- THE RULES AS FUNCTIONS meet demand 3
 

@@ -14,6 +14,7 @@ pub mod Marks
 pub mod Described
 pub mod Results
 pub mod Operands
+pub mod Memory
 pub mod Rulings
 pub mod Sets
 pub mod Lines

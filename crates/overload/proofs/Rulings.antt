@@ -1,5 +1,5 @@
 -- DEMAND 3 for every ruling: its judgment is the one that its overloads have, a fitting overload is preferred to every other that fits, and what it gives is a type that
--- there is. A row by the laws of rows, unary `&` and `*` by those of described overloads. Assumes nothing.
+-- there is. A row by the laws of rows, every other by those of described overloads. Assumes nothing.
 use Prim.Native.Nat.{ℕ, zero, suc, _<_}
 use mathlib.Core.Path.{_≡_, refl, sym, _∙_, ap, subst}
 use mathlib.Core.Bool.{Bool, true, false, _&&_, not, cond}
@@ -8,21 +8,22 @@ use lib.ListN.{length, getD}
 use native.Mathlib.Omega.{arith}
 use mathlib.Core.Logic.{_≢_, ⊎-elim}
 use lib.Dec.{T, T-not, eqb, leb, eqb→eq}
-use borrow.Author.Tests.{eqb-false, le-leb, leb-true}
-use Rattle.conv.specs.Types.{Ty, formed, isValue, abstractTy, storage, handle, readWrite}
+use borrow.Author.Tests.{eqb-false, le-leb, leb-true, lt-ltb}
+use Rattle.conv.specs.Types.{Ty, formed, isValue, abstractTy, workgroup, storage, handle, readWrite}
 use Rattle.conv.specs.Types.Ty.{scalar, vec, mat, array, runtime, atomic, ptr, ref, frexp, modf, exchange}
 use Rattle.conv.specs.Rank.{both, converts}
 use Rattle.conv.proofs.Finite.{both-right, below}
 use Rattle.overload.specs.Overload.{Overload, or, fits, Judged, Resolved}
 use Rattle.overload.specs.Marks.{anyAbstract, remains, remaining}
 use Rattle.overload.specs.Overload.Judged.{gives, noneFits, nonePreferred}
-use Rattle.overload.specs.Rows.{Row, rows, noRow, rowAt, overloadsOf, ofRow, addressOf, indirectionOf, Ruling, overloadsBy, judgeRow, judgeAddress, judgeIndirection, alone, judgeBy, Known}
-use Rattle.overload.specs.Rows.Ruling.{byRow, address, indirection}
+use Rattle.overload.specs.Rows.{Row, rows, noRow, rowAt, overloadsOf, ofRow, addressOf, indirectionOf, atomicOf, uniformLoadOf, Ruling, overloadsBy, judgeRow, judgeAddress, judgeIndirection, judgeLoad, alone, judgeBy, Known}
+use Rattle.overload.specs.Rows.Ruling.{byRow, address, indirection, onAtomic, comparing, uniformLoad}
 use Rattle.overload.proofs.Preference.{or-cases, same-resolved}
 use Rattle.overload.proofs.Marks.{sifted-resolved, left-never, concrete-remains}
 use Rattle.overload.proofs.Operands.{allFormed, and-left, and-right}
 use Rattle.overload.proofs.Results.{T-true, gives-formed}
 use Rattle.overload.proofs.Described.{judge-address, judge-indirection, address-never, indirection-never}
+use Rattle.overload.proofs.Memory.{integer-small, exchange-formed, judge-atomic, atomic-never, atomic-formed, atomic-concrete, judge-load, load-never, load-formed, load-concrete}
 
 clash : {R : Ty} → noneFits ≡ gives R → ⊥
 clash e = let z : _≡_ {A = ℕ} 0 1 = cc in omega arith
@@ -53,13 +54,6 @@ module _ (set : Overload → Type 0) (one : OneParam set) where
     alone-resolved (t ∷ []) f = resolved t (and-left (formed t) true f)
     alone-resolved (t ∷ u ∷ us) f = many-fit t u us
 
-  module _ (never : (t : Ty) → Resolved set (t ∷ []) nonePreferred → ⊥) where
-    alone-never : (ts : List Ty) → Resolved set ts nonePreferred → ⊥
-    unfolding Resolved
-    alone-never [] q = none-fit (q .0 .0) (q .0 .1) (q .0 .2)
-    alone-never (t ∷ []) q = never t q
-    alone-never (t ∷ u ∷ us) q = many-fit t u us (q .0 .0) (q .0 .1) (q .0 .2)
-
   module _ (j : Ty → Judged) (gives-one : (t : Ty) → formed t ≡ true → (R : Ty) → j t ≡ gives R → formed R ≡ true) where
     alone-formed : (ts : List Ty) → allFormed ts ≡ true → (R : Ty) → alone j ts ≡ gives R → formed R ≡ true
     unfolding alone allFormed
@@ -72,6 +66,9 @@ address-one o m = (ref (m .0) (m .1) (m .2), ap (λ (p : Overload). p .params) (
 
 indirection-one : OneParam indirectionOf
 indirection-one o m = (ptr (m .0) (m .1) (m .2), ap (λ (p : Overload). p .params) (m .4))
+
+load-one : OneParam uniformLoadOf
+load-one o m = (ptr workgroup readWrite (m .0), ap (λ (p : Overload). p .params) (m .3))
 
 -- WHAT `&` AND `*` GIVE is a type that there is: a pointer and a reference ask the same of their element
 
@@ -145,7 +142,7 @@ pub row-formed : (r : Row) → Known (byRow r) → (ts : List Ty) (ms : List Boo
 unfolding judgeBy Known
 row-formed r k ts ms R e = gives-formed (r .number) (remains ms) ts R (ap (λ (x : Row). judgeRow x ts ms) k ∙ e) .0
 
--- NO OVERLOAD OF `&` AND `*` IS EVER DROPPED: a reference and a pointer are to types that are not abstract
+-- NO OVERLOAD OF A DESCRIBED RULE IS EVER DROPPED: a reference and a pointer are to types that are not abstract, and the component of an atomic is i32 or u32
 
 deep : (a b c d : Bool) → (a && b && c && d) ≡ true → c ≡ true
 deep a b c d h = and-right (a && b) c (and-left (a && b && c) d h)
@@ -175,6 +172,12 @@ module _ (ms : List Bool) where
   indirection-stays : Stays indirectionOf
   indirection-stays o m = concrete-remains o ms (λ h. pointed-concrete (m .0) (m .1) (m .2) (m .3) (subst (λ (p : Overload). T (anyAbstract (p .params))) (m .4) h))
 
+  atomic-stays : (k : ℕ) (out : ℕ → Ty) → Stays (atomicOf k out)
+  atomic-stays k out o m = concrete-remains o ms (atomic-concrete k out o m)
+
+  load-stays : Stays uniformLoadOf
+  load-stays o m = concrete-remains o ms (load-concrete o m)
+
   -- so a set of which nothing is dropped has the judgments that it had
   module _ (set : Overload → Type 0) (stays : Stays set) (ts : List Ty) (j : Judged) where
     to-left : Resolved set ts j → Resolved (remaining ms set) ts j
@@ -182,6 +185,10 @@ module _ (ms : List Bool) where
 
     of-left : Resolved (remaining ms set) ts j → Resolved set ts j
     of-left q = same-resolved (remaining ms set) set ts (λ p f m. m .0) (λ p f m. (m, stays p m)) j q
+
+scalar-formed : (s : ℕ) → formed (atomic s) ≡ true → formed (scalar s) ≡ true
+unfolding formed
+scalar-formed s h = lt-ltb s 7 (integer-small s h)
 
 -- EVERY RULING, on operands that are types, whatever their marks
 
@@ -192,13 +199,19 @@ module _ (ts : List Ty) (f : allFormed ts ≡ true) (ms : List Bool) where
   ruling-resolved (byRow r) = sifted-resolved (remains ms) (overloadsOf r) ts
   ruling-resolved address = to-left ms addressOf (address-stays ms) ts _ (alone-resolved addressOf address-one judgeAddress judge-address ts f)
   ruling-resolved indirection = to-left ms indirectionOf (indirection-stays ms) ts _ (alone-resolved indirectionOf indirection-one judgeIndirection judge-indirection ts f)
+  ruling-resolved (onAtomic j) = to-left ms (atomicOf j scalar) (atomic-stays ms j scalar) ts _ (judge-atomic j scalar ts f)
+  ruling-resolved comparing = to-left ms (atomicOf 2 exchange) (atomic-stays ms 2 exchange) ts _ (judge-atomic 2 exchange ts f)
+  ruling-resolved uniformLoad = to-left ms uniformLoadOf (load-stays ms) ts _ (alone-resolved uniformLoadOf load-one judgeLoad judge-load ts f)
 
   -- where an overload fits that remains one is preferred to every other that does: REFUSAL 13 IS NEVER GIVEN
   pub ruling-never : (r : Ruling) → Known r → Resolved (remaining ms (overloadsBy r)) ts nonePreferred → ⊥
   unfolding overloadsBy Known
   ruling-never (byRow r) k q = left-never (r .number) ms ts (subst (λ (x : Row). Resolved (remaining ms (ofRow x)) ts nonePreferred) (sym k) q)
-  ruling-never address k q = alone-never addressOf address-one address-never ts (of-left ms addressOf (address-stays ms) ts nonePreferred q)
-  ruling-never indirection k q = alone-never indirectionOf indirection-one indirection-never ts (of-left ms indirectionOf (indirection-stays ms) ts nonePreferred q)
+  ruling-never address k q = address-never ts (of-left ms addressOf (address-stays ms) ts nonePreferred q)
+  ruling-never indirection k q = indirection-never ts (of-left ms indirectionOf (indirection-stays ms) ts nonePreferred q)
+  ruling-never (onAtomic j) k q = atomic-never j scalar ts (of-left ms (atomicOf j scalar) (atomic-stays ms j scalar) ts nonePreferred q)
+  ruling-never comparing k q = atomic-never 2 exchange ts (of-left ms (atomicOf 2 exchange) (atomic-stays ms 2 exchange) ts nonePreferred q)
+  ruling-never uniformLoad k q = load-never ts (of-left ms uniformLoadOf (load-stays ms) ts nonePreferred q)
 
   -- what it gives is a type that there is
   pub ruling-formed : (r : Ruling) → Known r → (R : Ty) → judgeBy r ts ms ≡ gives R → formed R ≡ true
@@ -206,6 +219,9 @@ module _ (ts : List Ty) (f : allFormed ts ≡ true) (ms : List Bool) where
   ruling-formed (byRow r) k R e = row-formed r k ts ms R e
   ruling-formed address k R e = alone-formed addressOf address-one judgeAddress address-formed ts f R e
   ruling-formed indirection k R e = alone-formed indirectionOf indirection-one judgeIndirection indirection-formed ts f R e
+  ruling-formed (onAtomic j) k R e = atomic-formed j scalar scalar-formed ts f R e
+  ruling-formed comparing k R e = atomic-formed 2 exchange exchange-formed ts f R e
+  ruling-formed uniformLoad k R e = alone-formed uniformLoadOf load-one judgeLoad load-formed ts f R e
 
 -- a row of the list is known by its number
 rowTest : ℕ → Bool

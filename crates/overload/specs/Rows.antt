@@ -1,16 +1,16 @@
 -- The ruled operators and builtins of document 01, a row each, as data: parameters and result by pattern, the sizes, the set of T. Assumes nothing.
-use Prim.Native.Nat.{ℕ}
+use Prim.Native.Nat.{ℕ, zero, suc}
 use mathlib.Core.Path.{_≡_}
-use mathlib.Core.Logic.{_≢_}
-use mathlib.Core.Bool.{Bool, cond}
+use mathlib.Core.Logic.{_≢_, _⊎_}
+use mathlib.Core.Bool.{Bool, _&&_, _||_, not, cond}
 use lib.Dec.{T, eqb}
 use mathlib.Core.List.{List, [], _∷_, _++_, map}
 use lib.ListN.{getD, length}
-use Rattle.conv.specs.Types.{Ty, bool, abstractInt, abstractFloat, i32, u32, f32, f16, exponent, handle, formed}
+use Rattle.conv.specs.Types.{Ty, bool, abstractInt, abstractFloat, i32, u32, f32, f16, exponent, workgroup, storage, handle, readWrite, isRuntime, holdsAtomic, formed}
 use Rattle.conv.specs.Types.Ty.{scalar, vec, mat, array, runtime, atomic, ptr, ref, frexp, modf, exchange}
-use Rattle.conv.specs.Rank.{Shape, columnsOf, rowsOf, made}
+use Rattle.conv.specs.Rank.{Shape, columnsOf, rowsOf, tagOf, isPointer, firstOf, secondOf, elementOf, made}
 use Rattle.conv.specs.Rank.Shape.{one, vector, matrix}
-use Rattle.overload.specs.Overload.{Overload, listed, Judged, judge}
+use Rattle.overload.specs.Overload.{Overload, fits, listed, Judged, judge}
 use Rattle.overload.specs.Marks.{remainingIn}
 use Rattle.overload.specs.Overload.Judged.{gives, noneFits}
 
@@ -462,18 +462,56 @@ abbrev pub indirectionOf : Overload → Type 0
 indirectionOf o =
     (space access : ℕ) × (t : Ty) × T (formed (ptr space access t)) × (o ≡ record { params = ptr space access t ∷ []; result = ref space access t })
 
--- A RULING says which overloads a call has: those of a row, or those that a rule describes
+-- CALLS ON ATOMICS (document 02, K5): described too. "Take a pointer to an atomic, in space storage or workgroup with read_write access, and value operands that convert to its
+-- component": one overload for each such pointer, with value parameters of the component
+
+abbrev pub toAtomic : ℕ → ℕ → Ty
+toAtomic space s = ptr space readWrite (atomic s)
+
+unfoldable pub values : ℕ → ℕ → List Ty
+values zero s = []
+values (suc k) s = scalar s ∷ values k s
+
+-- with k values, and what it gives for a component
+abbrev pub atomicOf : ℕ → (ℕ → Ty) → Overload → Type 0
+atomicOf k out o =
+    (space s : ℕ) × ((space ≡ storage) ⊎ (space ≡ workgroup)) × T (formed (toAtomic space s))
+    × (o ≡ record { params = toAtomic space s ∷ values k s; result = out s })
+
+-- workgroupUniformLoad: "takes a workgroup pointer with read_write access and gives the component of an atomic, else the element, which is no kind 10 and holds no atomic"
+
+abbrev pub isAtomic : Ty → Bool
+isAtomic t = eqb (tagOf t) 5
+
+abbrev pub loadable : Ty → Bool
+loadable t = isAtomic t || (not (isRuntime t) && not (holdsAtomic t))
+
+-- the component of an atomic is its first number
+abbrev pub loaded : Ty → Ty
+loaded t = cond (isAtomic t) (scalar (firstOf t)) t
+
+abbrev pub uniformLoadOf : Overload → Type 0
+uniformLoadOf o =
+    (t : Ty) × T (loadable t) × T (formed (ptr workgroup readWrite t)) × (o ≡ record { params = ptr workgroup readWrite t ∷ []; result = loaded t })
+
+-- A RULING says which overloads a call has: those of a row, or those that a rule describes. On atomics: with so many values, giving the component; with two values, giving
+-- the result of a compare
 pub data Ruling : Type 0 where
   byRow : Row → Ruling
   address indirection : Ruling
+  onAtomic : ℕ → Ruling
+  comparing uniformLoad : Ruling
 
 unfoldable pub overloadsBy : Ruling → Overload → Type 0
 overloadsBy (byRow r) = ofRow r
 overloadsBy address = addressOf
 overloadsBy indirection = indirectionOf
+overloadsBy (onAtomic k) = atomicOf k scalar
+overloadsBy comparing = atomicOf 2 exchange
+overloadsBy uniformLoad = uniformLoadOf
 
--- HOW A CALL IS JUDGED, by the types and the marks of its operands: a listed row by those of its overloads that remain; unary `&` and `*` by their rule, since no overload
--- of theirs is ever dropped
+-- HOW A CALL IS JUDGED, by the types and the marks of its operands: a listed row by those of its overloads that remain; a described rule by itself, since none of its
+-- overloads is ever dropped
 
 abbrev pub judgeRow : Row → List Ty → List Bool → Judged
 judgeRow r ts ms = judge (remainingIn ms (overloadsOf r)) ts
@@ -510,13 +548,37 @@ alone j [] = noneFits
 alone j (t ∷ []) = j t
 alone j (t ∷ u ∷ us) = noneFits
 
+-- a pointer that a call on atomics takes, and the component of its atomic
+abbrev pub takesAtomic : Ty → Bool
+takesAtomic x = isPointer x && (eqb (firstOf x) storage || eqb (firstOf x) workgroup) && eqb (secondOf x) readWrite && isAtomic (elementOf x)
+
+abbrev pub atomicIn : Ty → ℕ
+atomicIn x = firstOf (elementOf x)
+
+unfoldable pub judgeAtomic : ℕ → (ℕ → Ty) → List Ty → Judged
+judgeAtomic k out [] = noneFits
+judgeAtomic k out (x ∷ xs) = cond (takesAtomic x && fits (values k (atomicIn x)) xs) (gives (out (atomicIn x))) noneFits
+
+-- and one that workgroupUniformLoad takes
+abbrev pub takesLoad : Ty → Bool
+takesLoad x = isPointer x && eqb (firstOf x) workgroup && eqb (secondOf x) readWrite && loadable (elementOf x)
+
+unfoldable pub judgeLoad : Ty → Judged
+judgeLoad x = cond (takesLoad x) (gives (loaded (elementOf x))) noneFits
+
 unfoldable pub judgeBy : Ruling → List Ty → List Bool → Judged
 judgeBy (byRow r) ts ms = judgeRow r ts ms
 judgeBy address ts ms = alone judgeAddress ts
 judgeBy indirection ts ms = alone judgeIndirection ts
+judgeBy (onAtomic k) ts ms = judgeAtomic k scalar ts
+judgeBy comparing ts ms = judgeAtomic 2 exchange ts
+judgeBy uniformLoad ts ms = alone judgeLoad ts
 
 -- the row of a ruling is one of `rows`, and stands there at its number
 unfoldable pub Known : Ruling → Type 0
 Known (byRow r) = rowAt (r .number) ≡ r
 Known address = Unit {0}
 Known indirection = Unit {0}
+Known (onAtomic k) = Unit {0}
+Known comparing = Unit {0}
+Known uniformLoad = Unit {0}

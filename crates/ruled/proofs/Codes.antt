@@ -13,12 +13,12 @@ use Rattle.conv.specs.Rank.{pick, shapeOf, tagOf, isReference, made}
 use Rattle.conv.specs.Rank.Shape.{other}
 use Rattle.overload.specs.inner.Code.{shapeOfNo, operand, codeOf}
 use Rattle.overload.proofs.Operands.{code-scalar, code-vec, code-mat, code-other, between, float-small, and-left, and-right}
-use Rattle.table.specs.Table.{scalars, kindVec, kindMat, kindRef, entryAt, Sound}
+use Rattle.table.specs.Table.{scalars, kindVec, kindMat, kindRef, entryAt, rowOk, Sound}
 use Rattle.table.specs.Denote.{typeAt}
 use Rattle.table.specs.Denote as denote
 use Rattle.table.specs.declared.Entry.{Entry}
-use Rattle.table.proofs.KindLaws.{by-kind}
-use Rattle.table.proofs.TypeLaws.{type-scalar, type-made, type-vec, type-mat, type-ref}
+use Rattle.table.proofs.KindLaws.{clash, by-kind}
+use Rattle.table.proofs.TypeLaws.{type-scalar, row-at, type-made, type-vec, type-mat, type-ref}
 use Rattle.table.proofs.FormedLaws.{formed-at}
 
 -- THE NUMBER OF AN ENTRY
@@ -62,15 +62,17 @@ module _ (w : List ℕ) (n : ℕ) (s : Sound w n) (t : ℕ) (l : t < n) where
   ref-code k = let e = type-ref w n s t l k in sym (ap codeOf e ∙ code-other (ref _ _ _) refl)
 
   -- any other kind
-  elsewhere : (e : Entry) (u : Ty) → e .kind ≢ kindVec → e .kind ≢ kindMat → e .kind ≢ kindRef → (shapeOf (denote.made e u) ≡ other) × (isReference (denote.made e u) ≡ false)
-  unfolding denote.made shapeOf tagOf
-  elsewhere e u a b c =
+  elsewhere : (e : Entry) (u : Ty) (ek eb : ℕ) → rowOk e ek eb ≡ true → e .kind ≢ kindVec → e .kind ≢ kindMat → e .kind ≢ kindRef
+      → (shapeOf (denote.made e u) ≡ other) × (isReference (denote.made e u) ≡ false)
+  unfolding denote.made shapeOf tagOf rowOk
+  elsewhere e u ek eb h a b c =
       by-kind (e .kind) (λ k. absurd (a k)) (λ k. absurd (b k)) (λ k. rw k (refl, refl)) (λ k. rw k (refl, refl)) (λ k. rw k (refl, refl)) (λ k. rw k (refl, refl)) (λ k. absurd (c k))
-      (λ k. rw k (refl, refl)) (λ k. rw k (refl, refl)) (λ n1 n2 n3 n4 n5 n6 n7 n8 n9. rw (n1, n2, n3, n4, n5, n6, n7, n8) (refl, refl))
+      (λ k. rw k (refl, refl)) (λ k. rw k (refl, refl)) (λ k. rw k (refl, refl))
+      (λ n1 n2 n3 n4 n5 n6 n7 n8 n9 n10. clash h (rw (n1, n2, n3, n4, n5, n6, n7, n8, n9, n10)))
 
   pub other-code : scalars ≤ t → entryAt w t .kind ≢ kindVec → entryAt w t .kind ≢ kindMat → entryAt w t .kind ≢ kindRef → 91 ≡ codeOf (typeAt w t)
   other-code h a b c =
-      let q = elsewhere (entryAt w t) (typeAt w (entryAt w t .elem)) a b c in
+      let q = elsewhere (entryAt w t) (typeAt w (entryAt w t .elem)) _ _ (row-at w n s t h l .1) a b c in
       let m = type-made w n s t h l in
       sym (ap codeOf m ∙ code-other (denote.made (entryAt w t) (typeAt w (entryAt w t .elem))) (q .0) ∙ ap (λ (x : Bool). pick x 98 91) (q .1))
 

@@ -12,19 +12,23 @@ use Rattle.conv.specs.Types.{Ty}
 use Rattle.conv.specs.Rank.{both}
 use Rattle.overload.specs.Overload.{Overload, or, Judged, judge}
 use Rattle.overload.specs.Marks.{anyRunning, runningAbstract}
-use Rattle.overload.specs.Rows.{Ruling, overloadsOf, judgeAddress, judgeIndirection, alone, judgeBy}
-use Rattle.overload.specs.Rows.Ruling.{byRow, address, indirection}
+use Rattle.conv.specs.Types.Ty.{scalar, exchange}
+use Rattle.overload.specs.Rows.{Ruling, overloadsOf, judgeAddress, judgeIndirection, judgeAtomic, judgeLoad, alone, judgeBy}
+use Rattle.overload.specs.Rows.Ruling.{byRow, address, indirection, onAtomic, comparing, uniformLoad}
 use Rattle.overload.proofs.Marks.{const-all}
 use Rattle.table.specs.Placing.{Outcome, turnedDown}
 use Rattle.answer.specs.declared.Reason.the-variants.{Reference}
 use Rattle.ruled.specs.Call.{judgedOutcome, offends, ruledOutcome}
 
--- THE BASE: a row is judged by all of its overloads; 3, then 8, 13, 9
+-- THE BASE: a row is judged by all of its overloads; 3, then 8, 13, 9. What came later has no overload that marks drop
 
 unfoldable pub baseJudge : Ruling → List Ty → Judged
 baseJudge (byRow r) ts = judge (overloadsOf r) ts
 baseJudge address ts = alone judgeAddress ts
 baseJudge indirection ts = alone judgeIndirection ts
+baseJudge (onAtomic k) ts = judgeAtomic k scalar ts
+baseJudge comparing ts = judgeAtomic 2 exchange ts
+baseJudge uniformLoad ts = alone judgeLoad ts
 
 unfoldable pub baseRuled : ℕ → List ℕ → ℕ → Ruling → List Ty → Outcome
 baseRuled place w n r ts = cond (offends r ts) (turnedDown Reference place w n) (judgedOutcome place w n (baseJudge r ts))
@@ -47,6 +51,9 @@ unfolding judgeBy baseJudge
 const-judge (byRow r) ts ms e = ap (λ (os : List Overload). judge os ts) (const-all (overloadsOf r) ms e)
 const-judge address ts ms e = refl
 const-judge indirection ts ms e = refl
+const-judge (onAtomic k) ts ms e = refl
+const-judge comparing ts ms e = refl
+const-judge uniformLoad ts ms e = refl
 
 pub const-ruled : (place : ℕ) (w : List ℕ) (n : ℕ) (r : Ruling) (ts : List Ty) (ms : List Bool) → anyRunning ms ≡ false → ruledOutcome place w n r ts ms ≡ baseRuled place w n r ts
 unfolding ruledOutcome baseRuled

@@ -6,21 +6,26 @@ use mathlib.Core.List.{List, [], _∷_, _++_}
 use lib.Dec.{T, eqb, ltb}
 use lib.ListN.{length, getD}
 use Rattle.overload.specs.Rows.{Ruling, rowAt}
-use Rattle.overload.specs.Rows.Ruling.{byRow, address, indirection}
-use Rattle.names.specs.Names.{Rule, Name, names, noName, before, sameBytes, count, nameAt, Named, ruleFor}
-use Rattle.names.specs.Names.Rule.{ruling, bitcast, arrayLength, ldexp, barrier}
+use Rattle.overload.specs.Rows.Ruling.{byRow, address, indirection, onAtomic, comparing, uniformLoad}
+use Rattle.names.specs.Names.{Rule, loading, updating, exchanging, uniformLoading, Name, names, noName, before, sameBytes, count, nameAt, Named, ruleFor}
+use Rattle.names.specs.Names.Rule.{ruling, storing, bitcast, arrayLength, ldexp, barrier}
 use Rattle.names.specs.Names.Named.{rule, unknown}
 use Rattle.names.specs.declared.RuleNo.{RuleNo}
 use Rattle.names.specs.declared.RuleNo.the-variants.{Is, Unknown}
 use Rattle.names.specs.declared.Side.{Side}
 use Rattle.names.specs.declared.Side.the-variants.{Before, Same, After}
 
--- THE NUMBER OF A RULE, a byte, which a name put in later does not move: of a row its own, below 100; no name has the rulings of unary `&` and `*`
+-- THE NUMBER OF A RULE, a byte, which a name put in later does not move: of a row its own, below 100. No name has the rulings of unary `&` and `*`, or one on atomics with more than one value
 
 unfoldable pub rulingNumber : Ruling → ℕ
 rulingNumber (byRow r) = r .number
 rulingNumber address = 255
 rulingNumber indirection = 255
+rulingNumber (onAtomic zero) = 104
+rulingNumber (onAtomic (suc zero)) = 105
+rulingNumber (onAtomic (suc (suc k))) = 255
+rulingNumber comparing = 107
+rulingNumber uniformLoad = 108
 
 unfoldable pub ruleNumber : Rule → ℕ
 ruleNumber (ruling r) = rulingNumber r
@@ -28,6 +33,7 @@ ruleNumber bitcast = 100
 ruleNumber arrayLength = 101
 ruleNumber ldexp = 102
 ruleNumber barrier = 103
+ruleNumber storing = 106
 
 -- and the rule of a number
 unfoldable pub numbered : ℕ → Rule
@@ -35,7 +41,12 @@ numbered k =
     cond (ltb k 100) (ruling (byRow (rowAt k)))
     (cond (eqb k 100) bitcast
     (cond (eqb k 101) arrayLength
-    (cond (eqb k 102) ldexp barrier)))
+    (cond (eqb k 102) ldexp
+    (cond (eqb k 104) loading
+    (cond (eqb k 105) updating
+    (cond (eqb k 106) storing
+    (cond (eqb k 107) exchanging
+    (cond (eqb k 108) uniformLoading barrier))))))))
 
 -- a reply: the number of the rule that a name has, and whether its result is running even so
 unfoldable pub replied : Named → RuleNo

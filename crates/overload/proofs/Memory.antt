@@ -1,0 +1,233 @@
+-- Demand 3 for calls on atomics and for workgroupUniformLoad (document 02, K5), whose overloads are described: one for each pointer type that the rule takes. Assumes nothing.
+use Prim.Native.Nat.{ℕ, zero, suc, _<_}
+use native.Mathlib.Omega.{arith}
+use mathlib.Core.Path.{_≡_, refl, sym, _∙_, ap, subst}
+use mathlib.Core.Logic.{_⊎_, inl, inr, ⊎-elim}
+use mathlib.Core.Bool.{Bool, true, false, _&&_, _||_, not, cond}
+use mathlib.Core.List.{List, [], _∷_}
+use lib.Dec.{T, eqb, leb}
+use borrow.Author.Tests.{eqb-true, lt-ltb}
+use Rattle.conv.specs.Types.{Ty, i32, u32, workgroup, storage, readWrite, isAbstract, abstractTy, isValue, isRuntime, holdsAtomic, formed}
+use Rattle.conv.specs.Types.Ty.{scalar, vec, mat, array, runtime, atomic, ptr, ref, frexp, modf, exchange}
+use Rattle.conv.specs.Rank.{both, Shape, shapeOf, componentOf, tagOf, isPointer, firstOf, secondOf, elementOf}
+use Rattle.conv.specs.Rank.Shape.{other}
+use Rattle.conv.proofs.Made.{remake, remade}
+use Rattle.overload.specs.Overload.{Overload, or, fits, Judged, Resolved}
+use Rattle.overload.specs.Overload.Judged.{gives, noneFits, nonePreferred}
+use Rattle.overload.specs.Marks.{anyAbstract}
+use Rattle.overload.specs.Rows.{toAtomic, values, atomicOf, isAtomic, loadable, loaded, uniformLoadOf, takesAtomic, atomicIn, judgeAtomic, takesLoad, judgeLoad}
+use Rattle.overload.proofs.Operands.{and-left, and-right, allFormed}
+use Rattle.overload.proofs.Results.{T-true}
+use Rattle.overload.proofs.Described.{described, undescribed, described-none, described-never, nothingMore}
+
+clash : {P : Type 0} {b : Bool} → b ≡ true → b ≡ false → P
+clash p q = absurd (let z : _≡_ {A = ℕ} 0 1 = cc in omega arith)
+
+none-gives : {P : Type 0} {R : Ty} → noneFits ≡ gives R → P
+none-gives e = absurd (let z : _≡_ {A = ℕ} 0 1 = cc in omega arith)
+
+inner : {R Q : Ty} → gives R ≡ gives Q → R ≡ Q
+inner e = cc
+
+either : (a b : Bool) → (a || b) ≡ true → (a ≡ true) ⊎ (b ≡ true)
+either true b h = inl refl
+either false b h = inr h
+
+pair : (a b : Bool) → a ≡ true → b ≡ true → (a && b) ≡ true
+pair true b e h = h
+pair false b e h = e
+
+-- A POINTER AND AN ATOMIC, from their tests
+
+pub pointer-is : (x : Ty) → isPointer x ≡ true → x ≡ ptr (firstOf x) (secondOf x) (elementOf x)
+unfolding remake
+pointer-is x h = sym (remade x) ∙ ap (λ (k : ℕ). remake k (firstOf x) (secondOf x) (componentOf x) (elementOf x)) (eqb-true (tagOf x) 6 h)
+
+pub atomic-is : (t : Ty) → isAtomic t ≡ true → t ≡ atomic (firstOf t)
+unfolding remake
+atomic-is t h = sym (remade t) ∙ ap (λ (k : ℕ). remake k (firstOf t) (secondOf t) (componentOf t) (elementOf t)) (eqb-true (tagOf t) 5 h)
+
+-- the component of an atomic that there is
+
+pub integer-small : (s : ℕ) → formed (atomic s) ≡ true → s < 7
+unfolding formed
+integer-small s h =
+    ⊎-elim (λ e. let q = eqb-true s i32 e in omega arith) (λ e. let q = eqb-true s u32 e in omega arith) (either (eqb s i32) (eqb s u32) h)
+
+integer-concrete : (s : ℕ) → formed (atomic s) ≡ true → isAbstract s ≡ false
+unfolding formed
+integer-concrete s h =
+    ⊎-elim (λ e. rw (eqb-true s i32 e)) (λ e. rw (eqb-true s u32 e)) (either (eqb s i32) (eqb s u32) h)
+
+pub exchange-formed : (s : ℕ) → formed (atomic s) ≡ true → formed (exchange s) ≡ true
+unfolding formed
+exchange-formed s h = h
+
+-- what a pointer that there is points to
+
+pub pointed-formed : (space access : ℕ) (t : Ty) → formed (ptr space access t) ≡ true → formed t ≡ true
+unfolding formed
+pointed-formed space access t h = and-right (leb space storage && leb access readWrite && isValue t && not (abstractTy t)) _ h
+
+pointed-concrete : (space access : ℕ) (t : Ty) → formed (ptr space access t) ≡ true → abstractTy t ≡ false
+unfolding formed
+pointed-concrete space access t h =
+    no (abstractTy t) (and-right (leb space storage && leb access readWrite && isValue t) _ (and-left (leb space storage && leb access readWrite && isValue t && not (abstractTy t)) _ h))
+  where
+    no : (b : Bool) → not b ≡ true → b ≡ false
+    no true e = sym e
+    no false e = refl
+
+-- CALLS ON ATOMICS
+
+-- a pointer that they take
+abbrev Counter : Ty → Type 0
+Counter x = (space s : ℕ) × ((space ≡ storage) ⊎ (space ≡ workgroup)) × T (formed (toAtomic space s)) × (x ≡ toAtomic space s)
+
+to-counter : (x : Ty) → formed x ≡ true → takesAtomic x ≡ true → Counter x
+to-counter x f h =
+    let p = and-left (isPointer x && (eqb (firstOf x) storage || eqb (firstOf x) workgroup) && eqb (secondOf x) readWrite) _ h in
+    let a = and-right (isPointer x && (eqb (firstOf x) storage || eqb (firstOf x) workgroup) && eqb (secondOf x) readWrite) (isAtomic (elementOf x)) h in
+    let q = and-left (isPointer x && (eqb (firstOf x) storage || eqb (firstOf x) workgroup)) _ p in
+    let w = eqb-true (secondOf x) readWrite (and-right (isPointer x && (eqb (firstOf x) storage || eqb (firstOf x) workgroup)) _ p) in
+    let e : x ≡ toAtomic (firstOf x) (atomicIn x) = pointer-is x (and-left (isPointer x) _ q) ∙ (λ i. ptr (firstOf x) (w i) (atomic-is (elementOf x) a i)) in
+    (
+      firstOf x,
+      atomicIn x,
+      ⊎-elim (λ d. inl (eqb-true (firstOf x) storage d)) (λ d. inr (eqb-true (firstOf x) workgroup d)) (either (eqb (firstOf x) storage) (eqb (firstOf x) workgroup) (and-right (isPointer x) _ q)),
+      subst T (sym (ap formed (sym e) ∙ f)) tt,
+      e,
+    )
+
+of-counter : (x : Ty) → Counter x → takesAtomic x ≡ true
+unfolding tagOf firstOf secondOf elementOf
+of-counter x k = ap takesAtomic (k .4) ∙ ⊎-elim (λ e. rw e refl) (λ e. rw e refl) (k .2)
+
+-- its component
+counter-formed : (x : Ty) → Counter x → formed (atomic (atomicIn x)) ≡ true
+unfolding firstOf elementOf
+counter-formed x c =
+    ap (λ (y : Ty). formed (atomic (atomicIn y))) (c .4) ∙ pointed-formed (c .0) readWrite (atomic (c .1)) (T-true (formed (toAtomic (c .0) (c .1))) (c .3))
+
+module _ (k : ℕ) (out : ℕ → Ty) where
+  abbrev further : Ty → List Ty
+  further x = values k (atomicIn x)
+
+  abbrev given : Ty → Ty
+  given x = out (atomicIn x)
+
+  each-atomic : (o : Overload) → atomicOf k out o → (x : Ty) × Counter x × (shapeOf x ≡ other) × (o ≡ record { params = x ∷ further x; result = given x })
+  unfolding shapeOf firstOf elementOf
+  each-atomic o m = (toAtomic (m .0) (m .1), (m .0, m .1, m .2, m .3, refl), refl, m .4)
+
+  all-atomic : (x : Ty) → Counter x → atomicOf k out (record { params = x ∷ further x; result = given x })
+  unfolding firstOf elementOf
+  all-atomic x c = (c .0, c .1, c .2, c .3, ap (λ (y : Ty). record { params = y ∷ further y; result = given y }) (c .4))
+
+  judge-first : (x : Ty) (xs : List Ty) → formed x ≡ true → (a b : Bool) → takesAtomic x ≡ a → fits (further x) xs ≡ b
+      → Resolved (atomicOf k out) (x ∷ xs) (cond (a && b) (gives (given x)) noneFits)
+  judge-first x xs f true true e h = described (atomicOf k out) Counter further given each-atomic all-atomic x xs (to-counter x f e) (subst T (sym h) tt)
+  judge-first x xs f true false e h = undescribed (atomicOf k out) Counter further given each-atomic all-atomic x xs (λ c t. subst T h t)
+  judge-first x xs f false b e h = undescribed (atomicOf k out) Counter further given each-atomic all-atomic x xs (λ c t. clash (of-counter x c) e)
+
+  -- the rule as a function meets demand 3
+  pub judge-atomic : (ts : List Ty) → allFormed ts ≡ true → Resolved (atomicOf k out) ts (judgeAtomic k out ts)
+  unfolding judgeAtomic allFormed
+  judge-atomic [] f = described-none (atomicOf k out) Counter further given each-atomic all-atomic
+  judge-atomic (x ∷ xs) f = judge-first x xs (and-left (formed x) _ f) (takesAtomic x) (fits (further x) xs) refl refl
+
+  pub atomic-never : (ts : List Ty) → Resolved (atomicOf k out) ts nonePreferred → ⊥
+  atomic-never = described-never (atomicOf k out) Counter further given each-atomic all-atomic
+
+  -- what it gives is a type that there is
+  module _ (good : (s : ℕ) → formed (atomic s) ≡ true → formed (out s) ≡ true) where
+    formed-first : (x : Ty) → formed x ≡ true → (a b : Bool) → takesAtomic x ≡ a → (R : Ty) → cond (a && b) (gives (given x)) noneFits ≡ gives R → formed R ≡ true
+    formed-first x f true true e R h = ap formed (sym (inner h)) ∙ good (atomicIn x) (counter-formed x (to-counter x f e))
+    formed-first x f true false e R h = none-gives h
+    formed-first x f false b e R h = none-gives h
+
+    pub atomic-formed : (ts : List Ty) → allFormed ts ≡ true → (R : Ty) → judgeAtomic k out ts ≡ gives R → formed R ≡ true
+    unfolding judgeAtomic allFormed
+    atomic-formed [] f R h = none-gives h
+    atomic-formed (x ∷ xs) f R h = formed-first x (and-left (formed x) _ f) (takesAtomic x) (fits (further x) xs) refl R h
+
+-- none of their parameters is abstract
+
+values-concrete : (k s : ℕ) → isAbstract s ≡ false → anyAbstract (values k s) ≡ false
+unfolding anyAbstract values abstractTy or
+values-concrete zero s h = refl
+values-concrete (suc k) s h = rw (h, values-concrete k s h)
+
+pub atomic-concrete : (k : ℕ) (out : ℕ → Ty) (o : Overload) → atomicOf k out o → T (anyAbstract (o .params)) → ⊥
+unfolding anyAbstract abstractTy or
+atomic-concrete k out o m h =
+    let i = integer-concrete (m .1) (pointed-formed (m .0) readWrite (atomic (m .1)) (T-true (formed (toAtomic (m .0) (m .1))) (m .3))) in
+    let none : anyAbstract (toAtomic (m .0) (m .1) ∷ values k (m .1)) ≡ false = rw (i, values-concrete k (m .1) i) in
+    subst T none (subst (λ (p : Overload). T (anyAbstract (p .params))) (m .4) h)
+
+-- WORKGROUPUNIFORMLOAD
+
+-- a pointer that it takes
+abbrev Shared : Ty → Type 0
+Shared x = (t : Ty) × T (loadable t) × T (formed (ptr workgroup readWrite t)) × (x ≡ ptr workgroup readWrite t)
+
+abbrev loadedBy : Ty → Ty
+loadedBy x = loaded (elementOf x)
+
+to-shared : (x : Ty) → formed x ≡ true → takesLoad x ≡ true → Shared x
+to-shared x f h =
+    let p = and-left (isPointer x && eqb (firstOf x) workgroup && eqb (secondOf x) readWrite) _ h in
+    let a = and-right (isPointer x && eqb (firstOf x) workgroup && eqb (secondOf x) readWrite) (loadable (elementOf x)) h in
+    let q = and-left (isPointer x && eqb (firstOf x) workgroup) _ p in
+    let w = eqb-true (secondOf x) readWrite (and-right (isPointer x && eqb (firstOf x) workgroup) _ p) in
+    let g = eqb-true (firstOf x) workgroup (and-right (isPointer x) _ q) in
+    let e : x ≡ ptr workgroup readWrite (elementOf x) = pointer-is x (and-left (isPointer x) _ q) ∙ (λ i. ptr (g i) (w i) (elementOf x)) in
+    (elementOf x, subst T (sym a) tt, subst T (sym (ap formed (sym e) ∙ f)) tt, e)
+
+of-shared : (x : Ty) → Shared x → takesLoad x ≡ true
+unfolding tagOf firstOf secondOf elementOf
+of-shared x k = ap takesLoad (k .3) ∙ T-true (loadable (k .0)) (k .1)
+
+each-load : (o : Overload) → uniformLoadOf o → (x : Ty) × Shared x × (shapeOf x ≡ other) × (o ≡ record { params = x ∷ []; result = loadedBy x })
+unfolding shapeOf elementOf
+each-load o m = (ptr workgroup readWrite (m .0), (m .0, m .1, m .2, refl), refl, m .3)
+
+all-load : (x : Ty) → Shared x → uniformLoadOf (record { params = x ∷ []; result = loadedBy x })
+unfolding elementOf
+all-load x c = (c .0, c .1, c .2, ap (λ (y : Ty). record { params = y ∷ []; result = loadedBy y }) (c .3))
+
+load-first : (x : Ty) → formed x ≡ true → (a : Bool) → takesLoad x ≡ a → Resolved uniformLoadOf (x ∷ []) (cond a (gives (loadedBy x)) noneFits)
+unfolding fits
+load-first x f true e = described uniformLoadOf Shared nothingMore loadedBy each-load all-load x [] (to-shared x f e) tt
+load-first x f false e = undescribed uniformLoadOf Shared nothingMore loadedBy each-load all-load x [] (λ c t. clash (of-shared x c) e)
+
+pub judge-load : (x : Ty) → formed x ≡ true → Resolved uniformLoadOf (x ∷ []) (judgeLoad x)
+unfolding judgeLoad
+judge-load x f = load-first x f (takesLoad x) refl
+
+pub load-never : (ts : List Ty) → Resolved uniformLoadOf ts nonePreferred → ⊥
+load-never = described-never uniformLoadOf Shared nothingMore loadedBy each-load all-load
+
+-- what it loads is a type that there is
+loaded-formed : (t : Ty) (b : Bool) → isAtomic t ≡ b → formed t ≡ true → formed (cond b (scalar (firstOf t)) t) ≡ true
+unfolding formed
+loaded-formed t true e f = let l = integer-small (firstOf t) (ap formed (sym (atomic-is t e)) ∙ f) in lt-ltb (firstOf t) 7 l
+loaded-formed t false e f = f
+
+shared-formed : (x : Ty) → Shared x → formed (elementOf x) ≡ true
+unfolding elementOf
+shared-formed x c = ap (λ (y : Ty). formed (elementOf y)) (c .3) ∙ pointed-formed workgroup readWrite (c .0) (T-true (formed (ptr workgroup readWrite (c .0))) (c .2))
+
+load-gives : (x : Ty) → formed x ≡ true → (a : Bool) → takesLoad x ≡ a → (R : Ty) → cond a (gives (loadedBy x)) noneFits ≡ gives R → formed R ≡ true
+load-gives x f true e R h = ap formed (sym (inner h)) ∙ loaded-formed (elementOf x) (isAtomic (elementOf x)) refl (shared-formed x (to-shared x f e))
+load-gives x f false e R h = none-gives h
+
+pub load-formed : (x : Ty) → formed x ≡ true → (R : Ty) → judgeLoad x ≡ gives R → formed R ≡ true
+unfolding judgeLoad
+load-formed x f R h = load-gives x f (takesLoad x) refl R h
+
+pub load-concrete : (o : Overload) → uniformLoadOf o → T (anyAbstract (o .params)) → ⊥
+unfolding anyAbstract abstractTy or
+load-concrete o m h =
+    let none : anyAbstract (ptr workgroup readWrite (m .0) ∷ []) ≡ false = rw (pointed-concrete workgroup readWrite (m .0) (T-true (formed (ptr workgroup readWrite (m .0))) (m .2))) in
+    subst T none (subst (λ (p : Overload). T (anyAbstract (p .params))) (m .3) h)
