@@ -2,7 +2,7 @@
 use Prim.Native.Nat.{ℕ, zero, suc, _<_}
 use native.Mathlib.Omega.{arith}
 use mathlib.Core.Path.{_≡_, refl, sym, _∙_, ap, subst}
-use mathlib.Core.Logic.{_⊎_, inl, inr, ⊎-elim}
+use mathlib.Core.Logic.{_≢_, _⊎_, inl, inr, ⊎-elim}
 use mathlib.Core.Bool.{Bool, true, false, _&&_, _||_, not, cond}
 use mathlib.Core.List.{List, [], _∷_}
 use lib.Dec.{T, eqb, leb}
@@ -54,6 +54,11 @@ unfolding formed
 integer-small s h =
     ⊎-elim (λ e. let q = eqb-true s i32 e in omega arith) (λ e. let q = eqb-true s u32 e in omega arith) (either (eqb s i32) (eqb s u32) h)
 
+pub integer-some : (s : ℕ) → formed (atomic s) ≡ true → s ≢ 0
+unfolding formed
+integer-some s h z =
+    ⊎-elim (λ e. let q = eqb-true s i32 e in omega arith) (λ e. let q = eqb-true s u32 e in omega arith) (either (eqb s i32) (eqb s u32) h)
+
 integer-concrete : (s : ℕ) → formed (atomic s) ≡ true → isAbstract s ≡ false
 unfolding formed
 integer-concrete s h =
@@ -90,8 +95,7 @@ to-counter x f h =
     let a = and-right (isPointer x && (eqb (firstOf x) storage || eqb (firstOf x) workgroup) && eqb (secondOf x) readWrite) (isAtomic (elementOf x)) h in
     let q = and-left (isPointer x && (eqb (firstOf x) storage || eqb (firstOf x) workgroup)) _ p in
     let w = eqb-true (secondOf x) readWrite (and-right (isPointer x && (eqb (firstOf x) storage || eqb (firstOf x) workgroup)) _ p) in
-    let e : x ≡ toAtomic (firstOf x) (atomicIn x) = pointer-is x (and-left (isPointer x) _ q) ∙ (λ i. ptr (firstOf x) (w i) (atomic-is (elementOf x) a i)) in
-    (
+    let e : x ≡ toAtomic (firstOf x) (atomicIn x) = pointer-is x (and-left (isPointer x) _ q) ∙ (λ i. ptr (firstOf x) (w i) (atomic-is (elementOf x) a i)) in (
       firstOf x,
       atomicIn x,
       ⊎-elim (λ d. inl (eqb-true (firstOf x) storage d)) (λ d. inr (eqb-true (firstOf x) workgroup d)) (either (eqb (firstOf x) storage) (eqb (firstOf x) workgroup) (and-right (isPointer x) _ q)),
@@ -108,6 +112,9 @@ counter-formed : (x : Ty) → Counter x → formed (atomic (atomicIn x)) ≡ tru
 unfolding firstOf elementOf
 counter-formed x c =
     ap (λ (y : Ty). formed (atomic (atomicIn y))) (c .4) ∙ pointed-formed (c .0) readWrite (atomic (c .1)) (T-true (formed (toAtomic (c .0) (c .1))) (c .3))
+
+pub taken-formed : (x : Ty) → formed x ≡ true → takesAtomic x ≡ true → formed (atomic (atomicIn x)) ≡ true
+taken-formed x f h = counter-formed x (to-counter x f h)
 
 module _ (k : ℕ) (out : ℕ → Ty) where
   abbrev further : Ty → List Ty

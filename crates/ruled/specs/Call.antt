@@ -1,7 +1,7 @@
 -- A ruled call on loaded operands: how it is judged, and what it then does to the table. Assumes nothing.
 use Prim.Native.Nat.{ℕ}
 use mathlib.Core.Bool.{Bool, true, false, _&&_, _||_, not, cond}
-use mathlib.Core.List.{List, [], _∷_}
+use mathlib.Core.List.{List, [], _∷_, map}
 use Rattle.held.specs.Held.{numberOf}
 use Rattle.conv.specs.Types.{Ty}
 use Rattle.conv.specs.Rank.{isReference}
@@ -13,10 +13,14 @@ use Rattle.overload.specs.Rows.Ruling.{byRow, address, indirection, onAtomic, c
 use Rattle.table.specs.Denote.{typeAt}
 use Rattle.table.specs.Placing.{Outcome, turnedDown, entering}
 use Rattle.answer.specs.declared.Reason.the-variants.{Reference, NoOverload, NonePreferred, RunningAbstract}
+use Rattle.answer.specs.declared.Answer.the-variants.{NoValue}
 
 -- the type of an operand, which is a type's number with a mark
 abbrev pub operandTy : List ℕ → ℕ → Ty
 operandTy w v = typeAt w (numberOf v)
+
+abbrev pub operandTys : List ℕ → List ℕ → List Ty
+operandTys w vs = map (typeAt w) (map numberOf vs)
 
 unfoldable pub anyReference : List Ty → Bool
 anyReference [] = false
@@ -27,6 +31,15 @@ unfoldable pub judgedOutcome : ℕ → List ℕ → ℕ → Judged → Outcome
 judgedOutcome place w n (gives R) = entering place w n R
 judgedOutcome place w n noneFits = turnedDown NoOverload place w n
 judgedOutcome place w n nonePreferred = turnedDown NonePreferred place w n
+
+-- the same of a call without value, which leaves the table as it is
+abbrev pub withoutValue : List ℕ → ℕ → Outcome
+withoutValue w n = record { answer = NoValue n; words = w }
+
+unfoldable pub silentOutcome : ℕ → List ℕ → ℕ → Judged → Outcome
+silentOutcome place w n (gives R) = withoutValue w n
+silentOutcome place w n noneFits = turnedDown NoOverload place w n
+silentOutcome place w n nonePreferred = turnedDown NonePreferred place w n
 
 -- 3 "a reference offered, but to unary `&`", before all of these
 unfoldable pub takesReference : Ruling → Bool

@@ -85,7 +85,7 @@ module _ (w : List ℕ) (n : ℕ) (s : Sound w n) where
         rw (k, t, ne-eqb j kindPtr (omega arith), ne-eqb j kindRef (omega arith)))
         (λ b. rw (kind-of w n s j l) (stored-kind (typeAt w j) (type-words w n s j (ltb-false _ _ b) l .above)))
 
-    runtime-at : eqb (entryAt w j .kind) kindRuntime ≡ isRuntime (typeAt w j)
+    pub runtime-at : eqb (entryAt w j .kind) kindRuntime ≡ isRuntime (typeAt w j)
     unfolding kindOf isRuntime
     runtime-at =
         split (ltb j scalars)

@@ -1,0 +1,4 @@
+pub mod Entries
+pub mod Fitting
+pub mod Outcomes
+pub mod OneReply
