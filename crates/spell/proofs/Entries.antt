@@ -1,7 +1,7 @@
 -- In a sound table the spelling of an entry's type is the entry's head, then its arguments. Assumes nothing.
 use Prim.Native.Nat.{ℕ, _+_, _≤_, _<_}
-use mathlib.Core.Path.{_≡_, sym, _∙_, ap}
-use mathlib.Core.Bool.{true, false}
+use mathlib.Core.Path.{_≡_, refl, sym, _∙_, ap}
+use mathlib.Core.Bool.{true, false, _||_}
 use mathlib.Core.List.{List, [], _∷_, _++_, append-assoc}
 use native.Mathlib.Omega.{arith}
 use lib.ListN.{List·getD-append}
@@ -15,12 +15,12 @@ use Rattle.table.specs.Denote.{typeAt, kindOf}
 use Rattle.table.specs.declared.Entry.{Entry}
 use Rattle.table.proofs.SoundLaws.{and-left, and-right}
 use Rattle.table.proofs.KindLaws.{split, clash, by-kind, innermost, fract-kind}
-use Rattle.table.proofs.TypeLaws.{type-scalar, row-at, scalar-key, kind-above, type-words, kind-of, type-vec, type-mat, type-array, type-runtime, type-atomic, type-ptr, type-ref, type-frexp, type-modf}
+use Rattle.table.proofs.TypeLaws.{type-scalar, row-at, scalar-key, kind-above, type-words, kind-of, type-vec, type-mat, type-array, type-runtime, type-atomic, type-ptr, type-ref, type-frexp, type-modf, type-exchange}
 use Rattle.table.proofs.FormedLaws.{formed-at}
 use Rattle.text.specs.Text.{ascii, decimal}
 use Rattle.spell.specs.Spell.{scalarNames, spaceNames, accessNames, named, fractScalar, fractName, spelling}
 use Rattle.spell.specs.inner.Parts.{headNames, textOf, headText, opening, lastOf, closing, argsOf, fractText, fractPart}
-use Rattle.spell.proofs.Rows.{vec-row, mat-row, atomic-row, ptr-row, ref-row}
+use Rattle.spell.proofs.Rows.{vec-row, mat-row, atomic-row, exchange-row, ptr-row, ref-row}
 
 -- the parts of the table of texts
 
@@ -28,13 +28,13 @@ text-scalar : (s : ℕ) → s < 7 → textOf s ≡ named scalarNames s
 unfolding textOf named
 text-scalar s h = ap ascii (List·getD-append scalarNames (headNames ++ spaceNames ++ accessNames ++ ("abstract" ∷ [])) "" s h)
 
-text-space : (p : ℕ) → p < 6 → textOf (16 + p) ≡ named spaceNames p
+text-space : (p : ℕ) → p < 6 → textOf (17 + p) ≡ named spaceNames p
 unfolding textOf named
 text-space p h =
     ap ascii (getD-append-add (scalarNames ++ headNames) (spaceNames ++ accessNames ++ ("abstract" ∷ [])) p ""
     ∙ List·getD-append spaceNames (accessNames ++ ("abstract" ∷ [])) "" p h)
 
-text-access : (q : ℕ) → q < 3 → textOf (22 + q) ≡ named accessNames q
+text-access : (q : ℕ) → q < 3 → textOf (23 + q) ≡ named accessNames q
 unfolding textOf named
 text-access q h =
     ap ascii (getD-append-add (scalarNames ++ headNames ++ spaceNames) (accessNames ++ ("abstract" ∷ [])) q ""
@@ -68,6 +68,10 @@ module _ (e : Entry) where
   on-atomic : e .kind ≡ 11 → spelling (atomic (e .elem)) ≡ Args (scalar (e .elem))
   unfolding spelling headText opening lastOf closing textOf named ascii
   on-atomic h = rw h (simp append-assoc)
+
+  on-exchange : e .kind ≡ 16 → spelling (exchange (e .elem)) ≡ Args (scalar (e .elem))
+  unfolding spelling headText opening lastOf closing textOf named ascii
+  on-exchange h = rw h (simp append-assoc)
 
   module _ (t : Ty) where
     on-array : e .kind ≡ 9 → spelling (array (e .p) t) ≡ Args t
@@ -113,9 +117,9 @@ module _ (e : Entry) where
 -- any other kind has no row
 no-row : (e : Entry) (ek eb : ℕ) →
     eqb (e .kind) 7 ≡ false → eqb (e .kind) 8 ≡ false → eqb (e .kind) 9 ≡ false → eqb (e .kind) 10 ≡ false → eqb (e .kind) 11 ≡ false →
-    eqb (e .kind) 12 ≡ false → eqb (e .kind) 13 ≡ false → eqb (e .kind) 14 ≡ false → eqb (e .kind) 15 ≡ false → rowOk e ek eb ≡ false
+    eqb (e .kind) 12 ≡ false → eqb (e .kind) 13 ≡ false → eqb (e .kind) 14 ≡ false → eqb (e .kind) 15 ≡ false → eqb (e .kind) 16 ≡ false → rowOk e ek eb ≡ false
 unfolding rowOk
-no-row e ek eb n1 n2 n3 n4 n5 n6 n7 n8 n9 = rw (n1, n2, n3, n4, n5, n6, n7, n8, n9)
+no-row e ek eb n1 n2 n3 n4 n5 n6 n7 n8 n9 n10 = rw (n1, n2, n3, n4, n5, n6, n7, n8, n9, n10)
 
 module _ (w : List ℕ) (n : ℕ) (s : Sound w n) where
   -- a kind below 7 stands for its scalar
@@ -144,9 +148,9 @@ module _ (w : List ℕ) (n : ℕ) (s : Sound w n) where
   pub alone : (i : ℕ) → i < n → entryAt w i .kind < 7 → spelling (typeAt w i) ≡ headText (entryAt w i)
   alone i l h = ap spelling (scalar-is i l h) ∙ on-scalar (entryAt w i) h
 
-  -- a head, then its arguments
-  pub with-args : (i : ℕ) → i < n → 7 ≤ entryAt w i .kind → entryAt w i .kind < 14 → spelling (typeAt w i) ≡ headText (entryAt w i) ++ argsOf w i
-  with-args i l lo hi =
+  -- a head, then its arguments: any kind but the results of frexp and modf
+  pub with-args : (i : ℕ) → i < n → 7 ≤ entryAt w i .kind → (eqb (entryAt w i .kind) 14 || eqb (entryAt w i .kind) 15) ≡ false → spelling (typeAt w i) ≡ headText (entryAt w i) ++ argsOf w i
+  with-args i l lo m =
       by-kind (e .kind)
       (λ h. let t = type-vec w n s i l h in rw (t, type-scalar w (e .elem) (vec-row _ _ (rw t at f))) (on-vec e h))
       (λ h. let t = type-mat w n s i l h in rw (t, type-scalar w (e .elem) (mat-row _ _ _ (rw t at f))) (on-mat e h))
@@ -155,9 +159,10 @@ module _ (w : List ℕ) (n : ℕ) (s : Sound w n) where
       (λ h. let t = type-atomic w n s i l h in rw (t, type-scalar w (e .elem) (atomic-row _ (rw t at f))) (on-atomic e h))
       (λ h. let t = type-ptr w n s i l h in let z = ptr-row _ _ _ (rw t at f) in rw t (on-ptr e _ h (z .0) (z .1)))
       (λ h. let t = type-ref w n s i l h in let z = ref-row _ _ _ (rw t at f) in rw t (on-ref e _ h (z .0) (z .1)))
-      (λ h. absurd (omega arith))
-      (λ h. absurd (omega arith))
-      (λ n1 n2 n3 n4 n5 n6 n7 n8 n9. clash (row-at w n s i (kind-above w n s i l lo) l .1) (no-row e _ _ n1 n2 n3 n4 n5 n6 n7 n8 n9))
+      (λ h. clash refl (rw h at m))
+      (λ h. clash refl (rw h at m))
+      (λ h. let t = type-exchange w n s i l h in rw (t, type-scalar w (e .elem) (exchange-row _ (rw t at f))) (on-exchange e h))
+      (λ n1 n2 n3 n4 n5 n6 n7 n8 n9 n10. clash (row-at w n s i (kind-above w n s i l lo) l .1) (no-row e _ _ n1 n2 n3 n4 n5 n6 n7 n8 n9 n10))
     where
       e : Entry
       e = entryAt w i
@@ -165,27 +170,28 @@ module _ (w : List ℕ) (n : ℕ) (s : Sound w n) where
       f : formed (typeAt w i) ≡ true
       f = formed-at w n s i l
 
-  -- a result type: its name alone
-  pub with-result : (i : ℕ) → i < n → 14 ≤ entryAt w i .kind → spelling (typeAt w i) ≡ headText (entryAt w i) ++ fractPart (entryAt w (entryAt w i .elem))
+  -- a result of frexp or modf: its name alone
+  pub with-result : (i : ℕ) → i < n → 7 ≤ entryAt w i .kind → (eqb (entryAt w i .kind) 14 || eqb (entryAt w i .kind) 15) ≡ true → spelling (typeAt w i) ≡ headText (entryAt w i) ++ fractPart (entryAt w (entryAt w i .elem))
   unfolding formed
-  with-result i l lo =
+  with-result i l lo m =
       by-kind (e .kind)
-      (λ h. absurd (omega arith))
-      (λ h. absurd (omega arith))
-      (λ h. absurd (omega arith))
-      (λ h. absurd (omega arith))
-      (λ h. absurd (omega arith))
-      (λ h. absurd (omega arith))
-      (λ h. absurd (omega arith))
+      (λ h. clash (rw h at m) refl)
+      (λ h. clash (rw h at m) refl)
+      (λ h. clash (rw h at m) refl)
+      (λ h. clash (rw h at m) refl)
+      (λ h. clash (rw h at m) refl)
+      (λ h. clash (rw h at m) refl)
+      (λ h. clash (rw h at m) refl)
       (λ h. let t = type-frexp w n s i l h in rw t (on-frexp e _ h ∙ fract (and-left _ _ (rw t at f))))
       (λ h. let t = type-modf w n s i l h in rw t (on-modf e _ h ∙ fract (and-left _ _ (rw t at f))))
-      (λ n1 n2 n3 n4 n5 n6 n7 n8 n9. clash (row-at w n s i (z .0) l .1) (no-row e _ _ n1 n2 n3 n4 n5 n6 n7 n8 n9))
+      (λ h. clash (rw h at m) refl)
+      (λ n1 n2 n3 n4 n5 n6 n7 n8 n9 n10. clash (row-at w n s i (z .0) l .1) (no-row e _ _ n1 n2 n3 n4 n5 n6 n7 n8 n9 n10))
     where
       e : Entry
       e = entryAt w i
 
       z : (7 ≤ i) × (e .elem < i)
-      z = under i l (omega arith)
+      z = under i l lo
 
       f : formed (typeAt w i) ≡ true
       f = formed-at w n s i l

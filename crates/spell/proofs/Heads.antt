@@ -26,7 +26,7 @@ module _ (e : Entry) where
   unfolding headText
   head-plain h k = rw (ne-eqb _ 7 h, ne-eqb _ 8 k)
 
-  pub opening-space : (eqb (e .kind) 12 || eqb (e .kind) 13) ≡ true → opening e ≡ (60 ∷ []) ++ textOf (16 + e .p) ++ (44 ∷ [])
+  pub opening-space : (eqb (e .kind) 12 || eqb (e .kind) 13) ≡ true → opening e ≡ (60 ∷ []) ++ textOf (17 + e .p) ++ (44 ∷ [])
   unfolding opening ascii
   opening-space h = rw h
 
@@ -38,7 +38,7 @@ module _ (e : Entry) where
   unfolding lastOf ascii
   last-array h = rw (eq-eqb _ 9 h)
 
-  pub last-space : (e .kind ≡ 9 → ⊥) → (eqb (e .kind) 12 || eqb (e .kind) 13) ≡ true → lastOf e ≡ (44 ∷ []) ++ textOf (22 + e .q)
+  pub last-space : (e .kind ≡ 9 → ⊥) → (eqb (e .kind) 12 || eqb (e .kind) 13) ≡ true → lastOf e ≡ (44 ∷ []) ++ textOf (23 + e .q)
   unfolding lastOf ascii
   last-space h k = rw (ne-eqb _ 9 h, k)
 
@@ -54,7 +54,7 @@ module _ (e : Entry) where
   unfolding fractPart
   fract-scalar h = rw (ne-eqb _ 7 h)
 
-pub fract-abstract : (s : ℕ) → s ≡ 2 → fractText s ≡ textOf 25
+pub fract-abstract : (s : ℕ) → s ≡ 2 → fractText s ≡ textOf 26
 unfolding fractText
 fract-abstract s h = rw (eq-eqb s 2 h)
 
@@ -69,31 +69,31 @@ either true x y m h k = h
 either false x y m h k = k
 
 module _ (e : Entry) where
-  pub head-long : length (headText e) ≤ 20 + e .p + e .q
+  pub head-long : length (headText e) ≤ 40 + e .p + e .q
   unfolding headText ascii
   head-long =
       either (eqb (e .kind) 7) _ _ _ (simp length-append (omega (arith, text-long (e .kind), dec-long (e .p))))
       (either (eqb (e .kind) 8) _ _ _ (simp length-append (omega (arith, text-long (e .kind), dec-long (e .p), dec-long (e .q)))) (omega (arith, text-long (e .kind))))
 
-  pub opening-long : length (opening e) ≤ 20
+  pub opening-long : length (opening e) ≤ 40
   unfolding opening ascii
-  opening-long = either (eqb (e .kind) 12 || eqb (e .kind) 13) _ _ _ (simp length-append (omega (arith, text-long (16 + e .p)))) (omega arith)
+  opening-long = either (eqb (e .kind) 12 || eqb (e .kind) 13) _ _ _ (simp length-append (omega (arith, text-long (17 + e .p)))) (omega arith)
 
-  pub last-long : length (lastOf e) ≤ 19 + e .p
+  pub last-long : length (lastOf e) ≤ 39 + e .p
   unfolding lastOf ascii
   last-long =
       either (eqb (e .kind) 9) _ _ _ (simp length-append (omega (arith, dec-long (e .p))))
-      (either (eqb (e .kind) 12 || eqb (e .kind) 13) _ _ _ (simp length-append (omega (arith, text-long (22 + e .q)))) (omega arith))
+      (either (eqb (e .kind) 12 || eqb (e .kind) 13) _ _ _ (simp length-append (omega (arith, text-long (23 + e .q)))) (omega arith))
 
-  pub closing-long : length (closing e) ≤ 20 + e .p
+  pub closing-long : length (closing e) ≤ 40 + e .p
   unfolding closing ascii
   closing-long = simp length-append (omega (arith, last-long))
 
-fract-text-long : (s : ℕ) → length (fractText s) ≤ 15
+fract-text-long : (s : ℕ) → length (fractText s) ≤ 32
 unfolding fractText
-fract-text-long s = either (eqb s 2) _ _ _ (text-long 25) (text-long s)
+fract-text-long s = either (eqb s 2) _ _ _ (text-long 26) (text-long s)
 
-pub fract-long : (e : Entry) → length (fractPart e) ≤ 40 + e .p + e .q
+pub fract-long : (e : Entry) → length (fractPart e) ≤ 80 + e .p + e .q
 unfolding fractPart ascii
 fract-long e =
     either (eqb (e .kind) 7) _ _ _ (simp length-append (omega (arith, head-long e, fract-text-long (e .elem)))) (omega (arith, fract-text-long (e .kind)))

@@ -13,7 +13,7 @@ use Rattle.conv.specs.Types.Ty.{scalar, vec, mat, array, runtime, atomic, ptr, 
 use Rattle.text.specs.Text.{ascii, decimal}
 use Rattle.spell.specs.Spell.{scalarNames, spaceNames, accessNames, named, fractScalar, fractName, spelling}
 use Rattle.table.proofs.SoundLaws.{and-right}
-use Rattle.spell.proofs.Rows.{scalar-row, vec-row, mat-row, atomic-row, array-row, runtime-row, ptr-row, ref-row}
+use Rattle.spell.proofs.Rows.{scalar-row, vec-row, mat-row, atomic-row, exchange-row, array-row, runtime-row, ptr-row, ref-row}
 use Rattle.spell.proofs.Words.{inWord, inNumber, front, rest, stops, number, nameNo, same, tellApart, fracts, number-front, number-rest, name-front, name-rest, scalars-apart, spaces-apart, accesses-apart, fracts-apart, fract-named}
 
 -- what was read, and the bytes after it
@@ -41,8 +41,9 @@ readMat l =
     let s = drop 1 (rest inNumber r) in
     got (mat (numberAt c) (numberAt r) (nameAt scalarNames s)) (drop 1 (rest inWord s))
 
-abbrev readAtomic : List ℕ → Got
-readAtomic l = let s = drop 7 l in got (atomic (nameAt scalarNames s)) (drop 1 (rest inWord s))
+-- a head of k bytes, `<` among them, whose argument is a scalar
+abbrev readOver : (ℕ → Ty) → ℕ → List ℕ → Got
+readOver head k l = let s = drop k l in got (head (nameAt scalarNames s)) (drop 1 (rest inWord s))
 
 -- after the element of an array: a count, or none
 abbrev closeArray : Got → Got
@@ -66,15 +67,16 @@ readFract head l =
     (got (head (scalar (nameAt fracts l))) (rest inWord l))
     (got (head (vec (numberAt n) (nameAt fracts s))) (rest inWord s))
 
--- by the first bytes of a head: v, m, ar, at, p, r, __f, __m
+-- by the first bytes of a head: v, m, ar, at, p, r, __f, __m, __a
 abbrev readHead : (List ℕ → Got) → List ℕ → Got
 readHead inner l =
     cond (eqb (getD l 0 0) 118) (readVec l)
     (cond (eqb (getD l 0 0) 109) (readMat l)
-    (cond (eqb (getD l 0 0) 97) (cond (eqb (getD l 1 0) 114) (closeArray (inner (drop 6 l))) (readAtomic l))
+    (cond (eqb (getD l 0 0) 97) (cond (eqb (getD l 1 0) 114) (closeArray (inner (drop 6 l))) (readOver atomic 7 l))
     (cond (eqb (getD l 0 0) 112) (readPtr ptr inner l)
     (cond (eqb (getD l 0 0) 114) (readPtr ref inner l)
-    (cond (eqb (getD l 2 0) 102) (readFract frexp (drop 15 l)) (readFract modf (drop 14 l)))))))
+    (cond (eqb (getD l 2 0) 102) (readFract frexp (drop 15 l))
+    (cond (eqb (getD l 2 0) 109) (readFract modf (drop 14 l)) (readOver exchange 33 l)))))))
 
 pub read : ℕ → List ℕ → Got
 read zero l = got (scalar 0) l
@@ -154,6 +156,16 @@ module _ (x : List ℕ) (e : Ended x) where
   read-atomic f s h =
       let z = closed scalarNames 7 scalars-apart s h in
       rw (atomic-flat s, read-head f 97 _ refl (no-scalar _ .2), z .0, z .1)
+
+  exchange-flat : (s : ℕ) → spelling (exchange s) ++ x ≡ ascii "__atomic_compare_exchange_result<" ++ (named scalarNames s ++ (62 ∷ x))
+  unfolding spelling ascii
+  exchange-flat s = simp append-assoc
+
+  read-exchange : (f s : ℕ) → s < 7 → read (suc f) (spelling (exchange s) ++ x) ≡ got (exchange s) x
+  unfolding ascii
+  read-exchange f s h =
+      let z = closed scalarNames 7 scalars-apart s h in
+      rw (exchange-flat s, read-head f 95 _ refl (no-scalar _ .5), z .0, z .1)
 
   array-flat : (k : ℕ) (t : Ty) → spelling (array k t) ++ x ≡ 97 ∷ 114 ∷ 114 ∷ 97 ∷ 121 ∷ 60 ∷ (spelling t ++ (44 ∷ (decimal k ++ (62 ∷ x))))
   unfolding spelling ascii
@@ -245,6 +257,7 @@ read-back (ref p a t) g x e h =
     rw suc-add (read-ref x e _ p a t (z .0) (z .1) (read-back t g (access a x) refl (z .2)))
 read-back (frexp t) g x e h = read-frexp x e _ t h
 read-back (modf t) g x e h = read-modf x e _ t h
+read-back (exchange s) g x e h = read-exchange x e _ s (exchange-row s h)
 
 -- spellings of types that there are, followed by what ends them: where the bytes are the same, the types are, and what follows
 pub spelling-prefix : (t u : Ty) (x y : List ℕ) → formed t ≡ true → formed u ≡ true → Ended x → Ended y → spelling t ++ x ≡ spelling u ++ y → (t ≡ u) × (x ≡ y)

@@ -26,6 +26,10 @@ pub atomic-row : (s : ℕ) → formed (atomic s) ≡ true → s < 7
 unfolding formed
 atomic-row s h = int-scalar s h
 
+pub exchange-row : (s : ℕ) → formed (exchange s) ≡ true → s < 7
+unfolding formed
+exchange-row s h = int-scalar s h
+
 pub array-row : (k : ℕ) (t : Ty) → formed (array k t) ≡ true → formed t ≡ true
 unfolding formed
 array-row k t h = and-right (leb 1 k && (isValue t && not (isRuntime t))) (formed t) h

@@ -103,6 +103,10 @@ module _ (e : Entry) (hp : e .p < 2 ^ 32) (hq : e .q < 2 ^ 32) (b : ℕ) (t : Ty
   unfolding spelling fractName ascii
   modf-slim = record { spelled = simp length-append (omega (arith, s .called)); called = omega arith }
 
+  exchange-slim : Slim (b + 80) (exchange (e .elem))
+  unfolding spelling fractName ascii
+  exchange-slim = record { spelled = simp length-append (omega (arith, scalar-short (e .elem))); called = omega arith }
+
   made-slim : Slim (b + 80) (made e t)
   unfolding made
   made-slim =
@@ -113,7 +117,9 @@ module _ (e : Entry) (hp : e .p < 2 ^ 32) (hq : e .q < 2 ^ 32) (b : ℕ) (t : Ty
       (slim-by _ (eqb (e .kind) 11) _ _ atomic-slim
       (slim-by _ (eqb (e .kind) 12) _ _ ptr-slim
       (slim-by _ (eqb (e .kind) 13) _ _ ref-slim
-      (slim-by _ (eqb (e .kind) 14) _ _ frexp-slim modf-slim)))))))
+      (slim-by _ (eqb (e .kind) 14) _ _ frexp-slim
+      (slim-by _ (eqb (e .kind) 15) _ _ modf-slim
+      (slim-by _ (eqb (e .kind) 16) _ _ exchange-slim (leaf-slim (b + 80) (omega arith) (e .kind)))))))))))
 
 module _ (w : List ℕ) (words : (i : ℕ) → getD w i 0 < 2 ^ 32) where
   chain-slim : (f j : ℕ) → Slim (f * 80 + 80) (chainBy scalar made w f j)

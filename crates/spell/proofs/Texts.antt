@@ -36,7 +36,7 @@ pad-at (suc f) (b ∷ l) zero h = refl
 pad-at (suc f) (b ∷ l) (suc j) h = pad-at f l j (le-of-suc-le-suc h)
 
 unfoldable pub row : String → List ℕ
-row s = pad 16 (ascii s)
+row s = pad 32 (ascii s)
 
 length-pad : (f : ℕ) (l : List ℕ) → length (pad f l) ≡ f
 unfolding pad
@@ -49,30 +49,30 @@ unfoldable pub rows : List String → List ℕ
 rows [] = []
 rows (s ∷ names) = row s ++ rows names
 
-row-at : (names : List String) (k j : ℕ) → k < length names → j < 16 → getD (rows names) (k * 16 + j) 0 ≡ getD (named names k) j 32
+row-at : (names : List String) (k j : ℕ) → k < length names → j < 32 → getD (rows names) (k * 32 + j) 0 ≡ getD (named names k) j 32
 unfolding rows row named
 row-at [] k j h l = absurd (not-suc-le-zero h)
 row-at (s ∷ names) zero j h l =
-    let n = length-pad 16 (ascii s) in
-    let q : 0 * 16 + j ≡ j = omega arith in
-    rw q (List·getD-append (pad 16 (ascii s)) (rows names) 0 j (omega arith) ∙ pad-at 16 (ascii s) j l)
+    let n = length-pad 32 (ascii s) in
+    let q : 0 * 32 + j ≡ j = omega arith in
+    rw q (List·getD-append (pad 32 (ascii s)) (rows names) 0 j (omega arith) ∙ pad-at 32 (ascii s) j l)
 row-at (s ∷ names) (suc k) j h l =
-    let n = length-pad 16 (ascii s) in
-    let q : suc k * 16 + j ≡ length (pad 16 (ascii s)) + (k * 16 + j) = omega arith in
-    rw q (getD-append-add (pad 16 (ascii s)) (rows names) (k * 16 + j) 0 ∙ row-at names k j (le-of-suc-le-suc h) l)
+    let n = length-pad 32 (ascii s) in
+    let q : suc k * 32 + j ≡ length (pad 32 (ascii s)) + (k * 32 + j) = omega arith in
+    rw q (getD-append-add (pad 32 (ascii s)) (rows names) (k * 32 + j) 0 ∙ row-at names k j (le-of-suc-le-suc h) l)
 
 -- byte j of text k stands in the source's table
-pub text-byte : (k j : ℕ) → k < 26 → j < 16 → getD (rows texts) (k * 16 + j) 0 ≡ getD (textOf k) j 32
+pub text-byte : (k j : ℕ) → k < 27 → j < 32 → getD (rows texts) (k * 32 + j) 0 ≡ getD (textOf k) j 32
 unfolding textOf
 text-byte k j h l = row-at texts k j h l
 
-pub text-none : (k : ℕ) → 26 ≤ k → textOf k ≡ []
+pub text-none : (k : ℕ) → 27 ≤ k → textOf k ≡ []
 unfolding textOf named ascii
 text-none k h = ap ascii (List·getD-eq-default texts "" h)
 
--- each text has at most 15 bytes, and none of them is a space
+-- each text has at most 32 bytes, and none of them is a space
 plain : String → Bool
-plain s = leb (length (ascii s)) 15 && all (λ b. not (eqb b 32)) (ascii s)
+plain s = leb (length (ascii s)) 32 && all (λ b. not (eqb b 32)) (ascii s)
 
 every : List String → Bool
 every [] = true
@@ -94,15 +94,15 @@ all-at p [] j d t h = absurd (not-suc-le-zero h)
 all-at p (b ∷ l) zero d t h = and-left (p b) (all p l) t
 all-at p (b ∷ l) (suc j) d t h = all-at p l j d (and-right (p b) (all p l) t) (le-of-suc-le-suc h)
 
-module _ (k : ℕ) (h : k < 26) where
-  pub text-short : length (textOf k) ≤ 15
+module _ (k : ℕ) (h : k < 27) where
+  pub text-short : length (textOf k) ≤ 32
   unfolding plain textOf named
   text-short = leb-true _ _ (and-left _ _ (every-at texts k texts-plain h))
 
   no-space : (j : ℕ) → j < length (textOf k) → getD (textOf k) j 32 ≡ 32 → ⊥
   unfolding plain textOf named
   no-space j l q =
-      eqb-false _ _ (not-true _ (all-at (λ b. not (eqb b 32)) (textOf k) j 32 (and-right (leb (length (textOf k)) 15) _ (every-at texts k texts-plain h)) l)) q
+      eqb-false _ _ (not-true _ (all-at (λ b. not (eqb b 32)) (textOf k) j 32 (and-right (leb (length (textOf k)) 32) _ (every-at texts k texts-plain h)) l)) q
 
   -- a space is read at the end of a text, and only there
   pub text-end : (j : ℕ) → j ≤ length (textOf k) → getD (textOf k) j 32 ≡ 32 → j ≡ length (textOf k)
@@ -119,9 +119,9 @@ module _ (k : ℕ) (h : k < 26) where
       go true e = ltb-true _ _ e
       go false e = absurd (q (List·getD-eq-default (textOf k) 32 (ltb-false j (length (textOf k)) e)))
 
-pub text-long : (k : ℕ) → length (textOf k) ≤ 15
-text-long k = go (ltb k 26) refl
+pub text-long : (k : ℕ) → length (textOf k) ≤ 32
+text-long k = go (ltb k 27) refl
   where
-    go : (b : Bool) → ltb k 26 ≡ b → length (textOf k) ≤ 15
+    go : (b : Bool) → ltb k 27 ≡ b → length (textOf k) ≤ 32
     go true e = text-short k (ltb-true _ _ e)
-    go false e = omega (arith, ap length (text-none k (ltb-false k 26 e)))
+    go false e = omega (arith, ap length (text-none k (ltb-false k 27 e)))

@@ -40,7 +40,7 @@ fractName (frexp t) = []
 fractName (modf t) = []
 fractName (exchange s) = []
 
--- the spelling of a type
+-- the spelling of a type. The last is document 02's, K5: "spelled `__atomic_compare_exchange_result<i32>` (or u32)"
 unfoldable pub spelling : Ty → List ℕ
 spelling (scalar s) = named scalarNames s
 spelling (vec n s) = ascii "vec" ++ decimal n ++ ascii "<" ++ named scalarNames s ++ ascii ">"
@@ -52,3 +52,4 @@ spelling (ptr space access t) = ascii "ptr<" ++ named spaceNames space ++ ascii 
 spelling (ref space access t) = ascii "ref<" ++ named spaceNames space ++ ascii "," ++ spelling t ++ ascii "," ++ named accessNames access ++ ascii ">"
 spelling (frexp t) = ascii "__frexp_result_" ++ fractName t
 spelling (modf t) = ascii "__modf_result_" ++ fractName t
+spelling (exchange s) = ascii "__atomic_compare_exchange_result<" ++ named scalarNames s ++ ascii ">"

@@ -16,42 +16,43 @@ use table::TypeNo;
 
 // The texts that spellings are made of, each padded with spaces: by kind, the scalars and the heads; then the spaces, the accesses,
 // and what a result type's name calls AbstractFloat.
-const TEXT_COUNT: usize = 26;
+const TEXT_COUNT: usize = 27;
 
-const TEXT_WIDTH: usize = 16;
+const TEXT_WIDTH: usize = 32;
 
-const TEXTS: [u8; 416] = *b"bool            \
-    AbstractInt     \
-    AbstractFloat   \
-    i32             \
-    u32             \
-    f32             \
-    f16             \
-    vec             \
-    mat             \
-    array           \
-    array           \
-    atomic          \
-    ptr             \
-    ref             \
-    __frexp_result_ \
-    __modf_result_  \
-    function        \
-    private         \
-    workgroup       \
-    uniform         \
-    storage         \
-    handle          \
-    read            \
-    write           \
-    read_write      \
-    abstract        ";
+const TEXTS: [u8; 864] = *b"bool                            \
+    AbstractInt                     \
+    AbstractFloat                   \
+    i32                             \
+    u32                             \
+    f32                             \
+    f16                             \
+    vec                             \
+    mat                             \
+    array                           \
+    array                           \
+    atomic                          \
+    ptr                             \
+    ref                             \
+    __frexp_result_                 \
+    __modf_result_                  \
+    __atomic_compare_exchange_result\
+    function                        \
+    private                         \
+    workgroup                       \
+    uniform                         \
+    storage                         \
+    handle                          \
+    read                            \
+    write                           \
+    read_write                      \
+    abstract                        ";
 
-const TEXT_SPACES: usize = 16;
+const TEXT_SPACES: usize = 17;
 
-const TEXT_ACCESSES: usize = 22;
+const TEXT_ACCESSES: usize = 23;
 
-const TEXT_ABSTRACT: usize = 25;
+const TEXT_ABSTRACT: usize = 26;
 
 // What asking for a spelling gives: its length, or a refusal.
 pub enum Spelled {
@@ -175,7 +176,7 @@ fn put_fract(out: &mut [u8], at: usize, e: Entry) -> usize
     put_fract_scalar(out, at, cast::word(e.kind))
 }
 
-// A type: its head, then its arguments. A scalar and a result type have none: their names are whole.
+// A type: its head, then its arguments. A scalar and a result of frexp or modf have none: their names are whole.
 pub fn spell_type(words: &[u32], n: usize, i: usize, out: &mut [u8], at: usize) -> usize
     requires { ⌜ Sound (now words) n ⌝ }
     requires { ⌜ i < n ⌝ }
@@ -188,7 +189,7 @@ pub fn spell_type(words: &[u32], n: usize, i: usize, out: &mut [u8], at: usize) 
     if e.kind < table::KIND_VEC {
         return mid;
     }
-    if table::KIND_FREXP <= e.kind {
+    if (e.kind == table::KIND_FREXP) | (e.kind == table::KIND_MODF) {
         return put_fract(out, mid, table::entry_at(words, cast::word(e.elem)));
     }
     spell_args(words, n, i, out, mid)

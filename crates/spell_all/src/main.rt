@@ -10,6 +10,7 @@ use table::Answer;
 use table::Entry;
 use table::KIND_ARRAY;
 use table::KIND_ATOMIC;
+use table::KIND_EXCHANGE;
 use table::KIND_FREXP;
 use table::KIND_MAT;
 use table::KIND_MODF;
@@ -26,9 +27,9 @@ use table::SPACE_WORKGROUP;
 use table::TypeNo;
 
 // The words kind, p, q and elem of the entries from number 7 on.
-const COUNT: usize = 64;
+const COUNT: usize = 69;
 
-const ENTRIES: [[u32; 4]; 64] = [
+const ENTRIES: [[u32; 4]; 69] = [
     [KIND_VEC, 2, 0, 0], // 7
     [KIND_VEC, 3, 0, 1],
     [KIND_VEC, 4, 0, 2],
@@ -93,11 +94,16 @@ const ENTRIES: [[u32; 4]; 64] = [
     [KIND_RUNTIME, 0, 0, 53],
     [KIND_REF, SPACE_HANDLE, ACCESS_READ_WRITE, 32],
     [KIND_ARRAY, 4294967295, 0, 67], // 70
+    [KIND_EXCHANGE, 0, 0, 3],
+    [KIND_EXCHANGE, 0, 0, 4],
+    [KIND_ARRAY, 12, 0, 71],
+    [KIND_RUNTIME, 0, 0, 72],
+    [KIND_PTR, SPACE_FUNCTION, ACCESS_READ_WRITE, 72], // 75
 ];
 
 // Word j of row k.
 fn word(k: usize, j: usize) -> u32
-    requires { ⌜ (k < 64) × (j < 4) ⌝ }
+    requires { ⌜ (k < 69) × (j < 4) ⌝ }
 {
     ENTRIES[k][j]
 }

@@ -3,7 +3,9 @@
 -- stays near, since each entry adds fewer bytes than `span`. Assumes nothing.
 use Prim.Native.Nat.{ℕ, _+_, _*_, _≤_, _<_}
 use mathlib.Core.Path.{_≡_, _∙_, ap}
+use mathlib.Core.Bool.{true, false, _||_}
 use native.Mathlib.Omega.{arith}
+use lib.Dec.{eqb}
 use borrow.Author.Needs.{needs}
 use borrow.Fn.Kinds.{In}
 use borrow.Fn.PlainCycle.{Measures, is, falls, and}
@@ -56,7 +58,7 @@ spell-args-claims t =
     (entry-at-reads.Asked, entry-at-reads.Learnt, put-opening-reads.Asked, put-opening-reads.Learnt, word-reads.Asked, word-reads.Learnt, spell-type-below t, spell-type.Post, put-closing-reads.Asked, put-closing-reads.Learnt)
 
 -- what opens the arguments is short
-args-near : (t : ℕ) (c : spell-args-lts.After-put-opening (spell-args-claims t) (spell-args-at t) spell-args.Post) → c .put-opening .result ≤ c .before .before .before .before .before .args .at + 20
+args-near : (t : ℕ) (c : spell-args-lts.After-put-opening (spell-args-claims t) (spell-args-at t) spell-args.Post) → c .put-opening .result ≤ c .before .before .before .before .before .args .at + 40
 args-near t c = omega (arith, c .put-opening .ensures .place, opening-long (c .before .before .entry-at .result))
 
 -- the number of the elem, and that it is smaller
@@ -128,49 +130,50 @@ spell-type-word-requires t c κs = search needs
 
 spell-type-entry-at-requires-2 : (t : ℕ) → spell-type-lts.Need-entry-at-requires-2 (spell-type-claims t) (spell-type-at t) spell-type.Post
 spell-type-entry-at-requires-2 t c κs =
-    let a = c .before .before .before .before .before .before .before .before .before .before .before .before .before .args in
-    let p = c .before .before .before .before .before .before .before .before .before .before .before .before .before .pre .1 in
-    let e = c .before .before .before .before .before .before .before .before .before .before .entry-at .ensures in
-    let k : 7 ≤ entryAt (a .words .now) (a .i) .kind = omega (arith, c .before .before .if2 .taken, ap (λ (x : Entry). x .kind) e) in
+    let a = c .before .before .before .before .before .before .before .before .before .before .before .before .before .before .args in
+    let p = c .before .before .before .before .before .before .before .before .before .before .before .before .before .before .pre .1 in
+    let e = c .before .before .before .before .before .before .before .before .before .before .before .entry-at .ensures in
+    let k : 7 ≤ entryAt (a .words .now) (a .i) .kind = omega (arith, c .before .before .before .before .before .if1 .left, ap (λ (x : Entry). x .kind) e) in
     omega (arith, c .word .ensures, ap (λ (x : Entry). x .elem) e, under (a .words .now) (a .n) (p .0) (a .i) (p .1 .0) k .1)
 
 spell-type-put-fract-requires : (t : ℕ) → spell-type-lts.Need-put-fract-requires (spell-type-claims t) (spell-type-at t) spell-type.Post
-spell-type-put-fract-requires t c κs = omega (arith, type-near t (c .before .before .before .before .before .before .before .before .before))
+spell-type-put-fract-requires t c κs = omega (arith, type-near t (c .before .before .before .before .before .before .before .before .before .before))
 
 spell-type-same-length-2 : (t : ℕ) → spell-type-lts.Need-same-length-2 (spell-type-claims t) (spell-type-at t) spell-type.Post
 spell-type-same-length-2 t c = search needs
 
 spell-type-returns-2 : (t : ℕ) → spell-type-lts.Need-returns-2 (spell-type-claims t) (spell-type-at t) spell-type.Post
 spell-type-returns-2 t c =
-    let a = c .before .before .before .before .before .before .before .before .before .before .before .before .before .before .before .before .before .args in
-    let p = c .before .before .before .before .before .before .before .before .before .before .before .before .before .before .before .before .before .pre .1 in
-    let e = c .before .before .before .before .before .before .before .before .before .before .before .before .before .before .entry-at .ensures in
-    let k : 14 ≤ entryAt (a .words .now) (a .i) .kind = omega (arith, c .before .before .before .before .before .before .if2 .taken, ap (λ (x : Entry). x .kind) e) in
+    let a = c .before .before .before .before .before .before .before .before .before .before .before .before .before .before .before .before .before .before .args in
+    let p = c .before .before .before .before .before .before .before .before .before .before .before .before .before .before .before .before .before .before .pre .1 in
+    let e = c .before .before .before .before .before .before .before .before .before .before .before .before .before .before .before .entry-at .ensures in
+    let k : 7 ≤ entryAt (a .words .now) (a .i) .kind = omega (arith, c .before .before .before .before .before .before .before .before .before .if1 .left, ap (λ (x : Entry). x .kind) e) in
+    let r : (eqb (entryAt (a .words .now) (a .i) .kind) 14 || eqb (entryAt (a .words .now) (a .i) .kind) 15) ≡ true = rw e at (c .before .before .before .before .before .before .if2 .taken) in
     let f = rw (c .before .before .before .before .word .ensures ∙ ap (λ (x : Entry). x .elem) e) at (c .before .before .before .entry-at2 .ensures) in
     let m = entryAt (a .words .now) (a .i) .elem in (
-      rw (with-result (a .words .now) (a .n) (p .0) (a .i) (p .1 .0) k) (put-put (rw e at (c .before .before .before .before .before .before .before .before .before .before .before .before .put-head .ensures)) (rw f at (c .before .before .put-fract .ensures))),
-      omega (arith, type-near t (c .before .before .before .before .before .before .before .before .before .before .before .before), c .before .before .put-fract .ensures .place, fract-long (c .before .before .before .entry-at2 .result), ap (λ (x : Entry). x .p) f, ap (λ (x : Entry). x .q) f, c .before .before .before .before .before .before .before .before .before .before .before .before .before .before .before .before .shared-slice-known .given (m * 4 + 1), c .before .before .before .before .before .before .before .before .before .before .before .before .before .before .before .before .shared-slice-known .given (m * 4 + 2)),
+      rw (with-result (a .words .now) (a .n) (p .0) (a .i) (p .1 .0) k r) (put-put (rw e at (c .before .before .before .before .before .before .before .before .before .before .before .before .before .put-head .ensures)) (rw f at (c .before .before .put-fract .ensures))),
+      omega (arith, type-near t (c .before .before .before .before .before .before .before .before .before .before .before .before .before), c .before .before .put-fract .ensures .place, fract-long (c .before .before .before .entry-at2 .result), ap (λ (x : Entry). x .p) f, ap (λ (x : Entry). x .q) f, c .before .before .before .before .before .before .before .before .before .before .before .before .before .before .before .before .before .shared-slice-known .given (m * 4 + 1), c .before .before .before .before .before .before .before .before .before .before .before .before .before .before .before .before .before .shared-slice-known .given (m * 4 + 2)),
     )
 
 spell-type-spell-args-requires : (t : ℕ) → spell-type-lts.Need-spell-args-requires (spell-type-claims t) (spell-type-at t) spell-type.Post
 spell-type-spell-args-requires t c κs =
-    let a = c .before .before .before .before .before .before .before .before .before .before .before .before .args in
-    let p = c .before .before .before .before .before .before .before .before .before .before .before .before .pre .1 in
-    let k : 7 ≤ entryAt (a .words .now) (a .i) .kind = omega (arith, c .before .before .before .if1 .left, ap (λ (x : Entry). x .kind) (c .before .before .before .before .before .before .before .before .before .entry-at .ensures)) in
-    (omega arith, (p .0, ((under (a .words .now) (a .n) (p .0) (a .i) (p .1 .0) k .0, p .1 .0), omega (arith, type-near t (c .before .before .before .before .before .before .before)))))
+    let a = c .before .before .before .before .before .before .before .before .before .before .before .before .before .args in
+    let p = c .before .before .before .before .before .before .before .before .before .before .before .before .before .pre .1 in
+    let k : 7 ≤ entryAt (a .words .now) (a .i) .kind = omega (arith, c .before .before .before .before .if1 .left, ap (λ (x : Entry). x .kind) (c .before .before .before .before .before .before .before .before .before .before .entry-at .ensures)) in
+    (omega arith, (p .0, ((under (a .words .now) (a .n) (p .0) (a .i) (p .1 .0) k .0, p .1 .0), omega (arith, type-near t (c .before .before .before .before .before .before .before .before)))))
 
 spell-type-same-length-3 : (t : ℕ) → spell-type-lts.Need-same-length-3 (spell-type-claims t) (spell-type-at t) spell-type.Post
 spell-type-same-length-3 t c = search needs
 
 spell-type-returns-3 : (t : ℕ) → spell-type-lts.Need-returns-3 (spell-type-claims t) (spell-type-at t) spell-type.Post
 spell-type-returns-3 t c =
-    let a = c .before .before .before .before .before .before .before .before .before .before .before .before .before .before .before .args in
-    let p = c .before .before .before .before .before .before .before .before .before .before .before .before .before .before .before .pre .1 in
-    let e = c .before .before .before .before .before .before .before .before .before .before .before .before .entry-at .ensures in
-    let k : 7 ≤ entryAt (a .words .now) (a .i) .kind = omega (arith, c .before .before .before .before .before .before .if1 .left, ap (λ (x : Entry). x .kind) e) in
-    let m : entryAt (a .words .now) (a .i) .kind < 14 = omega (arith, c .before .before .before .before .if2 .left, ap (λ (x : Entry). x .kind) e) in (
-      rw (with-args (a .words .now) (a .n) (p .0) (a .i) (p .1 .0) k m) (put-put (rw e at (c .before .before .before .before .before .before .before .before .before .before .put-head .ensures)) (c .before .before .spell-args .ensures .0)),
-      omega (arith, c .before .before .spell-args .ensures .1, type-near t (c .before .before .before .before .before .before .before .before .before .before)),
+    let a = c .before .before .before .before .before .before .before .before .before .before .before .before .before .before .before .before .args in
+    let p = c .before .before .before .before .before .before .before .before .before .before .before .before .before .before .before .before .pre .1 in
+    let e = c .before .before .before .before .before .before .before .before .before .before .before .before .before .entry-at .ensures in
+    let k : 7 ≤ entryAt (a .words .now) (a .i) .kind = omega (arith, c .before .before .before .before .before .before .before .if1 .left, ap (λ (x : Entry). x .kind) e) in
+    let m : (eqb (entryAt (a .words .now) (a .i) .kind) 14 || eqb (entryAt (a .words .now) (a .i) .kind) 15) ≡ false = rw e at (c .before .before .before .before .if2 .left) in (
+      rw (with-args (a .words .now) (a .n) (p .0) (a .i) (p .1 .0) k m) (put-put (rw e at (c .before .before .before .before .before .before .before .before .before .before .before .put-head .ensures)) (c .before .before .spell-args .ensures .0)),
+      omega (arith, c .before .before .spell-args .ensures .1, type-near t (c .before .before .before .before .before .before .before .before .before .before .before)),
     )
 
 pub +spell-args+spell-type-spec : {M : Type 1} → statement M

@@ -42,7 +42,7 @@ same-length-2 c = search needs
 returns-2 : tie.Need-returns-2
 returns-2 c = let e = c .before .before .before .before .before .before .before .before .before .before .before .before .before .before .before .args .e in (
   rw (last-space e (c .before .before .before .before .before .before .before .before .before .before .before .before .if1 .left) (c .before .before .before .before .before .before .before .before .before .if2 .taken)) (put-put (c .before .before .before .before .before .before .before .put-byte2 .ensures) (rw (c .before .before .before .word .ensures) at (c .before .before .put-text .ensures))),
-  omega (arith, c .before .before .before .before .before .before .before .put-byte2 .ensures .place, c .before .before .put-text .ensures .place, text-long (_+_ 22 (c .before .before .before .word .result))),
+  omega (arith, c .before .before .before .before .before .before .before .put-byte2 .ensures .place, c .before .before .put-text .ensures .place, text-long (_+_ 23 (c .before .before .before .word .result))),
 )
 
 returns-3 : tie.Need-returns-3

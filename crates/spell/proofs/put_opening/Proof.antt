@@ -21,7 +21,7 @@ put-text-requires : tie.Need-put-text-requires
 put-text-requires c κs = search needs
 
 put-byte-requires-2 : tie.Need-put-byte-requires-2
-put-byte-requires-2 c κs = omega (arith, c .before .before .before .before .before .before .before .before .before .before .before .put-byte .ensures .place, c .before .before .before .put-text .ensures .place, text-long (_+_ 16 (c .before .before .before .before .word .result)))
+put-byte-requires-2 c κs = omega (arith, c .before .before .before .before .before .before .before .before .before .before .before .put-byte .ensures .place, c .before .before .before .put-text .ensures .place, text-long (_+_ 17 (c .before .before .before .before .word .result)))
 
 same-length : tie.Need-same-length
 same-length c = search needs

@@ -1,5 +1,5 @@
 -- `spell::put_text` meets its contract. The loop's invariant: the first j bytes of the text stand there; a space is read at the
--- text's end, and only there. Assumes nothing.
+-- text's end, and only there; the one text that fills its row ends with the row. Assumes nothing.
 use Prim.Native.Nat.{ℕ, _+_, _<_, _≤_, _-_}
 use mathlib.Core.Path.{_≡_, refl, sym, _∙_, ap}
 use native.Mathlib.Omega.{arith}
@@ -12,10 +12,10 @@ use Rattle.spell.proofs.put_text.Statement.{statement}
 use Rattle.spell.proofs.put_text.Tie as tie
 
 abbrev Inv-loop : tie.InvT-loop
-Inv-loop out₀ at k j₀ out j = (k < 26) × (j ≤ length (textOf k)) × (out ≡ sets out₀ at (take j (textOf k)))
+Inv-loop out₀ at k j₀ out j = (k < 27) × (j ≤ length (textOf k)) × (out ≡ sets out₀ at (take j (textOf k)))
 
 abbrev μ-loop : tie.MeasureT-loop
-μ-loop out₀ at k j₀ out j = 16 - j
+μ-loop out₀ at k j₀ out j = 32 - j
 
 returns : tie.Need-returns Inv-loop μ-loop
 returns c = rw (text-none _ (c .if1 .taken)) (put-nothing _ _)
@@ -65,7 +65,11 @@ same-length-2 : tie.Need-same-length-2 Inv-loop μ-loop
 same-length-2 c = ap length (c .before .loop .inv .2) ∙ simp length-sets
 
 returns-3 : tie.Need-returns-3 Inv-loop μ-loop
-returns-3 c = absurd (omega (arith, text-short (c .before .before .before .before .args .k) (c .before .loop .inv .0)))
+returns-3 c =
+    let l = c .before in
+    let a = c .before .before .before .before .args in
+    let e : l .loop .j ≡ length (textOf (a .k)) = omega (arith, text-short (a .k) (l .loop .inv .0)) in
+    record { place = omega arith; bytes = l .loop .inv .2 ∙ ap (sets (a .out .now) (a .at)) (take-all (l .loop .j) (textOf (a .k)) (omega arith)) }
 
 pub put-text-spec : {M : Type 1} → statement M
 put-text-spec =

@@ -11,10 +11,10 @@ use Rattle.table.specs.declared.Entry.{Entry}
 use Rattle.text.specs.Text.{ascii, decimal}
 use Rattle.spell.specs.Spell.{scalarNames, spaceNames, accessNames, named, spelling}
 
--- the texts that spellings are made of: by kind, 0 to 15, the scalars and the heads; then the spaces and the accesses; then what a
+-- the texts that spellings are made of: by kind, 0 to 16, the scalars and the heads; then the spaces and the accesses; then what a
 -- result type's name calls AbstractFloat
 abbrev pub headNames : List String
-headNames = "vec" ∷ "mat" ∷ "array" ∷ "array" ∷ "atomic" ∷ "ptr" ∷ "ref" ∷ "__frexp_result_" ∷ "__modf_result_" ∷ []
+headNames = "vec" ∷ "mat" ∷ "array" ∷ "array" ∷ "atomic" ∷ "ptr" ∷ "ref" ∷ "__frexp_result_" ∷ "__modf_result_" ∷ "__atomic_compare_exchange_result" ∷ []
 
 abbrev pub texts : List String
 texts = scalarNames ++ headNames ++ spaceNames ++ accessNames ++ ("abstract" ∷ [])
@@ -24,23 +24,23 @@ textOf k = named texts k
 
 -- how many texts there are, and how long a row of them is, padded with spaces
 abbrev pub textCount : ℕ
-textCount = 26
+textCount = 27
 
 abbrev pub textWidth : ℕ
-textWidth = 16
+textWidth = 32
 
 abbrev pub blank : ℕ
 blank = 32
 
 -- where the spaces and the accesses begin among the texts, and where `abstract` stands
 abbrev pub textSpaces : ℕ
-textSpaces = 16
+textSpaces = 17
 
 abbrev pub textAccesses : ℕ
-textAccesses = 22
+textAccesses = 23
 
 abbrev pub textAbstract : ℕ
-textAbstract = 25
+textAbstract = 26
 
 -- the head: a name, then a vector's width or a matrix's columns and rows
 unfoldable pub headText : Entry → List ℕ

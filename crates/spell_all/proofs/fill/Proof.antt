@@ -8,10 +8,10 @@ use Rattle.spell_all.proofs.fill.Statement.{statement}
 use Rattle.spell_all.proofs.fill.Tie as tie
 
 abbrev Inv-loop : tie.InvT-loop
-Inv-loop words₀ n used₀ k₀ words used k = (k ≤ 64) × (length words ≡ length words₀)
+Inv-loop words₀ n used₀ k₀ words used k = (k ≤ 69) × (length words ≡ length words₀)
 
 abbrev μ-loop : tie.MeasureT-loop
-μ-loop words₀ n used₀ k₀ words used k = 64 - k
+μ-loop words₀ n used₀ k₀ words used k = 69 - k
 
 loop-holds : tie.Need-loop-holds Inv-loop μ-loop
 loop-holds c = (omega arith, refl)
