@@ -8,7 +8,7 @@ use lib.Dec.{leb, eqb}
 use lib.IntN.{ℤ, pos, negsuc}
 use borrow.Author.Tests.{lt-ltb, ltb-true, le-leb, lt-leb, leb-true, eqb-true, eqb-false, ne-eqb}
 use Rattle.conv.specs.Types.{isWidth}
-use Rattle.conv.specs.Types.Ty.{vec, mat, array, runtime, atomic, exchange}
+use Rattle.conv.specs.Types.Ty.{vec, mat, array, runtime, atomic}
 use Rattle.table.specs.Table.{scalars, soundb}
 use Rattle.table.specs.Denote.{typeAt}
 use Rattle.table.specs.Placing.{turnedDown, entering}

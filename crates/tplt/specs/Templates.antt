@@ -5,7 +5,7 @@ use mathlib.Core.List.{List}
 use lib.Dec.{eqb}
 use lib.IntN.{ℤ}
 use Rattle.conv.specs.Types.{Ty, bool, i32, u32, f32, f16, isValue, isRuntime}
-use Rattle.conv.specs.Types.Ty.{scalar, vec, mat, array, runtime, atomic, exchange}
+use Rattle.conv.specs.Types.Ty.{scalar, vec, mat, array, runtime, atomic}
 use Rattle.table.specs.Table.{soundb}
 use Rattle.table.specs.Denote.{typeAt}
 use Rattle.table.specs.Placing.{Outcome, turnedDown, entering}
