@@ -12,12 +12,13 @@ use borrow.Author.Tests.{eqb-true, eqb-false, eq-eqb}
 use Rattle.conv.specs.Types.{Ty, formed}
 use Rattle.overload.specs.Overload.{Overload, fits, Preferred}
 use Rattle.overload.specs.Marks.{remaining, runningAbstract}
-use Rattle.overload.specs.Rows.{Ruling, overloadsBy, judgeBy}
+use Rattle.overload.specs.Rows.{Ruling, overloadsBy, judgeBy, Known}
+use Rattle.overload.specs.Rows.Ruling.{onAtomic}
 use Rattle.overload.proofs.Operands.{allFormed}
 use Rattle.overload.proofs.Preference.{one-preferred}
 use Rattle.overload.proofs.Rulings.{ruling-resolved, ruling-never, ruling-formed}
 use Rattle.names.specs.Names.{Named, ruleOf}
-use Rattle.names.specs.Names.Rule.{ruling}
+use Rattle.names.specs.Names.Rule.{ruling, storing}
 use Rattle.names.specs.Names.Named.{rule}
 use Rattle.names.proofs.Rules.{ruling-known}
 use Rattle.answer.specs.Answer.{reasonNo}
@@ -30,9 +31,9 @@ use Rattle.answer.specs.declared.Answer.the-variants.{NoValue, Refused}
 use Rattle.table.proofs.Demand1.{entering-refused}
 use Rattle.table.proofs.SoundLaws.{of-sound}
 use Rattle.table.proofs.KindLaws.{split}
-use Rattle.ruled.specs.Call.{anyReference, judgedOutcome}
-use Rattle.ruled.specs.Demand3.{Accepts, HasRoom, Demand3}
-use Rattle.ruled.proofs.Demands.{demand-3, judged-nothing, Never13, never-refused}
+use Rattle.ruled.specs.Call.{anyReference, judgedOutcome, silentOutcome}
+use Rattle.ruled.specs.Demand3.{Accepts, HasRoom, Demand3, SilentDemand3}
+use Rattle.ruled.proofs.Demands.{demand-3, silent-demand-3, judged-nothing, Never13, never-refused}
 use Rattle.call_ty.specs.Calls.{operandsOf, givenBy, givenOutcome, byRule, templateRight, callOutcome, numbers, marksOf, types, typeBuiltinFn}
 use Rattle.call_ty.specs.inner.Codes.{Under}
 use Rattle.call_ty.proofs.Lists.{types-formed, under-all}
@@ -103,6 +104,49 @@ module _ (profile : ℕ) (w : List ℕ) (n : ℕ) (s : Sound w n) (name args : L
       let known = ruling-known profile name r ruled in
       sym (judged k)
       ∙ judged-nothing 0 w n s (remaining (marksOf args) (overloadsBy r)) (types w (numbers args)) (ruling-never (types w (numbers args)) formed-args (marksOf args) r known) (judgeBy r (types w (numbers args)) (marksOf args)) (ruling-resolved (types w (numbers args)) formed-args (marksOf args) r) h
+
+-- ATOMICSTORE, with the same hypotheses, over the overloads of a call on atomics with one value: accepted, with no value, exactly when one fits. It needs no room
+
+module _ (profile : ℕ) (w : List ℕ) (n : ℕ) (s : Sound w n) (name args : List ℕ) (runs : Bool) (stores : ruleOf profile name ≡ rule storing runs)
+    (under : Under n (numbers args)) (loaded : anyReference (types w (numbers args)) ≡ false) (apart : runningAbstract (types w (numbers args)) (marksOf args) ≡ false) where
+  abbrev stored : Overload → Type 0
+  stored = remaining (marksOf args) (overloadsBy (onAtomic 1))
+
+  no-list : templateRight storing [] ≡ true
+  unfolding templateRight
+  no-list = refl
+
+  store-single : byRule 0 w n (rule storing runs) [] (types w (numbers args)) (marksOf args) ≡ typeBuiltinFn profile w n name [] args
+  store-single =
+      ap (λ (k : Named). byRule 0 w n k [] (types w (numbers args)) (marksOf args)) (sym stores)
+      ∙ single-call profile w n name [] args (of-sound w n s) (under-all n [] (λ i l. absurd (omega arith))) (under-all n (numbers args) under)
+
+  store-judged : length (types w (numbers args)) ≡ operandsOf storing → silentOutcome 0 w n (judgeBy (onAtomic 1) (types w (numbers args)) (marksOf args)) ≡ typeBuiltinFn profile w n name [] args
+  unfolding givenOutcome givenBy
+  store-judged k = by-call 0 w n storing runs [] (types w (numbers args)) (marksOf args) no-list k loaded apart ∙ store-single
+
+  store-counted : length (types w (numbers args)) ≢ operandsOf storing → turnedDown Operands 0 w n ≡ typeBuiltinFn profile w n name [] args
+  store-counted k = by-count 0 w n storing runs [] (types w (numbers args)) (marksOf args) no-list k ∙ store-single
+
+  store-miscounted : length (types w (numbers args)) ≢ operandsOf storing → SilentDemand3 stored (types w (numbers args)) (turnedDown Operands 0 w n)
+  unfolding Known operandsOf
+  store-miscounted k =
+      record {
+        accepted = λ p m f. absurd (wrong-count (onAtomic 1) tt (types w (numbers args)) k p (m .0) f);
+        fitting = λ a. let e = a .1 in absurd (let z : _≡_ {A = ℕ} 0 1 = cc in omega arith);
+        result = λ t m e. absurd (let z : _≡_ {A = ℕ} 0 1 = cc in omega arith);
+        alone = one-preferred stored (types w (numbers args));
+      }
+
+  pub store-demand-3 : SilentDemand3 stored (types w (numbers args)) (typeBuiltinFn profile w n name [] args)
+  unfolding Known
+  store-demand-3 =
+      let f = types-formed w n s (numbers args) under in
+      split (eqb (length (types w (numbers args))) (operandsOf storing))
+      (λ b.
+      subst (SilentDemand3 stored (types w (numbers args))) (store-judged (eqb-true _ _ b))
+      (silent-demand-3 0 w n s stored (types w (numbers args)) (ruling-never (types w (numbers args)) f (marksOf args) (onAtomic 1) tt) _ (ruling-resolved (types w (numbers args)) f (marksOf args) (onAtomic 1))))
+      (λ b. subst (SilentDemand3 stored (types w (numbers args))) (store-counted (eqb-false _ _ b)) (store-miscounted (eqb-false _ _ b)))
 
 -- REFUSAL 13 IS NEVER GIVEN, of any table, count, name, template list and operands
 

@@ -11,10 +11,11 @@ use Rattle.overload.specs.Overload.{Judged, Resolved}
 use Rattle.overload.specs.Overload.Judged.{gives, noneFits, nonePreferred}
 use Rattle.overload.specs.Marks.{remaining, runningAbstract}
 use Rattle.overload.specs.Rows.{Ruling, overloadsBy, judgeBy, Known}
+use Rattle.overload.specs.Rows.Ruling.{onAtomic}
 use Rattle.overload.proofs.Operands.{and-left, allFormed}
 use Rattle.overload.proofs.Rulings.{ruling-resolved, ruling-never, ruling-formed}
 use Rattle.names.specs.Names.{Rule, Named, ruleOf}
-use Rattle.names.specs.Names.Rule.{ruling, bitcast, arrayLength, ldexp, barrier}
+use Rattle.names.specs.Names.Rule.{ruling, storing, bitcast, arrayLength, ldexp, barrier}
 use Rattle.names.specs.Names.Named.{rule, unknown}
 use Rattle.names.proofs.Rules.{ruling-known}
 use Rattle.answer.specs.Answer.{reasonNo}
@@ -23,8 +24,8 @@ use Rattle.table.specs.Placing.{Outcome, turnedDown, entering}
 use Rattle.answer.specs.declared.Reason.{Reason}
 use Rattle.answer.specs.declared.Reason.the-variants.{Unsound, NoSuchType, Reference, Unknown, Template, Operands, NoOverload, RunningAbstract}
 use Rattle.table.proofs.SoundLaws.{sound-of}
-use Rattle.ruled.specs.Call.{anyReference, judgedOutcome}
-use Rattle.call_ty.specs.Calls.{firstIn, secondIn, templateRight, operandsOf, ldexpTakes, judgeLdexp, givenBy, givenOutcome, withoutValue, byRule, allUnder, numbers, marksOf, types, typeBuiltinFn}
+use Rattle.ruled.specs.Call.{anyReference, judgedOutcome, withoutValue, silentOutcome}
+use Rattle.call_ty.specs.Calls.{firstIn, secondIn, templateRight, operandsOf, ldexpTakes, judgeLdexp, givenBy, givenOutcome, byRule, allUnder, numbers, marksOf, types, typeBuiltinFn}
 use Rattle.call_ty.specs.Calls.Given.{judgment}
 use Rattle.call_ty.proofs.Lists.{types-formed, all-under}
 use Rattle.call_ty.proofs.Ways.{by-unknown}
@@ -67,6 +68,13 @@ module _ (place : ℕ) (w : List ℕ) (n : ℕ) (runs : Bool) (ts us : List Ty) 
   ruling-ends r k g =
       judged (ruling r) (judgeBy r us ms) (ruling-formed us fu ms r k) (λ e. ruling-never us fu ms r k (subst (Resolved (remaining ms (overloadsBy r)) us) e (ruling-resolved us fu ms r))) g
 
+  -- one that gives no value
+  silent-ends : (r : Rule) (j : Judged) → (j ≡ nonePreferred → ⊥) → Ends place w n (rule r runs) ts us ms (silentOutcome place w n j)
+  unfolding silentOutcome
+  silent-ends r (gives R) x = silent refl
+  silent-ends r noneFits x = refused NoOverload refl refl
+  silent-ends r nonePreferred x = absurd (x refl)
+
   type-ends : (r : Rule) (R : Ty) → formed R ≡ true → givenBy r ts us ms ≡ judgment (gives R) → Ends place w n (rule r runs) ts us ms (judgedOutcome place w n (gives R))
   unfolding judgedOutcome
   type-ends r R f g = valued R r runs f refl g refl
@@ -85,8 +93,9 @@ module _ (place : ℕ) (w : List ℕ) (n : ℕ) (runs : Bool) (ts us : List Ty) 
       none false e = let z : _≡_ {A = ℕ} 0 1 = cc in omega arith
 
   rule-ends : (r : Rule) → KnownIn (rule r runs) → Ends place w n (rule r runs) ts us ms (givenOutcome place w n (givenBy r ts us ms))
-  unfolding givenOutcome givenBy formed
+  unfolding givenOutcome givenBy formed Known
   rule-ends (ruling r) k = ruling-ends r (k r runs refl) refl
+  rule-ends storing k = silent-ends storing (judgeBy (onAtomic 1) us ms) (λ e. ruling-never us fu ms (onAtomic 1) tt (subst (Resolved (remaining ms (overloadsBy (onAtomic 1))) us) e (ruling-resolved us fu ms (onAtomic 1))))
   rule-ends bitcast k = type-ends bitcast (firstIn ts) (first-formed ts ft) refl
   rule-ends arrayLength k = type-ends arrayLength (scalar u32) refl refl
   rule-ends ldexp k = ldexp-ends ldexp refl

@@ -16,9 +16,9 @@ use Rattle.answer.specs.declared.Reason.the-variants.{NoSuchType, Reference, Un
 use Rattle.table.proofs.Growing.{grown-refused, grown-silent, grown-test, grown-passed, grown-as, grown-sound, type-longer}
 use Rattle.overload.specs.Marks.{runningAbstract}
 use Rattle.ruled.specs.Call.{anyReference}
-use Rattle.ruled.proofs.Growing.{grown-judged}
+use Rattle.ruled.proofs.Growing.{grown-judged, grown-silently}
 use Rattle.call_ty.specs.Calls.{templateRight, operandsOf, Given, givenBy, givenOutcome, byRule, callOutcome, allUnder, numbers, marksOf, types, typeBuiltinFn}
-use Rattle.call_ty.specs.Calls.Given.{judgment, nothing}
+use Rattle.call_ty.specs.Calls.Given.{judgment, silently, nothing}
 use Rattle.call_ty.specs.inner.Codes.{Under}
 use Rattle.call_ty.proofs.Lists.{all-under}
 
@@ -32,6 +32,7 @@ module _ (w v : List ℕ) (n k : ℕ) (l : Longer w v n k) where
     given-grown : (g : Given) → Grown w n k (givenOutcome place w n g) (givenOutcome place v n g)
     unfolding givenOutcome
     given-grown (judgment j) = grown-judged w v n k l s place j
+    given-grown (silently j) = grown-silently w v n k l s place j
     given-grown nothing = grown-silent w n k n w _
 
     rule-grown : (named : Named) (ts us : List Ty) (ms : List Bool) → Grown w n k (byRule place w n named ts us ms) (byRule place v n named ts us ms)

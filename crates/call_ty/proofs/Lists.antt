@@ -1,6 +1,6 @@
 -- Lists of numbers of types, and the types that they stand for. Assumes nothing.
 use Prim.Native.Nat.{ℕ, zero, suc, _-_, _≤_, _<_}
-use mathlib.Core.Path.{_≡_, refl, sym, _∙_, ap}
+use mathlib.Core.Path.{_≡_, refl, sym, _∙_, ap, subst}
 use mathlib.Core.Bool.{Bool, true, false, _&&_, _||_, cond}
 use mathlib.Core.List.{List, [], _∷_, map}
 use native.Mathlib.Nat.{not-suc-le-zero}
@@ -129,3 +129,41 @@ pub codes-front : (w : List ℕ) (vs cs : List ℕ) → take (length (types w (n
 codes-front w vs cs h =
     let z : length vs - 0 ≡ length vs = omega arith in
     ap (λ (k : ℕ). take k cs) (z ∙ sym (length-map vs numberOf) ∙ sym (length-map (numbers vs) (typeAt w))) ∙ h
+
+-- THE FIRST OPERAND AND THE OTHERS, as the part of a lent list from 1 on
+
+take-all : (vs : List ℕ) → take (length vs) vs ≡ vs
+take-all [] = refl
+take-all (v ∷ vs) = ap (λ (l : List ℕ). v ∷ l) (take-all vs)
+
+abbrev pub others : List ℕ → List ℕ
+others vs = take (length vs - 1) (drop 1 vs)
+
+module _ (vs : List ℕ) (some : 1 ≤ length vs) where
+  pub first-and-others : getD vs 0 0 ∷ others vs ≡ vs
+  first-and-others = go vs some
+    where
+      go : (us : List ℕ) → 1 ≤ length us → getD us 0 0 ∷ others us ≡ us
+      go [] h = absurd (omega arith)
+      go (u ∷ us) h =
+          let e : suc (length us) - 1 ≡ length us = omega arith in
+          (λ i. u ∷ take (e i) us) ∙ ap (λ (l : List ℕ). u ∷ l) (take-all us)
+
+  pub others-count : suc (length (others vs)) ≡ length vs
+  others-count = ap length first-and-others
+
+  -- their types
+  pub types-by : (w : List ℕ) → typeAt w (numberOf (getD vs 0 0)) ∷ map (typeAt w) (map numberOf (others vs)) ≡ types w (numbers vs)
+  types-by w = ap (λ (us : List ℕ). types w (numbers us)) first-and-others
+
+  -- and their numbers are below n
+  module _ (n : ℕ) (u : Under n (numbers vs)) where
+    pub first-below : numberOf (getD vs 0 0) < n
+    first-below = let l = length-map vs numberOf in subst (λ (k : ℕ). k < n) (number-at vs 0) (u 0 (omega arith))
+
+    pub others-below : (i : ℕ) → i < length (others vs) → numberOf (getD (others vs) i 0) < n
+    others-below i h =
+        let l = length-map vs numberOf in
+        let c = others-count in
+        let e : getD vs (suc i) 0 ≡ getD (others vs) i 0 = sym (ap (λ (us : List ℕ). getD us (suc i) 0) first-and-others) in
+        subst (λ (k : ℕ). k < n) (number-at vs (suc i) ∙ ap numberOf e) (u (suc i) (omega arith))

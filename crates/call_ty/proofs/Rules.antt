@@ -18,7 +18,7 @@ use Rattle.overload.specs.Overload.Judged.{gives, noneFits, nonePreferred}
 use Rattle.overload.specs.Marks.{sifted, dropped}
 use Rattle.overload.specs.Rows.{formAt, componentAt, wrapped, overSecond, atSizes, overSet, ofFamilies, headCount, judgeBy}
 use Rattle.names.specs.Names.{Rule, Name, names, sameBytes, within, Named, ruleIn, ruleOf}
-use Rattle.names.specs.Names.Rule.{ruling, bitcast, arrayLength, ldexp, barrier}
+use Rattle.names.specs.Names.Rule.{ruling, storing, bitcast, arrayLength, ldexp, barrier}
 use Rattle.names.specs.Names.Named.{rule, unknown}
 use Rattle.call_ty.specs.Calls.{operandsBy, operandsOf, givenBy, Given}
 use Rattle.call_ty.specs.Calls.Given.{judgment, nothing}
@@ -45,6 +45,7 @@ gaveScalar nonePreferred = false
 -- an operand is wanted, or none: then there is no value, or the name is of a profile above 0 and a scalar is given
 wants : ℕ → Rule → Bool
 wants profile (ruling r) = leb 1 (operandsBy r) || (leb 1 profile && gaveScalar (judgeBy r [] []))
+wants profile storing = true
 wants profile bitcast = true
 wants profile arrayLength = true
 wants profile ldexp = true
@@ -100,12 +101,13 @@ unfolding names both sifted dropped wants allWant operandsBy headCount gaveScala
 name-wants profile name r m e = want-in profile names tt name r m e
 
 by-rule : (profile : ℕ) (r : Rule) → Wanting profile r → operandsOf r ≡ 0 → (ts : List Ty) → Bare profile (givenBy r ts [] [])
-unfolding Wanting wants operandsOf givenBy
+unfolding Wanting wants operandsBy operandsOf givenBy
 by-rule profile (ruling r) (first, l, t) e ts =
     let u : (leb 1 0 || (leb 1 first && gaveScalar (judgeBy r [] []))) ≡ true = rw e at t in
     let g = gave-scalar (judgeBy r [] []) (and-right (leb 1 first) _ u) in
     let k = leb-true 1 first (and-left (leb 1 first) _ u) in
     scalarly (g .0) (g .1) (omega arith) (ap judgment (g .2))
+by-rule profile storing w e ts = absurd (omega arith)
 by-rule profile bitcast w e ts = absurd (omega arith)
 by-rule profile arrayLength w e ts = absurd (omega arith)
 by-rule profile ldexp w e ts = absurd (omega arith)

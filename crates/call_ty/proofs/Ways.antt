@@ -1,28 +1,28 @@
 -- The ways out of a call of a builtin, each as the outcome that its definition gives. Assumes nothing.
-use Prim.Native.Nat.{ℕ, _≤_, _<_}
+use Prim.Native.Nat.{ℕ, suc, _≤_, _<_}
 use mathlib.Core.Path.{_≡_, refl, sym, _∙_, ap, subst}
 use mathlib.Core.Logic.{_≢_}
 use mathlib.Core.Bool.{Bool, true, false, _||_}
-use mathlib.Core.List.{List, map}
+use mathlib.Core.List.{List, [], _∷_, map}
 use native.Mathlib.Omega.{arith}
 use lib.Dec.{eqb, ltb, leb}
 use lib.ListN.{length, getD, length-map}
 use borrow.Author.Tests.{eq-eqb, ne-eqb, eqb-true, eqb-false, ltb-true, ltb-false, leb-true, leb-false}
 use Rattle.conv.specs.Types.{Ty, u32}
-use Rattle.conv.specs.Types.Ty.{scalar}
+use Rattle.conv.specs.Types.Ty.{scalar, exchange}
 use Rattle.overload.specs.Overload.{or}
 use Rattle.overload.specs.Marks.{anyRunning, runningAbstract}
-use Rattle.overload.specs.Rows.{Row, rowAt, operandCount, judgeBy}
+use Rattle.overload.specs.Rows.{Row, rowAt, operandCount, judgeAtomic, judgeLoad, alone, judgeBy}
 use Rattle.overload.proofs.Marks.{judge-kept}
 use Rattle.overload.specs.Rows.Ruling.{byRow}
 use Rattle.overload.proofs.Counts.{count-few}
 use Rattle.overload.specs.inner.Code.{operand, codeOf, judgeKept}
 use Rattle.overload.proofs.Operands.{and-left, allFormed, codesOf, judge-types}
-use Rattle.names.specs.Names.{Rule}
-use Rattle.names.specs.Names.Rule.{ruling, bitcast, arrayLength, ldexp, barrier}
+use Rattle.names.specs.Names.{Rule, loading, updating, exchanging, uniformLoading}
+use Rattle.names.specs.Names.Rule.{ruling, storing, bitcast, arrayLength, ldexp, barrier}
 use Rattle.names.specs.Names.Named.{rule, unknown}
 use Rattle.names.specs.inner.Table.{numbered}
-use Rattle.names.proofs.Rules.{numbered-row, numbered-bitcast, numbered-length, numbered-ldexp, numbered-barrier}
+use Rattle.names.proofs.Rules.{numbered-row, numbered-bitcast, numbered-length, numbered-ldexp, numbered-load, numbered-update, numbered-store, numbered-compare, numbered-uniform, numbered-barrier}
 use Rattle.answer.specs.Answer.{accept, refuse, markedBy, Accepted, WithoutValue}
 use Rattle.answer.specs.declared.Reason.{Reason}
 use Rattle.answer.specs.declared.Typed.{Typed}
@@ -37,8 +37,8 @@ use Rattle.table.proofs.TypeLaws.{type-scalar}
 use Rattle.table.proofs.FormedLaws.{formed-at}
 use Rattle.table.proofs.PlacingLaws.{standing-outcome}
 use Rattle.table.proofs.Giving.{gave, gave-marked}
-use Rattle.ruled.specs.Call.{anyReference, judgedOutcome}
-use Rattle.call_ty.specs.Calls.{firstIn, wideNumeric, templateRight, operandsBy, operandsOf, ldexpTakes, judgeLdexp, withoutValue, givenBy, givenOutcome, byRule, runsBy, callOutcome, allUnder, numbers, marksOf, types, typeBuiltinFn}
+use Rattle.ruled.specs.Call.{operandTy, operandTys, anyReference, judgedOutcome, withoutValue, silentOutcome}
+use Rattle.call_ty.specs.Calls.{firstIn, wideNumeric, templateRight, operandsBy, operandsOf, ldexpTakes, judgeLdexp, givenBy, givenOutcome, byRule, runsBy, callOutcome, allUnder, numbers, marksOf, types, typeBuiltinFn}
 use Rattle.call_ty.specs.inner.Codes.{Under, numericCode, ldexpCodes}
 use Rattle.call_ty.proofs.Parts.{numeric-by, ldexp-by}
 use Rattle.call_ty.proofs.Lists.{type-in}
@@ -66,7 +66,12 @@ unfolding templateRight numbered
 no-list k ts h =
     split (ltb k 100) (λ a. rw a) (λ a.
     split (eqb k 101) (λ b. rw (a, ne-eqb k 100 h, b)) (λ b.
-    split (eqb k 102) (λ d. rw (a, ne-eqb k 100 h, b, d)) (λ d. rw (a, ne-eqb k 100 h, b, d))))
+    split (eqb k 102) (λ d. rw (a, ne-eqb k 100 h, b, d)) (λ d.
+    split (eqb k 104) (λ e. rw (a, ne-eqb k 100 h, b, d, e)) (λ e.
+    split (eqb k 105) (λ f. rw (a, ne-eqb k 100 h, b, d, e, f)) (λ f.
+    split (eqb k 106) (λ g. rw (a, ne-eqb k 100 h, b, d, e, f, g)) (λ g.
+    split (eqb k 107) (λ i. rw (a, ne-eqb k 100 h, b, d, e, f, g, i)) (λ i.
+    split (eqb k 108) (λ j. rw (a, ne-eqb k 100 h, b, d, e, f, g, i, j)) (λ j. rw (a, ne-eqb k 100 h, b, d, e, f, g, i, j)))))))))
 
 module _ (w : List ℕ) (k : ℕ) (ts : List ℕ) where
   pub template-none : k ≢ 100 → eqb (length ts) 0 ≡ templateRight (numbered k) (types w ts)
@@ -143,9 +148,45 @@ module _ (place : ℕ) (w : List ℕ) (n : ℕ) (s : Sound w n) where
     rule-ldexp h o =
         (λ i. judgedOutcome place w n (judgeLdexp (sym (type-in w args 0 (omega arith)) i) (sym (type-in w args 1 (omega arith)) i))) ∙ given-as ldexp (numbered-ldexp k h)
 
-    pub rule-barrier : 100 ≤ k → k ≢ 100 → k ≢ 101 → k ≢ 102 → withoutValue w n ≡ givenOutcome place w n (givenBy (numbered k) (types w tplt) (types w args) ms)
-    unfolding givenOutcome givenBy
-    rule-barrier h a b c = given-as barrier (numbered-barrier k (omega arith))
+-- CALLS ON MEMORY, by the first operand a and the others, vs
+
+module _ (place : ℕ) (w : List ℕ) (n : ℕ) (k : ℕ) (ts us : List Ty) (ms : List Bool) where
+  as-given : (r : Rule) → numbered k ≡ r → givenOutcome place w n (givenBy r ts us ms) ≡ givenOutcome place w n (givenBy (numbered k) ts us ms)
+  as-given r e = ap (λ (r : Rule). givenOutcome place w n (givenBy r ts us ms)) (sym e)
+
+  pub rule-barrier : numbered k ≡ barrier → withoutValue w n ≡ givenOutcome place w n (givenBy (numbered k) ts us ms)
+  unfolding givenOutcome givenBy
+  rule-barrier e = as-given barrier e
+
+  module _ (a : Ty) (vs : List Ty) (is : a ∷ vs ≡ us) where
+    pub rule-uniform : vs ≡ [] → k ≡ 108 → judgedOutcome place w n (judgeLoad a) ≡ givenOutcome place w n (givenBy (numbered k) ts us ms)
+    unfolding givenOutcome givenBy judgeBy alone
+    rule-uniform e h = ap (λ (l : List Ty). judgedOutcome place w n (alone judgeLoad l)) ((λ i. a ∷ sym e i) ∙ is) ∙ as-given uniformLoading (numbered-uniform k h)
+
+    module _ (j : ℕ) where
+      pub rule-compare : j ≡ 2 → k ≡ 107 → judgedOutcome place w n (judgeAtomic j exchange (a ∷ vs)) ≡ givenOutcome place w n (givenBy (numbered k) ts us ms)
+      unfolding givenOutcome givenBy judgeBy
+      rule-compare e h = (λ i. judgedOutcome place w n (judgeAtomic (e i) exchange (is i))) ∙ as-given exchanging (numbered-compare k h)
+
+      pub rule-store : j ≡ 1 → k ≡ 106 → silentOutcome place w n (judgeAtomic j scalar (a ∷ vs)) ≡ givenOutcome place w n (givenBy (numbered k) ts us ms)
+      unfolding givenOutcome givenBy judgeBy
+      rule-store e h = (λ i. silentOutcome place w n (judgeAtomic (e i) scalar (is i))) ∙ as-given storing (numbered-store k h)
+
+      rule-update : j ≡ 1 → k ≡ 105 → judgedOutcome place w n (judgeAtomic j scalar (a ∷ vs)) ≡ givenOutcome place w n (givenBy (numbered k) ts us ms)
+      unfolding givenOutcome givenBy judgeBy
+      rule-update e h = (λ i. judgedOutcome place w n (judgeAtomic (e i) scalar (is i))) ∙ as-given updating (numbered-update k h)
+
+      rule-load : j ≡ 0 → k ≡ 104 → judgedOutcome place w n (judgeAtomic j scalar (a ∷ vs)) ≡ givenOutcome place w n (givenBy (numbered k) ts us ms)
+      unfolding givenOutcome givenBy judgeBy
+      rule-load e h = (λ i. judgedOutcome place w n (judgeAtomic (e i) scalar (is i))) ∙ as-given loading (numbered-load k h)
+
+      -- as many values as the rule wants, of the two that are left
+      pub rule-atomic : suc j ≡ operandsOf (numbered k) → 104 ≤ k → k ≤ 105 → judgedOutcome place w n (judgeAtomic j scalar (a ∷ vs)) ≡ givenOutcome place w n (givenBy (numbered k) ts us ms)
+      unfolding operandsOf operandsBy
+      rule-atomic c l h =
+          split (eqb k 104)
+          (λ b. let e = eqb-true k 104 b in let q : suc j ≡ 1 = c ∙ ap operandsOf (numbered-load k e) in rule-load (omega arith) e)
+          (λ b. let d = eqb-false k 104 b in let e : k ≡ 105 = omega arith in let q : suc j ≡ 2 = c ∙ ap operandsOf (numbered-update k e) in rule-update (omega arith) e)
 
 -- HOW MANY OPERANDS
 
@@ -163,9 +204,52 @@ module _ (k : ℕ) where
   unfolding operandsOf
   count-ldexp h = ap operandsOf (sym (numbered-ldexp k h))
 
-  pub count-none : 101 < k → k ≢ 102 → 0 ≡ operandsOf (numbered k)
+  pub count-load : k ≡ 104 → 1 ≡ operandsOf (numbered k)
+  unfolding operandsOf operandsBy
+  count-load h = ap operandsOf (sym (numbered-load k h))
+
+  pub count-update : k ≡ 105 → 2 ≡ operandsOf (numbered k)
+  unfolding operandsOf operandsBy
+  count-update h = ap operandsOf (sym (numbered-update k h))
+
+  pub count-store : k ≡ 106 → 2 ≡ operandsOf (numbered k)
+  unfolding operandsOf operandsBy
+  count-store h = ap operandsOf (sym (numbered-store k h))
+
+  pub count-compare : k ≡ 107 → 3 ≡ operandsOf (numbered k)
+  unfolding operandsOf operandsBy
+  count-compare h = ap operandsOf (sym (numbered-compare k h))
+
+  pub count-uniform : k ≡ 108 → 1 ≡ operandsOf (numbered k)
+  unfolding operandsOf operandsBy
+  count-uniform h = ap operandsOf (sym (numbered-uniform k h))
+
+  pub count-none : 103 ≤ k → k ≢ 104 → k ≢ 105 → k ≢ 106 → k ≢ 107 → k ≢ 108 → 0 ≡ operandsOf (numbered k)
   unfolding operandsOf
-  count-none l h = ap operandsOf (sym (numbered-barrier k (omega arith)))
+  count-none l a b c d e = ap operandsOf (sym (numbered-barrier k (omega arith) (λ q. omega arith) (λ q. omega arith) (λ q. omega arith) a b c d e))
+
+  -- a barrier, or above the last
+  pub barrier-by : 103 ≤ k → (eqb k 103 || ltb 108 k) ≡ true → numbered k ≡ barrier
+  barrier-by l h =
+      split (eqb k 103)
+      (λ b. let e = eqb-true k 103 b in numbered-barrier k (omega arith) (λ q. omega arith) (λ q. omega arith) (λ q. omega arith) (λ q. omega arith) (λ q. omega arith) (λ q. omega arith) (λ q. omega arith) (λ q. omega arith))
+      (λ b. let e = ltb-true 108 k (sym (ap (λ (x : Bool). x || ltb 108 k) b) ∙ h) in numbered-barrier k (omega arith) (λ q. omega arith) (λ q. omega arith) (λ q. omega arith) (λ q. omega arith) (λ q. omega arith) (λ q. omega arith) (λ q. omega arith) (λ q. omega arith))
+
+  -- neither
+  pub memory-by : 103 ≤ k → (eqb k 103 || ltb 108 k) ≡ false → (104 ≤ k) × (k ≤ 108)
+  memory-by l h =
+      split (eqb k 103) (λ b. absurd (let z : true ≡ false = sym (ap (λ (x : Bool). x || ltb 108 k) b) ∙ h in let q : _≡_ {A = ℕ} 0 1 = cc in omega arith))
+      (λ b. let d = eqb-false k 103 b in let e = ltb-false 108 k (sym (ap (λ (x : Bool). x || ltb 108 k) b) ∙ h) in (omega arith, omega arith))
+
+  -- one at least
+  pub memory-counted : 104 ≤ k → k ≤ 108 → 1 ≤ operandsOf (numbered k)
+  memory-counted l h =
+      split (eqb k 104) (λ b. let e = count-load (eqb-true k 104 b) in omega (arith, e)) (λ b.
+      split (eqb k 105) (λ c. let e = count-update (eqb-true k 105 c) in omega (arith, e)) (λ c.
+      split (eqb k 106) (λ d. let e = count-store (eqb-true k 106 d) in omega (arith, e)) (λ d.
+      split (eqb k 107) (λ f. let e = count-compare (eqb-true k 107 f) in omega (arith, e)) (λ f.
+      let p = eqb-false k 104 b in let q = eqb-false k 105 c in let r = eqb-false k 106 d in let s = eqb-false k 107 f in
+      let e = count-uniform (omega arith) in omega (arith, e)))))
 
   -- four at most
   pub at-most : operandsOf (numbered k) ≤ 4
@@ -173,8 +257,14 @@ module _ (k : ℕ) where
       split (ltb k 100) (λ a. let e = count-row (ltb-true k 100 a) in let f = count-few k in omega (arith, e, f)) (λ a.
       let l = ltb-false k 100 a in
       split (leb k 101) (λ b. let e = count-one l (leb-true k 101 b) in omega (arith, e)) (λ b.
-      split (eqb k 102) (λ d. let e = count-ldexp (eqb-true k 102 d) in omega (arith, e))
-      (λ d. let e = count-none (leb-false k 101 b) (eqb-false k 102 d) in omega (arith, e))))
+      split (eqb k 102) (λ d. let e = count-ldexp (eqb-true k 102 d) in omega (arith, e)) (λ d.
+      split (eqb k 104) (λ f. let e = count-load (eqb-true k 104 f) in omega (arith, e)) (λ f.
+      split (eqb k 105) (λ g. let e = count-update (eqb-true k 105 g) in omega (arith, e)) (λ g.
+      split (eqb k 106) (λ h. let e = count-store (eqb-true k 106 h) in omega (arith, e)) (λ h.
+      split (eqb k 107) (λ i. let e = count-compare (eqb-true k 107 i) in omega (arith, e)) (λ i.
+      split (eqb k 108) (λ j. let e = count-uniform (eqb-true k 108 j) in omega (arith, e)) (λ j.
+      let m = leb-false k 101 b in let o = eqb-false k 102 d in
+      let e = count-none (omega arith) (eqb-false k 104 f) (eqb-false k 105 g) (eqb-false k 106 h) (eqb-false k 107 i) (eqb-false k 108 j) in omega (arith, e)))))))))
 
 -- A CALL BY ITS RULE
 

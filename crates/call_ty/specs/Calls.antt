@@ -1,5 +1,5 @@
 -- The builtins of documents 01 and 02, by their names, and what a call of one does in a profile, on operands with marks. Assumes nothing.
-use Prim.Native.Nat.{ℕ}
+use Prim.Native.Nat.{ℕ, suc}
 use mathlib.Core.Bool.{Bool, true, false, _&&_, _||_, not, cond}
 use mathlib.Core.List.{List, [], _∷_, map}
 use lib.Dec.{eqb, ltb}
@@ -12,16 +12,15 @@ use Rattle.overload.specs.Overload.{Judged, or}
 use Rattle.overload.specs.Overload.Judged.{gives, noneFits}
 use Rattle.overload.specs.Marks.{anyRunning, runningAbstract}
 use Rattle.overload.specs.Rows.{Ruling, operandCount, judgeBy}
-use Rattle.overload.specs.Rows.Ruling.{byRow, address, indirection}
+use Rattle.overload.specs.Rows.Ruling.{byRow, address, indirection, onAtomic, comparing, uniformLoad}
 use Rattle.names.specs.Names.{Rule, Named, ruleOf}
-use Rattle.names.specs.Names.Rule.{ruling, bitcast, arrayLength, ldexp, barrier}
+use Rattle.names.specs.Names.Rule.{ruling, storing, bitcast, arrayLength, ldexp, barrier}
 use Rattle.names.specs.Names.Named.{rule, unknown}
 use Rattle.table.specs.Table.{soundb}
 use Rattle.table.specs.Denote.{typeAt}
 use Rattle.table.specs.Placing.{Outcome, turnedDown}
 use Rattle.answer.specs.declared.Reason.the-variants.{Unsound, NoSuchType, Reference, Unknown, Template, Operands, RunningAbstract}
-use Rattle.answer.specs.declared.Answer.the-variants.{NoValue}
-use Rattle.ruled.specs.Call.{anyReference, judgedOutcome}
+use Rattle.ruled.specs.Call.{anyReference, judgedOutcome, withoutValue, silentOutcome}
 
 -- WORDS OF THE CRATE RULES
 
@@ -52,20 +51,25 @@ noList ts = eqb (length ts) 0
 
 unfoldable pub templateRight : Rule → List Ty → Bool
 templateRight (ruling r) ts = noList ts
+templateRight storing ts = noList ts
 templateRight bitcast ts = eqb (length ts) 1 && wideNumeric (firstIn ts)
 templateRight arrayLength ts = noList ts
 templateRight ldexp ts = noList ts
 templateRight barrier ts = noList ts
 
--- HOW MANY OPERANDS a rule wants: a row as many as its overloads have parameters
+-- HOW MANY OPERANDS a rule wants: as many as its overloads have parameters. atomicStore takes a pointer and one value
 
 unfoldable pub operandsBy : Ruling → ℕ
 operandsBy (byRow r) = operandCount r
 operandsBy address = 1
 operandsBy indirection = 1
+operandsBy (onAtomic k) = suc k
+operandsBy comparing = 3
+operandsBy uniformLoad = 1
 
 unfoldable pub operandsOf : Rule → ℕ
 operandsOf (ruling r) = operandsBy r
+operandsOf storing = operandsBy (onAtomic 1)
 operandsOf bitcast = 1
 operandsOf arrayLength = 1
 operandsOf ldexp = 2
@@ -85,26 +89,25 @@ ldexpTakes t u =
 unfoldable pub judgeLdexp : Ty → Ty → Judged
 judgeLdexp t u = cond (ldexpTakes t u) (gives t) noneFits
 
--- what a rule gives: a judgment, or no value at all
+-- what a rule gives: a judgment; no value, where one is accepted; or no value at all
 pub data Given : Type 0 where
-  judgment : Judged → Given
+  judgment silently : Judged → Given
   nothing : Given
 
--- a ruled name by its overloads; `bitcast` gives its template type; "`arrayLength`, one operand, gives u32"; "storageBarrier, textureBarrier,
+-- a ruled name by its overloads; document 02, K5: "atomicStore has no value"; `bitcast` gives its template type; "`arrayLength`, one operand, gives u32"; "storageBarrier, textureBarrier,
 -- workgroupBarrier: no operand, no value". Only overloads look at the operands' marks, ms
 unfoldable pub givenBy : Rule → List Ty → List Ty → List Bool → Given
 givenBy (ruling r) ts us ms = judgment (judgeBy r us ms)
+givenBy storing ts us ms = silently (judgeBy (onAtomic 1) us ms)
 givenBy bitcast ts us ms = judgment (gives (firstIn ts))
 givenBy arrayLength ts us ms = judgment (gives (scalar u32))
 givenBy ldexp ts us ms = judgment (judgeLdexp (firstIn us) (secondIn us))
 givenBy barrier ts us ms = nothing
 
 -- 8, 13, 9 or the type's number; where there is no value the table stays as it is
-abbrev pub withoutValue : List ℕ → ℕ → Outcome
-withoutValue w n = record { answer = NoValue n; words = w }
-
 unfoldable pub givenOutcome : ℕ → List ℕ → ℕ → Given → Outcome
 givenOutcome place w n (judgment j) = judgedOutcome place w n j
+givenOutcome place w n (silently j) = silentOutcome place w n j
 givenOutcome place w n nothing = withoutValue w n
 
 -- A CALL ON LOADED OPERANDS, at a place: 4 a name that the profile has not, 5 the template list, 7 the operand count, 3 a reference offered, 14 an operand both running and

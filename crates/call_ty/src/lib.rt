@@ -10,10 +10,11 @@ use table::TypeNo;
 use table::Typed;
 ghost use mathlib.Core.Path.{_≡_};
 ghost use mathlib.Core.Bool.{true, false, cond};
+ghost use mathlib.Core.List.{List};
 ghost use Prim.Native.Nat.{_<_, _≤_};
 ghost use lib.ListN.{length};
 ghost use Rattle.names.specs.inner.Table.{numbered, nameTable};
-ghost use Rattle.conv.specs.Types.{isFloat, isAbstract};
+ghost use Rattle.conv.specs.Types.{Ty, isFloat, isAbstract};
 ghost use Rattle.table.specs.Table.{Sound};
 ghost use Rattle.table.specs.Denote.{typeAt};
 ghost use Rattle.table.specs.Placing.{Gave, GaveMarked};
@@ -72,6 +73,29 @@ fn ldexp_codes(x: u8, y: u8) -> bool
     (scalars | vectors) & is_float(s) & ((t == ABSTRACT_INT) | (t == I32)) & (concretes | abstracts)
 }
 
+// How many operands a call on memory wants; a barrier wants none.
+fn memory_operands(rule: u8) -> usize
+    requires { ⌜ 103 ≤ rule ⌝ }
+    ensures { λ r. ⌜ r ≡ operandsOf (numbered rule) ⌝ }
+{
+    if rule == names::RULE_ATOMIC_LOAD {
+        return 1;
+    }
+    if rule == names::RULE_ATOMIC_UPDATE {
+        return 2;
+    }
+    if rule == names::RULE_ATOMIC_STORE {
+        return 2;
+    }
+    if rule == names::RULE_ATOMIC_COMPARE {
+        return 3;
+    }
+    if rule == names::RULE_UNIFORM_LOAD {
+        return 1;
+    }
+    0
+}
+
 // How many operands a rule wants.
 fn operands_of(rule: u8) -> usize
     ensures { λ r. ⌜ r ≡ operandsOf (numbered rule) ⌝ }
@@ -85,7 +109,7 @@ fn operands_of(rule: u8) -> usize
     if rule == names::RULE_LDEXP {
         return 2;
     }
-    0
+    memory_operands(rule)
 }
 
 // A number of a list: a type's, or that of an operand.
@@ -185,9 +209,30 @@ fn ldexp_at(words: &[u32], n: usize, place: Place, a: usize, b: usize) -> Answer
     table::refused(Reason::NoOverload, place, n)
 }
 
+// A call on memory on loaded operands, of which the first is the pointer; or a barrier.
+fn memory_rule(words: &mut [u32], n: usize, place: Place, rule: u8, args: &[u32]) -> Answer
+    requires { ⌜ Sound (now words) n × Under n (numbers (now args)) × (103 ≤ rule) × (length (now args) ≡ operandsOf (numbered rule)) ⌝ }
+    ensures { λ r. ⌜ ((ts : List Ty) → Gave (givenOutcome (place .0) (now (words .entry)) n (givenBy (numbered rule) ts (types (now (words .entry)) (numbers (now (args .entry)))) (marksOf (now (args .entry))))) r (now (words .exit))) ⌝ }
+{
+    if (rule == names::RULE_BARRIER) | (names::RULE_UNIFORM_LOAD < rule) {
+        return table::no_value(n);
+    }
+    let a = args[0];
+    if rule == names::RULE_UNIFORM_LOAD {
+        return memory::uniform_load(words, n, place, a);
+    }
+    if rule == names::RULE_ATOMIC_COMPARE {
+        return memory::comparing(words, n, place, a, &args[1..]);
+    }
+    if rule == names::RULE_ATOMIC_STORE {
+        return memory::storing(words, n, place, a, &args[1..]);
+    }
+    memory::on_atomic(words, n, place, a, &args[1..])
+}
+
 // A crate rule on loaded operands: each of its types stands in the table already.
 fn crate_rule(words: &[u32], n: usize, place: Place, rule: u8, tplt: &[u32], args: &[u32]) -> Answer
-    requires { ⌜ Sound (now words) n × Under n (now tplt) × Under n (numbers (now args)) × (100 ≤ rule) × (templateRight (numbered rule) (types (now words) (now tplt)) ≡ true) × (length (now args) ≡ operandsOf (numbered rule)) ⌝ }
+    requires { ⌜ Sound (now words) n × Under n (now tplt) × Under n (numbers (now args)) × (100 ≤ rule) × (rule ≤ 102) × (templateRight (numbered rule) (types (now words) (now tplt)) ≡ true) × (length (now args) ≡ operandsOf (numbered rule)) ⌝ }
     ensures { λ r. ⌜ Gave (givenOutcome (place .0) (now (words .entry)) n (givenBy (numbered rule) (types (now (words .entry)) (now (tplt .entry))) (types (now (words .entry)) (numbers (now (args .entry)))) (marksOf (now (args .entry))))) r (now (words .entry)) ⌝ }
 {
     if rule == names::RULE_BITCAST {
@@ -196,16 +241,13 @@ fn crate_rule(words: &[u32], n: usize, place: Place, rule: u8, tplt: &[u32], arg
     if rule == names::RULE_ARRAY_LENGTH {
         return table::accepted(TypeNo(table::U32), n);
     }
-    if rule == names::RULE_LDEXP {
-        return ldexp_at(
-            words,
-            n,
-            place,
-            held::number(args[0]).0,
-            held::number(args[1]).0,
-        );
-    }
-    table::no_value(n)
+    ldexp_at(
+        words,
+        n,
+        place,
+        held::number(args[0]).0,
+        held::number(args[1]).0,
+    )
 }
 
 // A call of a builtin by its rule: 5, 7, 3, 14, then the rule itself.
@@ -237,6 +279,9 @@ fn by_rule(
     if rule < names::RULE_BITCAST {
         let running = any_running(args);
         return ruled::judge_codes(words, n, place, cast::wide(rule), running, &codes[0..k]);
+    }
+    if names::RULE_LDEXP < rule {
+        return memory_rule(words, n, place, rule, args);
     }
     crate_rule(words, n, place, rule, tplt, args)
 }

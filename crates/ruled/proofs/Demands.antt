@@ -28,8 +28,8 @@ use Rattle.answer.specs.declared.Answer.the-variants.{Value, Refused}
 use Rattle.table.specs.Kept.{Kept}
 use Rattle.table.proofs.Demand1.{entering-stands, entering-refused}
 use Rattle.table.proofs.Keeping.{kept-refused, kept-by, kept-entering}
-use Rattle.ruled.specs.Call.{judgedOutcome, offends, ruledOutcome}
-use Rattle.ruled.specs.Demand3.{Accepts, Room, HasRoom, Demand3}
+use Rattle.ruled.specs.Call.{judgedOutcome, silentOutcome, offends, ruledOutcome}
+use Rattle.ruled.specs.Demand3.{Accepts, Room, HasRoom, Demand3, SilentDemand3}
 use Rattle.ruled.proofs.Loaded.{ruled-judged}
 
 impossible : {P : Type 0} → _≡_ {A = ℕ} 0 1 → P
@@ -122,6 +122,21 @@ module _ (place : ℕ) (w : List ℕ) (n : ℕ) (s : Sound w n) where
             result = result-of;
             alone = one-preferred set ts;
           }
+
+  -- DEMAND 3 OF A CALL WITHOUT VALUE: accepted exactly when an overload fits, and nothing is entered
+  module _ (set : Overload → Type 0) (ts : List Ty) (never : Resolved set ts nonePreferred → ⊥) where
+    pub silent-demand-3 : (j : Judged) → Resolved set ts j → SilentDemand3 set ts (silentOutcome place w n j)
+    unfolding Resolved silentOutcome
+    silent-demand-3 (gives R) q =
+        record {
+          accepted = λ p k h. (n, refl);
+          fitting = λ a. (q .0, q .1 .among, q .1 .fitting);
+          result = λ t m e. impossible (cc);
+          alone = one-preferred set ts;
+        }
+    silent-demand-3 noneFits q =
+        record { accepted = λ p k h. absurd (q p k h); fitting = λ a. let e = a .1 in impossible (cc); result = λ t m e. impossible (cc); alone = one-preferred set ts }
+    silent-demand-3 nonePreferred q = absurd (never q)
 
   -- A RULED CALL on operands that are types, none of them offered where it may not be, and none both running and abstract: over the overloads that remain by the marks
 

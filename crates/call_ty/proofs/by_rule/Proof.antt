@@ -138,23 +138,42 @@ returns-5 c =
     (counted (a .args .now) w ∙ c .before .before .before .before .before .before .before .before .before .before .before .before .before .before .before .before .before .if2 .left ∙ c .before .before .before .before .before .before .before .before .before .before .before .before .before .before .before .before .before .before .operands-of .ensures) (not-true _ (sym (c .before .before .before .before .before .before .before .before .before .before .before .before .before .before .load .ensures .reply) ∙ r)) d)
     (c .before .before .judge-codes .ensures)
 
-crate-rule-requires : tie.Need-crate-rule-requires
-crate-rule-requires c κs =
-    let s = c .before .before .before .before .before .before .before .before .before .before .before .before .before .before .before .before .before .before in
-    (s .pre .0, s .pre .1, s .pre .2, c .before .if5 .left, sym (c .before .before .before .before .before .before .before .before .before .before .before .before .before .template-right .ensures) ∙ not-false _ (c .before .before .before .before .before .before .before .before .before .before .before .before .if1 .left), c .before .before .before .before .before .before .before .before .before .before .if2 .left ∙ c .before .before .before .before .before .before .before .before .before .before .before .operands-of .ensures)
+memory-rule-requires : tie.Need-memory-rule-requires
+memory-rule-requires c κs =
+    let s = c .before .before .before .before .before .before .before .before .before .before .before .before .before .before .before .before .before .before .before in
+    let k = c .before .if6 .taken in
+    (s .pre .0, s .pre .2, omega arith, c .before .before .before .before .before .before .before .before .before .before .before .if2 .left ∙ c .before .before .before .before .before .before .before .before .before .before .before .before .operands-of .ensures)
 
 same-length-6 : tie.Need-same-length-6
 same-length-6 c = search needs
 
 returns-6 : tie.Need-returns-6
 returns-6 c =
-    let s = c .before .before .before .before .before .before .before .before .before .before .before .before .before .before .before .before .before .before .before in
+    let s = c .before .before .before .before .before .before .before .before .before .before .before .before .before .before .before .before .before .before .before .before .before .before in
     let a = s .args in
     let w = a .words .now in
     gave-as
-    (by-call (a .place .0) w (a .n) (numbered (a .rule)) false (types w (a .tplt .now)) (types w (numbers (a .args .now))) (marksOf (a .args .now)) (sym (c .before .before .before .before .before .before .before .before .before .before .before .before .before .before .template-right .ensures) ∙ not-false _ (c .before .before .before .before .before .before .before .before .before .before .before .before .before .if1 .left))
-    (counted (a .args .now) w ∙ c .before .before .before .before .before .before .before .before .before .before .before .if2 .left ∙ c .before .before .before .before .before .before .before .before .before .before .before .before .operands-of .ensures) (not-true _ (sym (c .before .before .before .before .before .before .before .before .load .ensures .reply) ∙ not-false _ (c .before .before .before .before .before .before .if3 .left))) (sym (c .before .before .before .before .any-clashes .ensures) ∙ c .before .before .before .if4 .left))
+    (by-call (a .place .0) w (a .n) (numbered (a .rule)) false (types w (a .tplt .now)) (types w (numbers (a .args .now))) (marksOf (a .args .now)) (sym (c .before .before .before .before .before .before .before .before .before .before .before .before .before .before .before .before .before .template-right .ensures) ∙ not-false _ (c .before .before .before .before .before .before .before .before .before .before .before .before .before .before .before .before .if1 .left))
+    (counted (a .args .now) w ∙ c .before .before .before .before .before .before .before .before .before .before .before .before .before .before .if2 .left ∙ c .before .before .before .before .before .before .before .before .before .before .before .before .before .before .before .operands-of .ensures) (not-true _ (sym (c .before .before .before .before .before .before .before .before .before .before .before .load .ensures .reply) ∙ not-false _ (c .before .before .before .before .before .before .before .before .before .if3 .left))) (sym (c .before .before .before .before .before .before .before .any-clashes .ensures) ∙ c .before .before .before .before .before .before .if4 .left))
+    (c .before .before .memory-rule .ensures (types w (a .tplt .now)))
+
+crate-rule-requires : tie.Need-crate-rule-requires
+crate-rule-requires c κs =
+    let s = c .before .before .before .before .before .before .before .before .before .before .before .before .before .before .before .before .before .before .before in
+    (s .pre .0, s .pre .1, s .pre .2, c .before .before .if5 .left, c .before .if6 .left, sym (c .before .before .before .before .before .before .before .before .before .before .before .before .before .before .template-right .ensures) ∙ not-false _ (c .before .before .before .before .before .before .before .before .before .before .before .before .before .if1 .left), c .before .before .before .before .before .before .before .before .before .before .before .if2 .left ∙ c .before .before .before .before .before .before .before .before .before .before .before .before .operands-of .ensures)
+
+same-length-7 : tie.Need-same-length-7
+same-length-7 c = search needs
+
+returns-7 : tie.Need-returns-7
+returns-7 c =
+    let s = c .before .before .before .before .before .before .before .before .before .before .before .before .before .before .before .before .before .before .before .before in
+    let a = s .args in
+    let w = a .words .now in
+    gave-as
+    (by-call (a .place .0) w (a .n) (numbered (a .rule)) false (types w (a .tplt .now)) (types w (numbers (a .args .now))) (marksOf (a .args .now)) (sym (c .before .before .before .before .before .before .before .before .before .before .before .before .before .before .before .template-right .ensures) ∙ not-false _ (c .before .before .before .before .before .before .before .before .before .before .before .before .before .before .if1 .left))
+    (counted (a .args .now) w ∙ c .before .before .before .before .before .before .before .before .before .before .before .before .if2 .left ∙ c .before .before .before .before .before .before .before .before .before .before .before .before .before .operands-of .ensures) (not-true _ (sym (c .before .before .before .before .before .before .before .before .before .load .ensures .reply) ∙ not-false _ (c .before .before .before .before .before .before .before .if3 .left))) (sym (c .before .before .before .before .before .any-clashes .ensures) ∙ c .before .before .before .before .if4 .left))
     (c .crate-rule .ensures)
 
 pub by-rule-spec : {M : Type 1} → statement M
-by-rule-spec = tie.close (tie.spec template-right-requires refused-requires same-length returns operands-of-requires refused-requires-2 same-length-2 returns-2 slice-aggregate-load load-requires refused-requires-3 same-length-3 returns-3 any-clashes-requires refused-requires-4 same-length-4 returns-4 any-running-requires wide-requires sub-judge-codes part-judge-codes-start part-judge-codes-end judge-codes-requires same-length-5 returns-5 crate-rule-requires same-length-6 returns-6)
+by-rule-spec = tie.close (tie.spec template-right-requires refused-requires same-length returns operands-of-requires refused-requires-2 same-length-2 returns-2 slice-aggregate-load load-requires refused-requires-3 same-length-3 returns-3 any-clashes-requires refused-requires-4 same-length-4 returns-4 any-running-requires wide-requires sub-judge-codes part-judge-codes-start part-judge-codes-end judge-codes-requires same-length-5 returns-5 memory-rule-requires same-length-6 returns-6 crate-rule-requires same-length-7 returns-7)
