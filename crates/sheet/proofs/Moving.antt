@@ -15,10 +15,10 @@ use Rattle.names.specs.Names.{Named, ruleOf}
 use Rattle.names.specs.Names.Named.{rule, unknown}
 use Rattle.table.specs.Enter.{free}
 use Rattle.table.specs.Placing.{Outcome, placed, entering}
-use Rattle.ruled.specs.Call.{anyReference, judgedOutcome, offends, ruledOutcome}
+use Rattle.ruled.specs.Call.{anyReference, judgedOutcome, silentOutcome, offends, ruledOutcome}
 use Rattle.ops_ty.specs.Ops.{unaryOps, unaryRuling, binaryOps, binaryRow, unaryOutcome, binaryOutcome}
 use Rattle.call_ty.specs.Calls.{templateRight, operandsOf, Given, givenBy, givenOutcome, byRule, callOutcome}
-use Rattle.call_ty.specs.Calls.Given.{judgment, nothing}
+use Rattle.call_ty.specs.Calls.Given.{judgment, silently, nothing}
 use Rattle.sheet.specs.Single.{moved}
 
 module _ (place : ℕ) (w : List ℕ) (n : ℕ) where
@@ -37,6 +37,12 @@ module _ (place : ℕ) (w : List ℕ) (n : ℕ) where
   judged-moved noneFits = refl
   judged-moved nonePreferred = refl
 
+  silent-moved : (j : Judged) → silentOutcome place w n j ≡ moved place (silentOutcome 0 w n j)
+  unfolding silentOutcome
+  silent-moved (gives R) = refl
+  silent-moved noneFits = refl
+  silent-moved nonePreferred = refl
+
   ruled-moved : (r : Ruling) (ts : List Ty) (ms : List Bool) → ruledOutcome place w n r ts ms ≡ moved place (ruledOutcome 0 w n r ts ms)
   unfolding ruledOutcome
   ruled-moved r ts ms = either (offends r ts) _ _ _ _ refl (either (runningAbstract ts ms) _ _ _ _ refl (judged-moved (judgeBy r ts ms)))
@@ -52,6 +58,7 @@ module _ (place : ℕ) (w : List ℕ) (n : ℕ) where
   given-moved : (g : Given) → givenOutcome place w n g ≡ moved place (givenOutcome 0 w n g)
   unfolding givenOutcome
   given-moved (judgment j) = judged-moved j
+  given-moved (silently j) = silent-moved j
   given-moved nothing = refl
 
   rule-moved : (r : Named) (ts us : List Ty) (ms : List Bool) → byRule place w n r ts us ms ≡ moved place (byRule 0 w n r ts us ms)

@@ -13,7 +13,7 @@ use Rattle.conv.specs.Types.{Ty}
 use Rattle.names.specs.Names.{count, nameAt, profiles, Named, ruleIn, ruleOf}
 use Rattle.names.specs.Names.Named.{rule, unknown}
 use Rattle.names.proofs.Lines.{at as lineAt}
-use Rattle.names.proofs.Document.{document, as-document}
+use Rattle.names.proofs.Document.{olderNames, as-older}
 use Rattle.names.proofs.Profiles.{of-both, not-of-0, SameOrNewer, same-or-newer}
 use Rattle.held.specs.Held.{markOf}
 use Rattle.answer.specs.Answer.{refuse, markedBy}
@@ -39,10 +39,11 @@ use Rattle.sheet.specs.Machine.{endAnswer, after, Turned, more, done, tu
 use Rattle.sheet.proofs.Running.{turn-kept, sheet-unsound}
 use Rattle.sheet.proofs.Demand1.{begun-good}
 
--- THE BASE: its names are the 94 as document 01 lists them, and what a call answers is put on the stack as it comes
+-- THE BASE: its names are those that both profiles have, the 94 as document 01 lists them and the 12 that document 02, K5, adds to both; and what a call answers is put on the
+-- stack as it comes
 
 abbrev pub baseRule : List ℕ → Named
-baseRule name = ruleIn 0 document name
+baseRule name = ruleIn 0 olderNames name
 
 unfoldable pub baseCall : List ℕ → ℕ → List ℕ → List ℕ → List ℕ → Outcome
 baseCall w n name tplt args =
@@ -131,10 +132,10 @@ pub record ProfilesKeep : Type 0 where
 
 base-call : (w : List ℕ) (n : ℕ) (name tplt args : List ℕ) → typeBuiltinFn 0 w n name tplt args ≡ baseCall w n name tplt args
 unfolding typeBuiltinFn baseCall
-base-call w n name tplt args = rw (as-document name)
+base-call w n name tplt args = rw (as-older name)
 
 base-mark : (name args : List ℕ) → builtinRuns 0 name args ≡ baseRuns name args
-base-mark name args = ap (λ (r : Named). runsBy r (marksOf args)) (as-document name)
+base-mark name args = ap (λ (r : Named). runsBy r (marksOf args)) (as-older name)
 
 either-mark : (profile : ℕ) → profile < profiles → (k : ℕ) → k < count → lineAt k .profile ≡ 0 → (args : List ℕ) → builtinRuns profile (nameAt k) args ≡ builtinRuns 0 (nameAt k) args
 either-mark profile p k h z args = ap (λ (r : Named). runsBy r (marksOf args)) (of-both profile p k h z ∙ sym (of-both 0 (omega arith) k h z))
@@ -166,7 +167,7 @@ module _ (place : ℕ) (st : State) (good : Good st) where
   base-calling : (keeps : Bool) (name : List ℕ) (ts : List Ty) (k : ℕ) → calling keeps 0 place st name ts k ≡ baseCalling keeps place st name ts k
   base-calling keeps name ts k =
       rw (no-65th name ts k)
-      (ap (λ (r : Named). onto (below k st) (keeps && runsBy r (marksOf (operands k st))) (byRule place (st .words) (st .used) r ts (types (st .words) (numbers (operands k st))) (marksOf (operands k st)))) (as-document name))
+      (ap (λ (r : Named). onto (below k st) (keeps && runsBy r (marksOf (operands k st))) (byRule place (st .words) (st .used) r ts (types (st .words) (numbers (operands k st))) (marksOf (operands k st)))) (as-older name))
 
   base-effect : (s : List ℕ) (i : Item) → effectOf 0 place st s i ≡ baseEffect place st s i
   unfolding effectOf callEffect templateEffect baseEffect

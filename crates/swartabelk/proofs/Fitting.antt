@@ -8,7 +8,9 @@ use native.Mathlib.Omega.{arith}
 use lib.IntN.{ℤ}
 use Rattle.answer.specs.Answer.{refuse, markedBy}
 use Rattle.table.specs.Table.{soundb}
-use Rattle.table.specs.Placing.{Outcome, Gave, GaveMarked}
+use Rattle.table.specs.Placing.{Outcome, Gave, GaveMarked, enterType}
+use Rattle.table.specs.declared.Entry.{Entry}
+use Rattle.table.proofs.Keeping.{enter-type-kept}
 use Rattle.answer.specs.declared.TypeNo.{TypeNo}
 use Rattle.answer.specs.declared.Reason.the-variants.{Unsound}
 use Rattle.answer.specs.declared.Answer.{Answer}
@@ -24,7 +26,7 @@ use Rattle.tplt.proofs.Demand1.{template-kept}
 use Rattle.swartabelk.specs.Reply.{replyOf, Replied, checkAnswer}
 use Rattle.swartabelk.specs.inner.Code.{Fits}
 use Rattle.swartabelk.specs.declared.Reply.{Reply}
-use Rattle.swartabelk.proofs.Places.{At, type-unary-at, type-binary-at, type-builtin-at, type-template-at}
+use Rattle.swartabelk.proofs.Places.{At, enter-type-at, type-unary-at, type-binary-at, type-builtin-at, type-template-at}
 
 -- a type of a sound table
 value-fits : (t : TypeNo) (m : ℕ) → t .0 < m → m ≤ 256 → Fits (Value t m)
@@ -61,6 +63,9 @@ module _ (w : List ℕ) (n : ℕ) (l : n < 2 ^ 32) (v : List ℕ) where
     pub call-fits : (profile : ℕ) (name tplt args : List ℕ) → GaveMarked (typeBuiltinFn profile w n name tplt args) (builtinRuns profile name args) d v → Fits (d .answer)
     call-fits profile name tplt args g =
         kept-fits w n _ l (call-kept profile w n name tplt args) (type-builtin-at w n profile name tplt args) (d .answer) (answer-of g)
+
+  pub enter-fits : (r : Answer) (e : Entry) → Gave (enterType w n e) r v → Fits r
+  enter-fits r e g = kept-fits w n _ l (enter-type-kept w n e) (enter-type-at w n e) r (g .reply)
 
   pub template-fits : (r : Answer) (head : List ℕ) (args : List ℤ) → Gave (templateOutcome w n head args) r v → Fits r
   template-fits r head args g = kept-fits w n _ l (template-kept w n head args) (type-template-at w n head args) r (g .reply)

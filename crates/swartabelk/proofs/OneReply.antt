@@ -7,7 +7,8 @@ use mathlib.Core.List.{List}
 use native.Mathlib.Omega.{arith}
 use lib.IntN.{ℤ}
 use Rattle.answer.specs.Answer.{reasonNo, markedBy}
-use Rattle.table.specs.Placing.{Outcome}
+use Rattle.table.specs.Placing.{Outcome, enterType}
+use Rattle.table.specs.declared.Entry.{Entry}
 use Rattle.answer.specs.declared.Reason.{Reason}
 use Rattle.answer.specs.declared.Reason.the-variants.{Unsound, NoSuchType, Reference, Unknown, Template, Count, Operands, NoOverload, NoRoom, Framing, Stack, TooLong, NonePreferred, RunningAbstract}
 use Rattle.answer.specs.declared.Answer.{Answer}
@@ -33,6 +34,9 @@ module _ (w : List ℕ) (n : ℕ) (r q : Reply) where
   check-one a b = a ∙ sym b
 
   module _ (v u : List ℕ) where
+    pub enter-one : (e : Entry) → Replied (enterType w n e) false r v → Replied (enterType w n e) false q u → (r ≡ q) × (v ≡ u)
+    enter-one e = replied-one (enterType w n e) false r q v u
+
     pub unary-one : (op a : ℕ) → Replied (typeUnaryOp w n op a) (unaryRuns a) r v → Replied (typeUnaryOp w n op a) (unaryRuns a) q u → (r ≡ q) × (v ≡ u)
     unary-one op a = replied-one (typeUnaryOp w n op a) (unaryRuns a) r q v u
 

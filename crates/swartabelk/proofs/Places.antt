@@ -15,15 +15,18 @@ use Rattle.overload.specs.Rows.{Ruling, judgeBy}
 use Rattle.overload.specs.Rows.Ruling.{byRow}
 use Rattle.names.specs.Names.{Named, ruleOf}
 use Rattle.names.specs.Names.Named.{rule, unknown}
-use Rattle.table.specs.Table.{soundb}
-use Rattle.table.specs.Enter.{free}
-use Rattle.table.specs.Placing.{Outcome, placed, entering}
+use Rattle.table.specs.Table.{soundb, allowedb}
+use Rattle.table.specs.Enter.{free, entered, entryAnswer, enterTypeReply}
+use Rattle.table.specs.Placing.{Outcome, placed, entering, enterType}
+use Rattle.table.specs.declared.Entry.{Entry}
+use Rattle.table.specs.declared.Entered.{Entered}
+use Rattle.table.specs.declared.Entered.the-variants.{There, Lacks}
 use Rattle.answer.specs.declared.Answer.{Answer}
 use Rattle.answer.specs.declared.Answer.the-variants.{Value, NoValue, Refused}
-use Rattle.ruled.specs.Call.{operandTy, anyReference, judgedOutcome, offends, ruledOutcome}
+use Rattle.ruled.specs.Call.{operandTy, anyReference, judgedOutcome, silentOutcome, offends, ruledOutcome}
 use Rattle.ops_ty.specs.Ops.{unaryOps, unaryRuling, binaryOps, binaryRow, unaryOutcome, binaryOutcome, typeUnaryOp, typeBinaryOp}
 use Rattle.call_ty.specs.Calls.{Given, templateRight, operandsOf, givenBy, givenOutcome, byRule, callOutcome, allUnder, numbers, marksOf, types, typeBuiltinFn}
-use Rattle.call_ty.specs.Calls.Given.{judgment, nothing}
+use Rattle.call_ty.specs.Calls.Given.{judgment, silently, nothing}
 use Rattle.tplt.specs.Heads.{headOf}
 use Rattle.tplt.specs.Params.{paramsOf, typesKnown, argumentsOf}
 use Rattle.tplt.specs.Templates.{parsedOf, typeOf, outcomeOf, templateOutcome}
@@ -51,6 +54,12 @@ module _ (place : ℕ) (w : List ℕ) (n : ℕ) where
   judged-at noneFits = (refl, refl)
   judged-at nonePreferred = (refl, refl)
 
+  silent-at : (j : Judged) → At place n (silentOutcome place w n j .answer)
+  unfolding silentOutcome
+  silent-at (gives R) = tt
+  silent-at noneFits = (refl, refl)
+  silent-at nonePreferred = (refl, refl)
+
   ruled-at : (r : Ruling) (ts : List Ty) (ms : List Bool) → At place n (ruledOutcome place w n r ts ms .answer)
   unfolding ruledOutcome
   ruled-at r ts ms = at-by (offends r ts) _ _ (refl, refl) (at-by (runningAbstract ts ms) _ _ (refl, refl) (judged-at (judgeBy r ts ms)))
@@ -66,6 +75,7 @@ module _ (place : ℕ) (w : List ℕ) (n : ℕ) where
   given-at : (g : Given) → At place n (givenOutcome place w n g .answer)
   unfolding givenOutcome
   given-at (judgment j) = judged-at j
+  given-at (silently j) = silent-at j
   given-at nothing = tt
 
   rule-at : (k : Named) (ts us : List Ty) (ms : List Bool) → At place n (byRule place w n k ts us ms .answer)
@@ -83,6 +93,18 @@ module _ (place : ℕ) (w : List ℕ) (n : ℕ) where
 
 -- a single call is at place 0
 module _ (w : List ℕ) (n : ℕ) where
+  entry-at : (r : Entered) → At 0 n (entryAnswer 0 r n)
+  entry-at (There t m) = tt
+  entry-at (Lacks k) = (refl, refl)
+
+  pub enter-type-at : (e : Entry) → At 0 n (enterType w n e .answer)
+  unfolding enterTypeReply
+  enter-type-at e = by (soundb w n) _ _ (by (allowedb w n e) _ _ (entry-at (entered w n e)) (refl, refl)) (refl, refl)
+    where
+      by : (b : Bool) (x y : Answer) → At 0 n x → At 0 n y → At 0 n (cond b x y)
+      by true x y p q = p
+      by false x y p q = q
+
   pub type-unary-at : (op a : ℕ) → At 0 n (typeUnaryOp w n op a .answer)
   unfolding typeUnaryOp
   type-unary-at op a = at-by 0 w n (soundb w n) _ _ (at-by 0 w n (ltb (numberOf a) n) _ _ (unary-at 0 w n op (operandTy w a) (markOf a)) (refl, refl)) (refl, refl)

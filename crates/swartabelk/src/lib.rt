@@ -2,6 +2,7 @@
 // answers in an enum, which C does not know.
 use spell::Spelled;
 use table::Answer;
+use table::Entry;
 use table::Place;
 use table::Reason;
 use table::TypeNo;
@@ -11,6 +12,8 @@ ghost use mathlib.Core.Bool.{false};
 ghost use Prim.Native.Nat.{_<_, _^_};
 ghost use Rattle.frame.specs.Frame.{namePart};
 ghost use Rattle.answer.specs.Answer.{markedBy};
+ghost use Rattle.table.specs.Placing.{enterType};
+ghost use Rattle.table.specs.declared.Entry.{Entry};
 ghost use Rattle.ops_ty.specs.Ops.{typeUnaryOp, typeBinaryOp, unaryRuns, binaryRuns};
 ghost use Rattle.call_ty.specs.Calls.{typeBuiltinFn, builtinRuns};
 ghost use Rattle.tplt.specs.Templates.{templateOutcome};
@@ -150,6 +153,24 @@ pub extern "C" fn swartabelk_check(words: &[u32], used: u32) -> Reply
         return const_reply(table::no_value(n));
     }
     const_reply(table::refused(Reason::Unsound, Place(0), n))
+}
+
+// The type of an entry, entered where it is absent.
+#[no_mangle]
+pub extern "C" fn swartabelk_enter(
+    words: &mut [u32],
+    used: u32,
+    kind: u32,
+    p: u32,
+    q: u32,
+    elem: u32,
+) -> Reply
+    ensures { λ r. ⌜ Replied (enterType (now (words .entry)) used (record { kind = kind; p = p; q = q; elem = elem })) false r (now (words .exit)) ⌝ }
+{
+    let n = cast::word(used);
+    let e = Entry { kind, p, q, elem };
+    let answer = entering::enter_type(words, n, e);
+    const_reply(answer)
 }
 
 // The type of a unary operator on the operand a: a type's number, with RUNNING where it is known only when running.

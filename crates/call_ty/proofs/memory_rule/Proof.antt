@@ -26,7 +26,6 @@ none : (l : List ℕ) → length l ≡ 0 → l ≡ []
 none [] h = refl
 none (x ∷ l) h = absurd (omega arith)
 
-
 -- src/lib.rt:218:9
 no-value-requires : tie.Need-no-value-requires
 no-value-requires c κs = search needs
