@@ -5,11 +5,14 @@ use mathlib.Core.Bool.{Bool}
 use mathlib.Core.List.{List}
 use Rattle.answer.specs.declared.Answer.{Answer}
 use Rattle.vectors.specs.Filled.{FillDone}
-use Rattle.vectors.specs.Chars.{answerChar, typeNo}
+use Rattle.vectors.specs.Chars.{charOf, answerChar, typeNo}
 use Rattle.vectors.specs.Lines.{countedOf, lineEnd}
 
 pub fill-one : {w : List ℕ} {a b : ℕ} {u v : List ℕ} → FillDone w a u → FillDone w b v → (a ≡ b) × (u ≡ v)
 fill-one x y = (x .used ∙ sym (y .used), x .words ∙ sym (y .words))
+
+pub char-of-one : (n new : ℕ) (r : Answer) {a b : ℕ} → a ≡ charOf n new r → b ≡ charOf n new r → a ≡ b
+char-of-one n new r x y = x ∙ sym y
 
 pub answer-char-one : (w : List ℕ) (r : Answer) {a b : ℕ} → a ≡ answerChar w r → b ≡ answerChar w r → a ≡ b
 answer-char-one w r x y = x ∙ sym y

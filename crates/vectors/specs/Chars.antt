@@ -1,4 +1,4 @@
--- The character of an answer on the table of the 55 types. Assumes nothing.
+-- The character of an answer, on the table of the 55 types and on one of some more. Assumes nothing.
 use Prim.Native.Nat.{ℕ, _+_, _-_, _*_, _/_, _%_}
 use mathlib.Core.Bool.{_&&_, _||_, not, cond}
 use mathlib.Core.List.{List}
@@ -22,6 +22,10 @@ otherChar = 33
 -- how many types there are, and the words of one entry more
 abbrev pub types : ℕ
 types = 55
+
+-- the most types of a table that have characters
+abbrev pub mostTypes : ℕ
+mostTypes = 79
 
 abbrev pub wordsOfMore : ℕ
 wordsOfMore = 224
@@ -56,24 +60,33 @@ entryChar e =
 unfoldable pub newChar : List ℕ → ℕ
 newChar w = cond (ltb (length w) wordsOfMore) otherChar (entryChar (entryAt w types))
 
--- one of the 55, and nothing entered; or the entry after them, and it alone entered
-abbrev pub valueChar : List ℕ → ℕ → ℕ → ℕ
-valueChar w t used =
-    cond (ltb t types) (cond (eqb used types) (firstChar + t) otherChar)
-    (cond (eqb t types && eqb used (types + 1)) (newChar w) otherChar)
+-- one of the n types before the call, and nothing entered; or the entry after them, and it alone entered
+abbrev pub valueChar : ℕ → ℕ → ℕ → ℕ → ℕ
+valueChar n new t used =
+    cond (ltb t n) (cond (eqb used n) (firstChar + t) otherChar)
+    (cond (eqb t n && eqb used (n + 1)) new otherChar)
 
--- the refusals that rows have: `.` for 8, `$` for 4, `'` for 7, `,` for 14
+-- no value, and nothing entered: `%`
+abbrev pub silentChar : ℕ → ℕ → ℕ
+silentChar n used = cond (eqb used n) 37 otherChar
+
+-- the refusals that rows have: `.` for 8, `$` for 4, `'` for 7, `,` for 14, `&` for 3
 abbrev pub reasonChar : ℕ → ℕ
-reasonChar n = cond (eqb n 8) 46 (cond (eqb n 4) 36 (cond (eqb n 7) 39 (cond (eqb n 14) 44 otherChar)))
+reasonChar n = cond (eqb n 8) 46 (cond (eqb n 4) 36 (cond (eqb n 7) 39 (cond (eqb n 14) 44 (cond (eqb n 3) 38 otherChar))))
 
 -- a refusal at place 0, and nothing entered
-abbrev pub refusalChar : Refusal → ℕ
-refusalChar r = cond (eqb (r .place .0) 0 && eqb (r .used) types) (reasonChar (reasonNo (r .reason))) otherChar
+abbrev pub refusalChar : ℕ → Refusal → ℕ
+refusalChar n r = cond (eqb (r .place .0) 0 && eqb (r .used) n) (reasonChar (reasonNo (r .reason))) otherChar
 
-unfoldable pub answerChar : List ℕ → Answer → ℕ
-answerChar w (Value t used) = valueChar w (t .0) used
-answerChar w (NoValue used) = otherChar
-answerChar w (Refused r) = refusalChar r
+-- an answer on a table of n types, where `new` is the character of the entry after them
+unfoldable pub charOf : ℕ → ℕ → Answer → ℕ
+charOf n new (Value t used) = valueChar n new (t .0) used
+charOf n new (NoValue used) = silentChar n used
+charOf n new (Refused r) = refusalChar n r
+
+-- on the table of the 55
+abbrev pub answerChar : List ℕ → Answer → ℕ
+answerChar w r = charOf types (newChar w) r
 
 -- the number of a type's character; below `0`, one that no type has
 abbrev pub typeNo : ℕ → ℕ

@@ -1,4 +1,4 @@
-// What the programs that replay vectors share: a table of the 55 plain and matrix types, the character of an answer, and the ends of lines.
+// What the programs that replay vectors share: a table of the 55 plain and matrix types, the character of an answer, the ends of lines, and the counts that are written.
 // Type i has the character '0' + i. Plain numbers come first, 0 to 27; then mat2x2 to mat4x4, each of AbstractFloat, f32 and f16.
 // The result types of frexp follow, then those of modf: over the scalar, vec2, vec3 and vec4, each of AbstractFloat, f32 and f16.
 use table::Answer;
@@ -8,11 +8,13 @@ ghost use mathlib.Core.Path.{_≡_};
 ghost use Prim.Native.Nat.{_≤_, _<_};
 ghost use lib.ListN.{length};
 ghost use Rattle.vectors.specs.Filled.{floatNo, entryOf, FillDone};
-ghost use Rattle.vectors.specs.Chars.{modfs, floatPlace, resultChar, entryChar, newChar, valueChar, reasonChar, refusalChar, answerChar, typeNo};
+ghost use Rattle.vectors.specs.Chars.{modfs, mostTypes, floatPlace, resultChar, entryChar, newChar, valueChar, silentChar, reasonChar, refusalChar, charOf, answerChar, typeNo};
 ghost use Rattle.vectors.specs.Lines.{countedOf, lineEnd};
 
-// How many types the table holds.
+// How many types the table holds, and the most that a table may hold whose types have characters.
 pub const TYPES: usize = 55;
+
+pub const MOST_TYPES: usize = 79;
 // Below these numbers stand the scalars and vectors, and all the types.
 const FIRST_MAT: u32 = 28;
 
@@ -25,7 +27,7 @@ const ABSTRACT_FLOAT: u32 = 2;
 const F32: u32 = 5;
 
 const F16: u32 = 6;
-// The character of type 0, those of the refusals that rows have, all below it, and that of an answer which no row expects.
+// The character of type 0, those of the refusals that rows have and of a call without value, all below it, and that of an answer which no row expects.
 pub const FIRST: u8 = b'0';
 
 pub const REFUSED: u8 = b'.';
@@ -36,11 +38,15 @@ const MISCOUNTED: u8 = b'\'';
 
 const RUNNING_REFUSED: u8 = b',';
 
-const OTHER: u8 = b'!';
+const REFERENCE_REFUSED: u8 = b'&';
+
+const SILENT: u8 = b'%';
+
+pub const OTHER: u8 = b'!';
 
 const LINE_END: u8 = 10;
 
-// The numbers of those refusals: no overload fits, an unknown name, a wrong count of operands, an operand that is running and abstract.
+// The numbers of those refusals: no overload fits, an unknown name, a wrong count of operands, an operand that is running and abstract, one that is a reference.
 const NO_OVERLOAD: u8 = 8;
 
 const UNKNOWN: u8 = 4;
@@ -48,6 +54,8 @@ const UNKNOWN: u8 = 4;
 const OPERANDS: u8 = 7;
 
 const RUNNING_ABSTRACT: u8 = 14;
+
+const REFERENCE: u8 = 3;
 // The words of a table of one type more.
 const WORDS: usize = 224;
 // The number of the first result type of frexp, and of modf.
@@ -159,17 +167,29 @@ fn new_char(words: &[u32]) -> u8
     entry_char(table::entry_at(words, TYPES))
 }
 
-fn value_char(words: &[u32], t: usize, used: usize) -> u8
-    ensures { λ r. ⌜ r ≡ valueChar (now (words .entry)) t used ⌝ }
+// The character of a value, where the table had so many types before the call: one of them, and nothing was entered; or the one after them, which is new.
+fn value_char(types: usize, new: u8, t: usize, used: usize) -> u8
+    requires { ⌜ types ≤ mostTypes ⌝ }
+    ensures { λ r. ⌜ r ≡ valueChar types new t used ⌝ }
 {
-    if t < TYPES {
-        if used != TYPES {
+    if t < types {
+        if used != types {
             return OTHER;
         }
         return FIRST + t as u8;
     }
-    if (t == TYPES) & (used == TYPES + 1) {
-        return new_char(words);
+    if (t == types) & (used == types + 1) {
+        return new;
+    }
+    OTHER
+}
+
+// The character of a call without value, which entered nothing.
+fn silent_char(types: usize, used: usize) -> u8
+    ensures { λ r. ⌜ r ≡ silentChar types used ⌝ }
+{
+    if used == types {
+        return SILENT;
     }
     OTHER
 }
@@ -190,29 +210,40 @@ fn reason_char(n: u8) -> u8
     if n == RUNNING_ABSTRACT {
         return RUNNING_REFUSED;
     }
+    if n == REFERENCE {
+        return REFERENCE_REFUSED;
+    }
     OTHER
 }
 
-fn refusal_char(refusal: Refusal) -> u8
-    ensures { λ r. ⌜ r ≡ refusalChar refusal ⌝ }
+fn refusal_char(types: usize, refusal: Refusal) -> u8
+    ensures { λ r. ⌜ r ≡ refusalChar types refusal ⌝ }
 {
     let reason = refusal.reason;
     let place = refusal.place;
-    if (place.0 == 0) & (refusal.used == TYPES) {
+    if (place.0 == 0) & (refusal.used == types) {
         return reason_char(table::reason_no(reason));
     }
     OTHER
+}
+
+// The character of an answer of a call on a table that had so many types before it; `new` is that of the entry after them.
+pub fn char_of(types: usize, new: u8, answer: Answer) -> u8
+    requires { ⌜ types ≤ mostTypes ⌝ }
+    ensures { λ r. ⌜ r ≡ charOf types new answer ⌝ }
+{
+    match answer {
+        Answer::Value(t, used) => value_char(types, new, t.0, used),
+        Answer::NoValue(used) => silent_char(types, used),
+        Answer::Refused(refusal) => refusal_char(types, refusal),
+    }
 }
 
 // The character of an answer of a call on the table of 55 types, whose words are those after the call.
 pub fn answer_char(words: &[u32], answer: Answer) -> u8
     ensures { λ r. ⌜ r ≡ answerChar (now (words .entry)) answer ⌝ }
 {
-    match answer {
-        Answer::Value(t, used) => value_char(words, t.0, used),
-        Answer::NoValue(_) => OTHER,
-        Answer::Refused(refusal) => refusal_char(refusal),
-    }
+    char_of(TYPES, new_char(words), answer)
 }
 
 // The number of a type by its character; below the first, a number that no type has.
@@ -250,4 +281,14 @@ pub fn line_end(s: &[u8], at: usize) -> usize
         end += 1;
     }
     end
+}
+
+// Writes how many of the rows agreed.
+pub fn write_counts(what: &[u8], agreed: u64, rows: u64) {
+    io::write_all(1, what);
+    io::write_all(1, b": ");
+    io::print_decimal(1, agreed);
+    io::write_all(1, b" of ");
+    io::print_decimal(1, rows);
+    io::write_all(1, b" agreed\n");
 }

@@ -1,4 +1,4 @@
--- `vectors::value_char` meets its contract: one of the 55, or the one after them. Assumes nothing.
+-- `vectors::value_char` meets its contract: one of the table's types, or the one after them. Assumes nothing.
 use borrow.Author.Tests.{lt-ltb, le-ltb, eq-eqb, ne-eqb}
 use borrow.Author.Needs.{needs}
 use Rattle.vectors.proofs.value_char.Statement.{statement}
@@ -19,11 +19,8 @@ returns-2 c = rw (lt-ltb _ _ (c .before .if1 .taken), eq-eqb _ _ (c .if2 .left))
 add-if3 : tie.Need-add-if3
 add-if3 c = search needs
 
-new-char-requires : tie.Need-new-char-requires
-new-char-requires c κs = search needs
-
 returns-3 : tie.Need-returns-3
-returns-3 c = rw (c .new-char .ensures, le-ltb _ _ (c .before .before .if1 .left), c .before .if3 .taken)
+returns-3 c = rw (le-ltb _ _ (c .before .if1 .left), c .if3 .taken)
 
 returns-4 : tie.Need-returns-4
 returns-4 c = rw (le-ltb _ _ (c .before .if1 .left), c .if3 .left)
@@ -37,6 +34,5 @@ value-char-spec =
     add-result
     returns-2
     add-if3
-    new-char-requires
     returns-3
     returns-4)
