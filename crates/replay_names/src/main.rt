@@ -1,5 +1,5 @@
-// Replays names from standard input, a line each: three digits of the rule, a mark and the name, as `012 acos` or `047+subgroupAdd`; or `---`, a blank and
-// bytes that are no name. The mark is `*` where the result is running on const operands too, `+` where it is so and profile 1 adds the name, else a blank.
+// Replays names from standard input, a line each: three digits of the rule, a mark and the name, as `012 acos` or `047+subgroupAdd`; or `-` and
+// bytes that are no name, as `-aos`. The mark is `*` where the result is running on const operands too, `+` where it is so and profile 1 adds the name, else a blank.
 // Each name is asked for in profile 0, in profile 1 and in two unknown ones, which have no name.
 // A line that begins with `#` ends a group: it is written with the group's counts.
 use names::RuleNo;
@@ -47,42 +47,84 @@ fn is_reply(reply: RuleNo, hundreds: u8, tens: u8, ones: u8, mark: u8) -> bool {
             & (ZERO + rule / 10 % 10 == tens)
             & (ZERO + rule % 10 == ones)
             & (running == (mark != CONST)),
-        RuleNo::Unknown => (hundreds == NO_RULE) & (tens == NO_RULE) & (ones == NO_RULE),
+        RuleNo::Unknown => false,
     }
 }
 
-// Whether the reply in a profile is right, which has a line's name or not.
-fn is_right(rows: &[u8], profile: u32, has: bool, line: &[u8]) -> bool
+// Whether a profile has no such name.
+fn is_unknown(rows: &[u8], profile: u32, name: &[u8]) -> bool
+    requires { ⌜ now rows ≡ nameTable ⌝ }
+{
+    if let RuleNo::Unknown = names::rule_of(rows, profile, name) {
+        return true;
+    }
+    false
+}
+
+// Whether two unknown profiles have no such name.
+fn in_no_profile(rows: &[u8], name: &[u8]) -> bool
+    requires { ⌜ now rows ≡ nameTable ⌝ }
+{
+    is_unknown(rows, NO_PROFILE, name) & is_unknown(rows, LAST_PROFILE, name)
+}
+
+// Whether the reply in a profile that has a line's name is right.
+fn is_right(rows: &[u8], profile: u32, line: &[u8]) -> bool
     requires { ⌜ (now rows ≡ nameTable) × (4 ≤ length (now line)) ⌝ }
 {
     let reply = names::rule_of(rows, profile, &line[NAME_AT..]);
-    if has {
-        return is_reply(reply, line[0], line[1], line[2], line[MARK_AT]);
+    is_reply(reply, line[0], line[1], line[2], line[MARK_AT])
+}
+
+// The same in profile 0, which does not have every name.
+fn is_right_in_fewer(rows: &[u8], line: &[u8]) -> bool
+    requires { ⌜ (now rows ≡ nameTable) × (4 ≤ length (now line)) ⌝ }
+{
+    if line[MARK_AT] == ADDED {
+        return is_unknown(rows, 0, &line[NAME_AT..]);
     }
-    is_reply(reply, NO_RULE, NO_RULE, NO_RULE, CONST)
+    is_right(rows, 0, line)
+}
+
+// The verdict on bytes that are no name.
+fn judged_unknown(rows: &[u8], name: &[u8]) -> Verdict
+    requires { ⌜ now rows ≡ nameTable ⌝ }
+{
+    let profiles = is_unknown(rows, 0, name) & is_unknown(rows, 1, name);
+    if profiles & in_no_profile(rows, name) {
+        return Verdict::Unknown;
+    }
+    Verdict::Wrong
+}
+
+// The verdict on a line that has a name.
+fn judged_known(rows: &[u8], line: &[u8]) -> Verdict
+    requires { ⌜ now rows ≡ nameTable ⌝ }
+{
+    if line.len() < NAME_AT {
+        return Verdict::Wrong;
+    }
+    let profiles = is_right_in_fewer(rows, line) & is_right(rows, 1, line);
+    if profiles & in_no_profile(rows, &line[NAME_AT..]) {
+        return Verdict::Known;
+    }
+    Verdict::Wrong
 }
 
 fn judged(rows: &[u8], line: &[u8]) -> Verdict
     requires { ⌜ now rows ≡ nameTable ⌝ }
 {
-    if line.len() < NAME_AT {
+    if line.len() == 0 {
         return Verdict::Wrong;
     }
     let first = line[0];
     if first == GROUP {
         return Verdict::Group;
     }
-    let profile_0 = is_right(rows, 0, line[MARK_AT] != ADDED, line);
-    let profile_1 = is_right(rows, 1, true, line);
-    let no_profile = is_right(rows, NO_PROFILE, false, line);
-    let last_profile = is_right(rows, LAST_PROFILE, false, line);
-    if !(profile_0 & profile_1 & no_profile & last_profile) {
-        return Verdict::Wrong;
-    }
     if first == NO_RULE {
-        return Verdict::Unknown;
+        return judged_unknown(rows, &line[1..]);
     }
-    Verdict::Known
+    judged_known(rows, line)
 }
 
 fn write_count(n: u64, what: &[u8]) {
