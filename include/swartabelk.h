@@ -5,6 +5,20 @@
  * count afterwards, and the next call is given that. No entry that was there moves or changes. A refused call changes no word; a refused sheet keeps what
  * its accepted items entered.
  *
+ * The kinds of an entry. A word that is not named here is 0. elem is the number of an entry below this one, and no two entries are equal.
+ *
+ *    0 to 6    the scalars
+ *    7         a vector: p its width, 2 to 4; elem a scalar
+ *    8         a matrix: p its columns and q its rows, 2 to 4; elem AbstractFloat, f32 or f16
+ *    9         an array: p its count, 1 or more; elem no pointer, no reference and no array without count
+ *   10         an array without count: elem as in 9
+ *   11         an atomic: elem i32 or u32, its component
+ *   12         a pointer: p its space, 0 function, 1 private, 2 workgroup, 3 uniform, 4 storage; q its access, 0 read, 1 write, 2 read_write;
+ *              elem no pointer, no reference and nothing abstract at any depth
+ *   13         a reference: the same, or 5 handle as its space
+ *   14, 15     the result of frexp, of modf: elem the type of `fract`, a float or a vector of floats
+ *   16         the result of atomicCompareExchangeWeak: elem i32 or u32, the type of `old_value`; `exchanged` is a bool
+ *
  * Each function answers for any numbers and any bytes: what is wrong is refused. It allocates nothing, keeps nothing and calls nothing but memset and memcpy.
  *
  * What the host owes: each pointer with its length names memory that may be read, and written where the pointer is not to const. Memory that is written
@@ -21,7 +35,7 @@
 extern "C" {
 #endif
 
-#define SWARTABELK_VERSION 4
+#define SWARTABELK_VERSION 5
 
 /* The type of a reply that has no value or is a refusal. */
 #define SWARTABELK_NO_VALUE 0xFFFFFFFFu
@@ -29,10 +43,11 @@ extern "C" {
 /* An operand is a type number, with SWARTABELK_RUNNING where it is known only when running; without the bit it is a const-expression. `type | mark` of a reply is an
  * operand; where the reply has no value or is a refusal, it is one that is refused with 2.
  *
- * A number that is no operand has no mark: there the bit is part of the number, so that in `tplt` and in a spelling it is refused with 2.
+ * A number that is no operand has no mark: there the bit is part of the number, so that in `tplt` and in a spelling it is refused with 2, in an entry's elem with 5.
  *
  * Where overloads are chosen, one with an abstract parameter is left out if another operand is running. So select(1, 2, flag) is i32 where flag is running, and
- * AbstractInt where it is const. A result is const where all operands are; but derivatives, arrayLength, subgroup and quad calls give a running one even so. */
+ * AbstractInt where it is const. A result is const where all operands are; but derivatives, arrayLength, subgroup and quad calls and calls on memory give a running
+ * one even so. */
 #define SWARTABELK_RUNNING 0x80000000u
 
 /* The profile of a call or of a sheet says which builtins there are: 0 has those without subgroups and quads, 1 has the subgroup and quad builtins too. A name
@@ -86,6 +101,10 @@ typedef struct {
 /* Whether the words hold a sound table of `used` entries: no value, or refusal 1. */
 swartabelk_reply swartabelk_check(const uint32_t *words, size_t words_len, uint32_t used);
 
+/* The type that an entry stands for: the number of the entry that is equal to it, or else a new one. Refusals: 1; 5 where it breaks the rule of its kind, or its elem is
+ * not below `used`; 9. A scalar's kind with p, q and elem 0 is that scalar. The mark is 0. */
+swartabelk_reply swartabelk_enter(uint32_t *words, size_t words_len, uint32_t used, uint32_t kind, uint32_t p, uint32_t q, uint32_t elem);
+
 /* The type of a unary operator on the operand a. Operators 0 to 4: ! - ~ & * */
 swartabelk_reply swartabelk_unary(uint32_t *words, size_t words_len, uint32_t used, uint32_t op, uint32_t a);
 
@@ -93,7 +112,19 @@ swartabelk_reply swartabelk_unary(uint32_t *words, size_t words_len, uint32_t us
 swartabelk_reply swartabelk_binary(uint32_t *words, size_t words_len, uint32_t used, uint32_t op, uint32_t a, uint32_t b);
 
 /* The type of a call of the builtin that has that name in the profile, on the operands `args`. `tplt` is its template list: one type number for bitcast, none
- * for every other. */
+ * for every other.
+ *
+ * Calls on memory are in both profiles, and a value of theirs is running. Those on atomics take first a read_write pointer in space storage or workgroup to an atomic,
+ * then values that convert to its component:
+ *
+ *    atomicLoad                                                   no value; gives the component
+ *    atomicAdd Sub Max Min And Or Xor, atomicExchange             one value; give the component
+ *    atomicStore                                                  one value; gives none, as a barrier
+ *    atomicCompareExchangeWeak                                    two values; gives the type of kind 16 with that component
+ *    workgroupUniformLoad                                         takes a read_write pointer in space workgroup: to an atomic, and gives its component; or to any other
+ *                                                                 type but an array without count and one that holds an atomic at any depth, and gives that type
+ *
+ * An operand that breaks these rules is refused with 8. */
 swartabelk_reply swartabelk_call(uint32_t *words, size_t words_len, uint32_t used, uint32_t profile, const uint8_t *name, size_t name_len,
                                  const uint32_t *tplt, size_t tplt_len, const uint32_t *args, size_t args_len);
 

@@ -362,6 +362,7 @@ int main(void) {
     profiles();
     rooms();
     marks();
+    memory();
     spellings();
     names();
     printf("%u of %u replies as documents 01 and 02 have them\n", held - failed, held);

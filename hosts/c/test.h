@@ -1,5 +1,6 @@
 /* What the tests of the C host share: a table, calls over it, and the count of replies that are as they should be. test.c has them and the tests of document 01,
-   profiles.c those of document 02's profiles, room.c those of how much room is missing, marks.c those of operands that are known only when running. */
+   profiles.c those of document 02's profiles, room.c those of how much room is missing, marks.c those of operands that are known only when running, memory.c those
+   of calls on memory. */
 #ifndef TEST_H
 #define TEST_H
 
@@ -11,7 +12,9 @@
 #define RUNNING(type) ((type) | SWARTABELK_RUNNING)
 
 enum { BOOL, ABSTRACT_INT, ABSTRACT_FLOAT, I32, U32, F32, F16, SCALARS };
-enum { VEC = 7, MAT, ARRAY, RUNTIME, ATOMIC, PTR, REF, FREXP, MODF };
+enum { VEC = 7, MAT, ARRAY, RUNTIME, ATOMIC, PTR, REF, FREXP, MODF, EXCHANGE };
+enum { FUNCTION, PRIVATE, WORKGROUP, UNIFORM, STORAGE, HANDLE };
+enum { READ, WRITE, READ_WRITE };
 enum { NOT, NEGATE, COMPLEMENT, ADDRESS_OF, INDIRECTION };
 enum { OR, AND, PLUS, MINUS, TIMES, OVER, REMAINDER, EQUAL, UNEQUAL, LESS, LESS_EQUAL, GREATER, GREATER_EQUAL, BIT_OR, BIT_AND, BIT_XOR, LEFT, RIGHT };
 
@@ -63,5 +66,6 @@ void holds(const char *file, int line, int right);
 void profiles(void);
 void rooms(void);
 void marks(void);
+void memory(void);
 
 #endif
