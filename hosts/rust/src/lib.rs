@@ -381,10 +381,32 @@ pub fn check(words: &[u32], used: u32) -> Answer {
     answer(unsafe { raw::swartabelk_check(words.as_ptr(), words.len(), used) })
 }
 
+/// The type that an entry stands for, by its kind, p, q and elem: the number of the entry that is equal to it, or else a new one. An entry that breaks the rule of its
+/// kind, or whose elem is not below `used`, is refused with [`Reason::Template`]. A scalar's kind with 0 for the rest is that scalar. The value is const.
+///
+/// ```
+/// use swartabelk::{call, enter, Answer, Operand, Profile, SCALARS};
+///
+/// let mut words = [0; 1024];
+/// words[..28].copy_from_slice(&SCALARS);
+/// // A counter: atomic<u32>, and a read_write pointer to it in space storage.
+/// assert_eq!(enter(&mut words, 7, 11, 0, 0, 4), Answer::Type { number: 7, running: false, used: 8 });
+/// assert_eq!(enter(&mut words, 8, 12, 4, 2, 7), Answer::Type { number: 8, running: false, used: 9 });
+/// // What it was before 1 is added is a u32, known only when running.
+/// let counted = call(&mut words, 9, Profile::BASE, b"atomicAdd", &[], &[Operand::running(8), 1.into()]);
+/// assert_eq!(counted, Answer::Type { number: 4, running: true, used: 9 });
+/// ```
+pub fn enter(words: &mut [u32], used: u32, kind: u32, p: u32, q: u32, elem: u32) -> Answer {
+    // SAFETY: as above, and the slice is lent for writing.
+    answer(unsafe {
+        raw::swartabelk_enter(words.as_mut_ptr(), words.len(), used, kind, p, q, elem)
+    })
+}
+
 /// The type of a unary operator, by its number, on the operand `a`.
 pub fn unary(words: &mut [u32], used: u32, op: u32, a: impl Into<Operand>) -> Answer {
     let Operand(a) = a.into();
-    // SAFETY: as above, and the slice is lent for writing.
+    // SAFETY: as above.
     answer(unsafe { raw::swartabelk_unary(words.as_mut_ptr(), words.len(), used, op, a) })
 }
 
@@ -403,6 +425,8 @@ pub fn binary(
 
 /// The type of a call of the builtin that has this name in the profile, on the operands `args`. `tplt` is its template list: the number of one type for `bitcast`,
 /// none for every other.
+///
+/// Calls on memory, those on atomics and `workgroupUniformLoad`, are in both profiles, and their values are running. `atomicStore` has none.
 pub fn call(
     words: &mut [u32],
     used: u32,

@@ -35,6 +35,15 @@ pub struct Part {
 
 extern "C" {
     pub fn swartabelk_check(words: *const u32, words_len: usize, used: u32) -> Reply;
+    pub fn swartabelk_enter(
+        words: *mut u32,
+        words_len: usize,
+        used: u32,
+        kind: u32,
+        p: u32,
+        q: u32,
+        elem: u32,
+    ) -> Reply;
     pub fn swartabelk_unary(words: *mut u32, words_len: usize, used: u32, op: u32, a: u32)
         -> Reply;
     pub fn swartabelk_binary(

@@ -1,21 +1,32 @@
 //! A sheet does what the single calls do, item by item: made-up sheets of pushes, takes, operators and calls, of which many meet the same operands again, some in a slice
-//! with little room. In version 2 it does so by the marks of its values, in version 1 all of them are const. And what it does in profile 0 it does in profile 1 too, but
+//! with little room. A take is the entering of its entry, and a call without value is the last item or is refused. In version 2 it does so by the marks of its values, in version 1 all of them are const. And what it does in profile 0 it does in profile 1 too, but
 //! where profile 0 lacks a name.
 use swartabelk::{
-    binary, call, call_name, sheet, template, unary, Answer, Argument, Operand, Profile, Reason,
-    Refusal, SCALARS,
+    binary, call, call_name, enter, sheet, unary, Answer, Operand, Profile, Reason, Refusal,
+    SCALARS,
 };
 
 /// The stack's values, and the bytes that a sheet may have after its header.
 const VALUES: usize = 64;
 const LONGEST: usize = 60_000;
 
-/// What is called, and on how many operands. One name is no builtin's, and nine are those of profile 1 alone.
-const CALLS: [(&str, usize); 37] = [
+/// What is called, and on how many operands. One name is no builtin's, nine are those of profile 1 alone, and one has no value.
+const CALLS: [(&str, usize); 49] = [
     ("abs", 1),
     ("all", 1),
     ("any", 1),
     ("arrayLength", 1),
+    ("atomicAdd", 2),
+    ("atomicAnd", 2),
+    ("atomicCompareExchangeWeak", 3),
+    ("atomicExchange", 2),
+    ("atomicLoad", 1),
+    ("atomicMax", 2),
+    ("atomicMin", 2),
+    ("atomicOr", 2),
+    ("atomicStore", 2),
+    ("atomicSub", 2),
+    ("atomicXor", 2),
     ("clamp", 3),
     ("cross", 2),
     ("determinant", 1),
@@ -49,10 +60,12 @@ const CALLS: [(&str, usize); 37] = [
     ("subgroupShuffle", 2),
     ("subgroupShuffleUp", 2),
     ("transpose", 1),
+    ("workgroupUniformLoad", 1),
 ];
 
-/// After the scalars: vectors, a matrix, a pointer to f32 and a reference to it, an array of AbstractInt.
-const ENTRIES: [[u32; 4]; 9] = [
+/// After the scalars: vectors, a matrix, a pointer to f32 and a reference to it, an array of AbstractInt, atomics, pointers to one in storage and in workgroup, one of
+/// them that may only be read.
+const ENTRIES: [[u32; 4]; 14] = [
     [7, 3, 0, 5],
     [7, 2, 0, 1],
     [7, 4, 0, 6],
@@ -62,7 +75,15 @@ const ENTRIES: [[u32; 4]; 9] = [
     [12, 0, 2, 5],
     [13, 0, 2, 5],
     [9, 4, 0, 1],
+    [11, 0, 0, 4],
+    [11, 0, 0, 3],
+    [12, 4, 2, 16],
+    [12, 2, 2, 17],
+    [12, 4, 0, 16],
 ];
+
+/// Of them the pointers to an atomic.
+const POINTERS: [u8; 3] = [18, 19, 20];
 
 /// Numbers that look made up, the same in each run.
 struct Dice(u64);
@@ -87,8 +108,8 @@ enum Version {
 /// An item, of a push and a take with the mark that it has in version 2.
 enum Item {
     Push(u8, bool),
-    /// A vector: its width and its component.
-    Take(u8, u8, bool),
+    /// An entry: its kind, p, q and elem.
+    Take([u8; 4], bool),
     Unary(u8),
     Binary(u8),
     Call(&'static str, usize),
@@ -109,8 +130,8 @@ impl Item {
     fn bytes(&self, version: Version) -> Vec<u8> {
         match *self {
             Item::Push(t, running) => marked(version, 1, &[t], running),
-            Item::Take(width, of, running) => {
-                marked(version, 6, &[7, 0, 0, 0, width, 0, of], running)
+            Item::Take([kind, p, q, elem], running) => {
+                marked(version, 6, &[kind, 0, 0, 0, p, q, elem], running)
             }
             Item::Unary(op) => vec![2, 2, op],
             Item::Binary(op) => vec![2, 3, op],
@@ -130,6 +151,9 @@ struct State {
     words: Vec<u32>,
     used: u32,
     stack: Vec<Operand>,
+    /// How many calls on memory were accepted, and how many takes of the type of a compare.
+    on_memory: usize,
+    compares_taken: usize,
 }
 
 impl State {
@@ -146,6 +170,8 @@ impl State {
             words,
             used: 7 + ENTRIES.len() as u32,
             stack: Vec::new(),
+            on_memory: 0,
+            compares_taken: 0,
         }
     }
 
@@ -162,7 +188,7 @@ impl State {
     fn take(&mut self, item: &Item) -> Answer {
         let operands = match *item {
             Item::Push(t, running) => return self.push(t as u32, running),
-            Item::Take(width, of, running) => return self.enter(width, of, running),
+            Item::Take(e, running) => return self.enter(e, running),
             Item::Unary(_) => 1,
             Item::Binary(_) => 2,
             Item::Call(_, k) => k,
@@ -194,6 +220,16 @@ impl State {
             self.hold(number, running);
             self.used = used;
         }
+        if matches!(answer, Answer::Type { .. }) && is_on_memory(item) {
+            self.on_memory += 1;
+        }
+        // No value may stand below a call that has none.
+        if matches!(answer, Answer::NoValue { .. }) {
+            if below != 0 {
+                return self.refused(Reason::Stack);
+            }
+            self.stack.clear();
+        }
         answer
     }
 
@@ -220,33 +256,72 @@ impl State {
         }
     }
 
-    fn enter(&mut self, width: u8, of: u8, running: bool) -> Answer {
-        if self.stack.len() == VALUES {
+    /// A take: what is wrong with the entry comes before a 65th value, and that before want of room.
+    fn enter(&mut self, e: [u8; 4], running: bool) -> Answer {
+        let mut words = self.words.clone();
+        let [kind, p, q, elem] = e.map(u32::from);
+        let answer = enter(&mut words, self.used, kind, p, q, elem);
+        let broken = self.refused(Reason::Template);
+        if answer != broken && self.stack.len() == VALUES {
             return self.refused(Reason::Stack);
         }
-        let head = [b'v', b'e', b'c', b'0' + width];
-        let list = Argument::Type(of as u32).pair();
-        let answer = template(&mut self.words, self.used, &head, &list);
         if let Answer::Type { number, used, .. } = answer {
             self.hold(number, running);
             self.used = used;
+            self.words = words;
+            self.compares_taken += (kind == 16) as usize;
         }
         answer
     }
 }
 
+fn is_on_memory(item: &Item) -> bool {
+    matches!(item, Item::Call(name, _) if name.starts_with("atomic") || *name == "workgroupUniformLoad")
+}
+
+/// A vector, or the type of a compare, seldom one that breaks its rule.
+fn any_entry(dice: &mut Dice) -> [u8; 4] {
+    if dice.below(2) == 0 {
+        [7, 2 + dice.below(3) as u8, 0, dice.below(7) as u8]
+    } else {
+        let of = [3, 4, 3, 4, 3, 4, 5, 16][dice.below(8)];
+        [16, 0, 0, of]
+    }
+}
+
+/// A call on memory of that many operands.
+fn any_on_memory(dice: &mut Dice, operands: usize) -> Item {
+    let calls = CALLS.map(|(name, k)| Item::Call(name, k));
+    let fitting = calls
+        .into_iter()
+        .filter(|item| is_on_memory(item) && matches!(item, Item::Call(_, k) if *k == operands));
+    let mut fitting: Vec<Item> = fitting.collect();
+    fitting.swap_remove(dice.below(fitting.len()))
+}
+
 fn any_item(dice: &mut Dice, state: &State) -> Item {
+    // Where a pointer stands among the upper three values, one item in three is a call on it.
+    let upper = state.stack.iter().rev().take(3);
+    let mut pointers = upper.map(|v| POINTERS.contains(&(v.number() as u8)));
+    if let Some(above) = pointers.position(|is| is) {
+        if dice.below(3) == 0 {
+            // With nothing below, often the one that has no value.
+            if above == 1 && state.stack.len() == 2 && dice.below(2) == 0 {
+                return Item::Call("atomicStore", 2);
+            }
+            return any_on_memory(dice, above + 1);
+        }
+    }
     match dice.below(16) {
+        // A pointer more often, most of all as the first value.
+        0..=5 if dice.below(if state.stack.is_empty() { 2 } else { 12 }) == 0 => {
+            Item::Push(POINTERS[dice.below(POINTERS.len())], dice.below(3) == 0)
+        }
         0..=5 => Item::Push(
             dice.below(state.used as usize + 1) as u8,
             dice.below(3) == 0,
         ),
-        // Of bool, i32, u32, f32 or f16, which a template takes.
-        6 if dice.below(4) == 0 => Item::Take(
-            2 + dice.below(3) as u8,
-            [0, 3, 4, 5, 6][dice.below(5)],
-            dice.below(3) == 0,
-        ),
+        6 if dice.below(4) == 0 => Item::Take(any_entry(dice), dice.below(3) == 0),
         6 | 7 => Item::Unary(dice.below(6) as u8),
         8..=11 => Item::Binary(dice.below(19) as u8),
         _ => {
@@ -282,8 +357,18 @@ fn ends_at(reason: Reason) -> usize {
     }
 }
 
+fn wrong_stack(place: usize, used: u32) -> Answer {
+    Answer::Refused(Refusal {
+        reason: Reason::Stack,
+        place: place as u32,
+        used,
+        lacking: 0,
+    })
+}
+
 /// A sheet of so many tries from a state, and what the single calls say that it answers and leaves. An item that is refused is left out. A wild sheet ends at one such
-/// in 50, and at more of the seldom ones; in a mild one nothing is pushed after half of the tries, until one value stands.
+/// in 50, and at more of the seldom ones; in a mild one nothing is pushed after half of the tries, until one value stands. It ends at a call without value too, or such a
+/// call has an item behind it and is refused.
 fn made(dice: &mut Dice, from: &State, most: usize, wild: bool) -> (Vec<u8>, Answer, State) {
     let mut state = from.clone();
     let mut bytes = vec![state.version as u8, 0, 0];
@@ -297,7 +382,7 @@ fn made(dice: &mut Dice, from: &State, most: usize, wild: bool) -> (Vec<u8>, Ans
         if !wild && most / 2 <= i && matches!(item, Item::Push(..)) {
             continue;
         }
-        let item_bytes = item.bytes(state.version);
+        let mut item_bytes = item.bytes(state.version);
         if 3 + LONGEST < bytes.len() + item_bytes.len() {
             break;
         }
@@ -305,6 +390,19 @@ fn made(dice: &mut Dice, from: &State, most: usize, wild: bool) -> (Vec<u8>, Ans
         let answer = next.take(&item);
         match answer {
             Answer::Type { .. } => state = next,
+            Answer::NoValue { used } => {
+                let last = dice.below(2) == 0;
+                let place = bytes.len();
+                stopped = Some(if last {
+                    answer
+                } else {
+                    wrong_stack(place, used)
+                });
+                if !last {
+                    item_bytes.extend(Item::Push(0, false).bytes(state.version));
+                }
+                state = next;
+            }
             Answer::Refused(r) if wild && dice.below(ends_at(r.reason)) == 0 => {
                 let place = bytes.len() as u32;
                 stopped = Some(Answer::Refused(Refusal { place, ..r }));
@@ -326,12 +424,7 @@ fn made(dice: &mut Dice, from: &State, most: usize, wild: bool) -> (Vec<u8>, Ans
             running: value.is_running(),
             used,
         },
-        _ => Answer::Refused(Refusal {
-            reason: Reason::Stack,
-            place: bytes.len() as u32,
-            used,
-            lacking: 0,
-        }),
+        _ => wrong_stack(bytes.len(), used),
     };
     (bytes, stopped.unwrap_or(end), state)
 }
@@ -353,6 +446,7 @@ fn sheets_do_what_single_calls_do() {
     let mut reasons = [0; 15];
     let mut lacking = [0; 3];
     let (mut unnamed, mut alike) = (0, 0);
+    let (mut on_memory, mut compares_taken, mut without_value) = (0, 0, 0);
     // Values that are const and that are running, in version 1 and in version 2.
     let mut marks = [[0; 2]; 2];
     for k in 0..4000 {
@@ -367,6 +461,8 @@ fn sheets_do_what_single_calls_do() {
             if k % 100 < 4 { 20_000 } else { 400 },
             k % 2 == 0,
         );
+        on_memory += after.on_memory;
+        compares_taken += after.compares_taken;
         let run_in = |profile, entries| {
             let mut state = State::new(version, profile, entries);
             let answer = sheet(&mut state.words, state.used, profile, &bytes);
@@ -410,11 +506,12 @@ fn sheets_do_what_single_calls_do() {
                 reasons[0] += 1;
                 marks[version as usize - 1][running as usize] += 1;
             }
-            Answer::NoValue { .. } => unreachable!("no barrier is called"),
+            Answer::NoValue { .. } => without_value += 1,
         }
     }
     println!("sheets by refusal, 0 for a type: {reasons:?}; of the refused {lacking:?} by how many entries lack; of those with a type {marks:?} by version and mark; {alike} alike in both profiles, {unnamed} with a name that profile 0 lacks");
-    for reason in [0, 2, 3, 4, 7, 8, 9, 11, 14] {
+    println!("{on_memory} calls on memory and {compares_taken} takes of the type of a compare accepted, {without_value} sheets without value");
+    for reason in [0, 2, 3, 4, 5, 7, 8, 9, 11, 14] {
         assert_ne!(reasons[reason], 0, "no sheet ends with {reason}");
     }
     assert_eq!(lacking[1] + lacking[2], reasons[Reason::NoRoom as usize]);
@@ -424,6 +521,9 @@ fn sheets_do_what_single_calls_do() {
     assert_ne!(marks[0][0], 0);
     assert_ne!(marks[1][0], 0);
     assert_ne!(marks[1][1], 0);
+    assert_ne!(on_memory, 0);
+    assert_ne!(compares_taken, 0);
+    assert_ne!(without_value, 0);
     assert_ne!(unnamed, 0);
     assert_ne!(alike, 0);
 }
