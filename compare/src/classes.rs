@@ -27,7 +27,7 @@ pub struct Class {
 
 /// Every class.
 #[rustfmt::skip]
-pub const CLASSES: [Class; 32] = [
+pub const CLASSES: [Class; 37] = [
     Class {
         name: "not-any-vector", smallest: "!vec2<i32>",
         standard: "refused", rust: "vec2 i32: any vector", ours: "refused 8", holds: holds::not_any_vector,
@@ -158,14 +158,30 @@ pub const CLASSES: [Class; 32] = [
         holds: holds::array_element,
     },
     Class {
-        name: "left-out-name", smallest: "workgroupUniformLoad(ptr<workgroup,i32,read>)",
-        standard: "i32, where the access is read_write", rust: "i32: any pointer in space workgroup",
-        ours: "refused 4: workgroupUniformLoad is left out", holds: holds::left_out_name,
+        name: "atomic-any-pointer", smallest: "atomicLoad(ptr<private,atomic<i32>,read>)",
+        standard: "refused", rust: "i32: a pointer to an atomic in any space, with any access", ours: "refused 8", holds: holds::atomic_any_pointer,
+    },
+    Class {
+        name: "atomic-any-value", smallest: "atomicOr(ptr<storage,atomic<i32>,read_write>, u32)",
+        standard: "refused", rust: "i32: values of any type", ours: "refused 8", holds: holds::atomic_any_value,
+    },
+    Class {
+        name: "atomic-store-count", smallest: "atomicStore(ptr<private,atomic<i32>,read>)",
+        standard: "refused", rust: "no value: atomicStore takes any number of values", ours: "refused 7", holds: holds::atomic_store_count,
+    },
+    Class {
+        name: "uniform-load-access", smallest: "workgroupUniformLoad(ptr<workgroup,i32,read>)",
+        standard: "refused", rust: "i32: any access", ours: "refused 8", holds: holds::uniform_load_access,
+    },
+    Class {
+        name: "uniform-load-element", smallest: "workgroupUniformLoad(ptr<workgroup,array<f32>,read_write>)",
+        standard: "refused", rust: "array f32: any element, arrays without count and of atomics too", ours: "refused 8", holds: holds::uniform_load_element,
+    },
+    Class {
+        name: "uniform-load-atomic", smallest: "workgroupUniformLoad(ptr<workgroup,atomic<i32>,read_write>)",
+        standard: "i32", rust: "atomic i32: the element, unloaded", ours: "i32", holds: holds::uniform_load_atomic,
     },
 ];
-
-/// Names of the crate that are in no profile and that take operands of the domain.
-pub const LEFT_OUT: [&str; 1] = ["workgroupUniformLoad"];
 
 /// A row of the list in docs/DIFFERENCES.md, but for its counts.
 fn as_row(class: &Class) -> String {

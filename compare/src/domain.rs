@@ -1,6 +1,7 @@
-//! Document 01's domain: the 28 scalar and vector types, the 27 matrices, and arrays of and pointers to those, one level deep.
+//! Document 01's domain: the 28 scalar and vector types, the 27 matrices, and arrays of and pointers to those, one level deep. And operands of document 02's calls on
+//! memory.
 
-use crate::types::{ACCESSES, Access, FLOATS, SCALARS, SPACES, Space, WIDTHS, WType};
+use crate::types::{ACCESSES, Access, FLOATS, SCALARS, SPACES, Scalar, Space, WIDTHS, WType};
 
 /// How many of the types are plain, and how many are plain or matrices; these come first.
 pub const PLAINS: usize = 28;
@@ -63,6 +64,39 @@ pub fn small() -> Vec<WType> {
             (Space::Storage, Access::ReadWrite),
         ],
     )
+}
+
+/// What calls on memory may point to beside the 55: atomics, results of a compare, arrays.
+fn elements_in_memory() -> Vec<WType> {
+    let arrays =
+        |elem: &WType| [Some(4), None].map(|count| WType::Array(Box::new(elem.clone()), count));
+    let components = [Scalar::I32, Scalar::U32];
+    let atomics = components.map(WType::Atomic);
+    let mut types = [atomics.clone(), components.map(WType::Exchange)].concat();
+    types.extend(types.clone().iter().flat_map(arrays));
+    types.extend(atomics.iter().map(|atomic| {
+        let inner = WType::Array(Box::new(atomic.clone()), Some(4));
+        WType::Array(Box::new(inner), Some(3))
+    }));
+    types
+}
+
+/// Operands of calls on memory: atomics, results of a compare and arrays of both, and pointers of every form to those, to arrays of f32 and to some of the 55.
+pub fn on_memory() -> Vec<WType> {
+    let mut types = elements_in_memory();
+    let mut pointed = types.clone();
+    let f32 = WType::Scalar(Scalar::F32);
+    pointed.extend([Some(4), None].map(|count| WType::Array(Box::new(f32.clone()), count)));
+    pointed.extend([Scalar::Bool, Scalar::I32, Scalar::U32, Scalar::F32].map(WType::Scalar));
+    pointed.extend([
+        WType::Vector(2, Scalar::U32),
+        WType::Matrix(2, 2, Scalar::F32),
+    ]);
+    for elem in pointed {
+        let pointer = |(space, access)| WType::Pointer(space, Box::new(elem.clone()), access);
+        types.extend(pointer_forms().into_iter().map(pointer));
+    }
+    types
 }
 
 /// References to the concrete types among the 55.

@@ -3,7 +3,7 @@
 //! A panic of the crate is caught and is an answer of its own. `quiet` keeps its message from the terminal.
 
 use crate::Error;
-use crate::call_ty::type_builtin_fn;
+use crate::call_ty::{atomic_compare_exchange_struct_type, type_builtin_fn};
 use crate::case::{Answer, Argument};
 use crate::inst::{Instance, LiteralInstance};
 use crate::ops_ty::{type_binary_op, type_unary_op};
@@ -165,7 +165,7 @@ fn access_from_rust(access: AccessMode) -> Access {
     }
 }
 
-/// A type as the crate has it. Result types are no operands here.
+/// A type as the crate has it. The result types of frexp and modf are no operands here.
 pub fn to_rust(ty: &WType) -> Type {
     let boxed = |elem: &WType| Box::new(to_rust(elem));
     match ty {
@@ -180,6 +180,7 @@ pub fn to_rust(ty: &WType) -> Type {
         WType::Reference(space, elem, access) => {
             Type::Ref(space_to_rust(*space), boxed(elem), access_to_rust(*access))
         }
+        WType::Exchange(of) => atomic_compare_exchange_struct_type(&scalar_to_rust(*of)).into(),
         WType::Frexp(_) | WType::Modf(_) | WType::Foreign(_) => {
             panic!("{ty} is no operand of the comparison")
         }
@@ -206,10 +207,23 @@ pub fn from_rust(ty: &Type) -> WType {
             Box::new(from_rust(elem)),
             access_from_rust(*access),
         )),
-        Type::Struct(ty) => result_type(ty),
+        Type::Struct(ty) => exchange_type(ty).or_else(|| result_type(ty)),
         scalar => scalar_from_rust(scalar).map(WType::Scalar),
     };
     made.unwrap_or_else(|| WType::Foreign(format!("{ty:?}")))
+}
+
+/// The result type of a compare, where both members are as document 02 says. The crate's name for it has no component.
+fn exchange_type(ty: &StructType) -> Option<WType> {
+    let [old_value, exchanged] = &ty.members[..] else {
+        return None;
+    };
+    let as_said = ty.name == "__atomic_compare_exchange_result"
+        && old_value.name == "old_value"
+        && (exchanged.name == "exchanged" && exchanged.ty == Type::Bool);
+    scalar_from_rust(&old_value.ty)
+        .filter(|of| as_said && matches!(of, Scalar::I32 | Scalar::U32))
+        .map(WType::Exchange)
 }
 
 /// The result type of frexp or modf, where name and both members are as document 01 says.
@@ -255,11 +269,11 @@ pub fn argument_to_rust(argument: &Argument) -> TpltParam {
 #[cfg(test)]
 mod tests {
     use super::*;
-    use crate::domain::{references, whole};
+    use crate::domain::{on_memory, references, whole};
 
     #[test]
     fn every_type_comes_back() {
-        for ty in whole().iter().chain(&references()) {
+        for ty in whole().iter().chain(&references()).chain(&on_memory()) {
             assert_eq!(&from_rust(&to_rust(ty)), ty);
         }
     }

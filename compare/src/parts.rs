@@ -1,13 +1,12 @@
 //! What is asked: the parts of the domain, and the two runs over them.
 
 use crate::case::{Argument, Case, Operation};
-use crate::classes::LEFT_OUT;
 use crate::domain::{self, PLAINS, SIMPLES};
 use crate::oracle::{argument_to_rust, to_rust};
 use crate::ours;
 use crate::random::Random;
 use crate::run::Run;
-use crate::standard::{SIZED_HEADS, names};
+use crate::standard::{MEMORY_NAMES, SIZED_HEADS, names};
 use crate::tplt::TpltParam;
 use crate::ty::Type;
 use crate::types::{SCALARS, Scalar, WType};
@@ -68,7 +67,7 @@ impl Run {
 
     /// Calls without operand, calls and operators of one, over every type.
     fn none_and_one(&mut self, types: &[WType]) {
-        let calls: Vec<Operation> = every_name().map(Operation::Call).collect();
+        let calls: Vec<Operation> = names().map(Operation::Call).collect();
         self.ask_all(&calls, &[], &[]);
         self.end("no operand");
         let mut all: Vec<Operation> = (0..5).map(Operation::Unary).collect();
@@ -86,7 +85,7 @@ impl Run {
     /// The operators and every name, over all pairs.
     fn two(&mut self, types: &[WType]) {
         let mut all: Vec<Operation> = (0..18).map(Operation::Binary).collect();
-        all.extend(every_name().map(Operation::Call));
+        all.extend(names().map(Operation::Call));
         let rust: Vec<Type> = types.iter().map(to_rust).collect();
         for (a, rust_a) in types.iter().zip(&rust) {
             let mut pair = [rust_a.clone(), rust_a.clone()];
@@ -96,6 +95,41 @@ impl Run {
             }
         }
         self.end("two operands");
+    }
+
+    /// Every name and unary operator on one operand of calls on memory; these calls on two, of which the second is any of the 55 too; and on three, of which the others
+    /// are some of the plain types, an atomic or a result of a compare.
+    fn on_memory(&mut self, types: &[WType]) {
+        let operands = domain::on_memory();
+        let rust: Vec<Type> = operands.iter().map(to_rust).collect();
+        let mut all: Vec<Operation> = (0..5).map(Operation::Unary).collect();
+        all.extend(names().map(Operation::Call));
+        for (ty, rust) in operands.iter().zip(&rust) {
+            self.ask_all(&all, &[ty], std::slice::from_ref(rust));
+        }
+        self.end("one operand of calls on memory");
+        let calls = MEMORY_NAMES.map(Operation::Call);
+        let mut seconds: Vec<(&WType, Type)> = Vec::new();
+        for ty in types[..SIMPLES].iter().chain(&operands) {
+            seconds.push((ty, to_rust(ty)));
+        }
+        for (a, rust_a) in operands.iter().zip(&rust) {
+            for (b, rust_b) in &seconds {
+                self.ask_all(&calls, &[a, b], &[rust_a.clone(), rust_b.clone()]);
+            }
+        }
+        self.end("calls on memory of two operands");
+        // The scalars, the vectors of two, an atomic, a result of a compare.
+        let others = || seconds[..14].iter().chain(&seconds[SIMPLES..][1..3]);
+        for (a, rust_a) in operands.iter().zip(&rust) {
+            for (b, rust_b) in others() {
+                for (c, rust_c) in others() {
+                    let rust = [rust_a, rust_b, rust_c].map(Type::clone);
+                    self.ask_all(&calls, &[a, b, c], &rust);
+                }
+            }
+        }
+        self.end("calls on memory of three operands");
     }
 
     /// Some names over all triples of the plain types.
@@ -195,7 +229,9 @@ impl Run {
         let mut arguments: Vec<Argument> = types.iter().cloned().map(Argument::Type).collect();
         let references = domain::references().into_iter().take(2);
         arguments.extend(references.map(Argument::Type));
-        arguments.extend([Scalar::I32, Scalar::U32].map(|of| Argument::Type(WType::Atomic(of))));
+        for of in [Scalar::I32, Scalar::U32] {
+            arguments.extend([WType::Atomic(of), WType::Exchange(of)].map(Argument::Type));
+        }
         let nested = WType::Array(Box::new(types[SIMPLES].clone()), Some(3));
         arguments.push(Argument::Type(nested));
         let literals = literals();
@@ -218,11 +254,6 @@ impl Run {
         }
         self.end("template types");
     }
-}
-
-/// The 119 names of profile 1 and that which is left out.
-fn every_name() -> impl Iterator<Item = &'static str> {
-    names().chain(LEFT_OUT)
 }
 
 /// A scalar or a vector of a width; now and then any type.
@@ -265,6 +296,7 @@ pub fn quick(seed: u64) -> bool {
     let mut run = Run::default();
     run.none_and_one(&types);
     run.two(&types);
+    run.on_memory(&types);
     run.call_templates(&types);
     run.template_types(&types);
     run.triples(&types, &THREE);
@@ -284,6 +316,7 @@ pub fn full(seed: u64) -> bool {
     let mut run = Run::default();
     run.none_and_one(&types);
     run.two(&types);
+    run.on_memory(&types);
     run.call_templates(&types);
     run.template_types(&types);
     run.triples(&types, &names().collect::<Vec<_>>());

@@ -28,7 +28,7 @@ type Size = (usize, usize, usize);
 /// What a class has met.
 #[derive(Clone, Default)]
 struct Met {
-    /// Rows of the exhaustive parts, each met once.
+    /// Rows of the exhaustive parts, each met once but for those of pointers to six plain types, which two parts have.
     listed: u64,
     /// Rows of the sampled parts, in which one may stand twice.
     sampled: u64,

@@ -2,7 +2,7 @@
 //!
 //! A row is the operator or builtin, its operand types with a blank between them, and the type of the result or `-` where it is refused; tabs stand
 //! between the three, as in the lists of the WGSL compiler's answers. Only rows on which the crate and `standard` agree are in it. The rows are
-//! drawn by a seed from every operator but unary `&` and `*`, and from every builtin of profile 0 but `bitcast` and the barriers, over the 55 types that are no
+//! drawn by a seed from every operator but unary `&` and `*`, and from every builtin of document 01 but `bitcast` and the barriers, over the 55 types that are no
 //! array and no pointer; calls of three and four operands over the 28 plain ones.
 
 use crate::case::{Answer, Case, Operation};

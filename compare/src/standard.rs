@@ -1,11 +1,11 @@
-//! Document 01, and of document 02 the subgroup and quad calls and the marks of operands, read as plainly as can be: every overload of every row is listed, and a call
-//! is judged by a search through them all. A call is one of profile 1, which has every name.
+//! Document 01, and of document 02 the subgroup and quad calls, the marks of operands and the calls on memory, read as plainly as can be: every overload of every row is
+//! listed, and a call is judged by a search through them all; workgroupUniformLoad, which has too many, by its rule. A call is one of profile 1, which has every name.
 //!
 //! It shares no line with the crate's files, with their stand-ins or with Swartabelk. It is slow, and a third opinion.
 
 use crate::case::{Answer, Argument, Case, Operation};
 use crate::types::Scalar::{self, *};
-use crate::types::{Space, WType};
+use crate::types::{Access, Space, WType};
 use rows::{binary, ruled, scalar, unary};
 use std::collections::HashMap;
 
@@ -25,7 +25,7 @@ pub mod refusal {
     pub const RUNNING_ABSTRACT: u32 = 14;
 }
 
-/// The 94 builtin names of profile 0, sorted by their bytes.
+/// The 94 builtin names of document 01, sorted by their bytes.
 #[rustfmt::skip]
 pub const NAMES: [&str; 94] = [
     "abs", "acos", "acosh", "all", "any", "arrayLength", "asin", "asinh", "atan", "atan2", "atanh", "bitcast", "ceil", "clamp", "cos", "cosh",
@@ -39,6 +39,13 @@ pub const NAMES: [&str; 94] = [
     "unpack4x8unorm", "unpack4xI8", "unpack4xU8", "workgroupBarrier",
 ];
 
+/// The 12 calls on memory, sorted likewise; with them profile 0 has 106 names.
+#[rustfmt::skip]
+pub const MEMORY_NAMES: [&str; 12] = [
+    "atomicAdd", "atomicAnd", "atomicCompareExchangeWeak", "atomicExchange", "atomicLoad", "atomicMax", "atomicMin", "atomicOr", "atomicStore",
+    "atomicSub", "atomicXor", "workgroupUniformLoad",
+];
+
 /// The 25 that profile 1 adds, sorted likewise.
 #[rustfmt::skip]
 pub const SUBGROUP_NAMES: [&str; 25] = [
@@ -48,19 +55,20 @@ pub const SUBGROUP_NAMES: [&str; 25] = [
     "subgroupShuffleUp", "subgroupShuffleXor", "subgroupXor",
 ];
 
-/// Every name of profile 1: the 94, then the 25.
+/// Every name of profile 1: the 94, the 12, then the 25.
 pub fn names() -> impl Iterator<Item = &'static str> {
-    NAMES.into_iter().chain(SUBGROUP_NAMES)
+    NAMES.into_iter().chain(MEMORY_NAMES).chain(SUBGROUP_NAMES)
 }
 
 /// Whether profile 0 has a name.
 pub fn in_base(name: &str) -> bool {
-    NAMES.binary_search(&name).is_ok()
+    NAMES.binary_search(&name).is_ok() || MEMORY_NAMES.contains(&name)
 }
 
 /// Whether the value of a call is running even where all operands are const.
 pub fn runs_anyway(name: &str) -> bool {
-    name == "arrayLength" || DERIVATIVES.contains(&name) || SUBGROUP_NAMES.contains(&name)
+    let lists = [&DERIVATIVES[..], &SUBGROUP_NAMES, &MEMORY_NAMES];
+    name == "arrayLength" || lists.iter().any(|list| list.contains(&name))
 }
 
 /// One overload: the parameters and the result.
@@ -227,11 +235,34 @@ impl Standard {
         if !wanted {
             return Answer::Refused(refusal::TEMPLATE);
         }
-        if overloads.is_empty() {
-            crate_rule(name, case)
-        } else {
-            resolve(overloads, case)
+        match name {
+            "workgroupUniformLoad" => uniform_load(case),
+            "atomicStore" => match resolve(overloads, case) {
+                Answer::Type(_) => Answer::NoValue,
+                refused => refused,
+            },
+            _ if overloads.is_empty() => crate_rule(name, case),
+            _ => resolve(overloads, case),
         }
+    }
+}
+
+/// Document 02: "takes a workgroup pointer with read_write access and gives the component of an atomic, else the element, which is no kind 10 and holds no atomic".
+fn uniform_load(case: &Case) -> Answer {
+    let [operand] = case.operands else {
+        return Answer::Refused(refusal::OPERANDS);
+    };
+    if let Some(refused) = offended(case) {
+        return refused;
+    }
+    match operand {
+        WType::Pointer(Space::Workgroup, elem, Access::ReadWrite) => match &**elem {
+            WType::Atomic(of) => Answer::Type(scalar(*of)),
+            WType::Array(_, None) => Answer::Refused(refusal::NONE_FITS),
+            elem if elem.holds_atomic() => Answer::Refused(refusal::NONE_FITS),
+            elem => Answer::Type(elem.clone()),
+        },
+        _ => Answer::Refused(refusal::NONE_FITS),
     }
 }
 
@@ -327,11 +358,11 @@ fn array(list: &[Argument]) -> Answer {
 #[cfg(test)]
 mod tests {
     use super::*;
-    use crate::domain::simples;
+    use crate::domain::{on_memory, simples};
 
     fn named(name: &str) -> WType {
-        let found = simples().into_iter().find(|ty| ty.to_string() == name);
-        found.unwrap()
+        let mut all = simples().into_iter().chain(on_memory());
+        all.find(|ty| ty.to_string() == name).unwrap()
     }
 
     /// An operator, its operands and the answer, as the sixteen cases of document 01 have them.
@@ -397,13 +428,54 @@ mod tests {
     }
 
     #[test]
-    fn names_are_sorted_and_all_but_six_are_ruled() {
-        for list in [&NAMES[..], &SUBGROUP_NAMES] {
+    fn calls_on_memory() {
+        fn call(name: &'static str, operands: &[&str], answer: &str) {
+            check(Operation::Call(name), operands, answer);
+        }
+        let counter = "ptr<storage,atomic<u32>,read_write>";
+        let shared = "ptr<workgroup,atomic<i32>,read_write>";
+        call("atomicLoad", &[counter], "u32");
+        call("atomicAdd", &[shared, "AbstractInt"], "i32");
+        call("atomicStore", &[counter, "u32"], "no value");
+        call("atomicStore", &[counter], "refused 7");
+        call("atomicStore", &[counter, "i32"], "refused 8");
+        let exchanged = "__atomic_compare_exchange_result<u32>";
+        call(
+            "atomicCompareExchangeWeak",
+            &[counter, "u32", "AbstractInt"],
+            exchanged,
+        );
+        call(
+            "atomicMax",
+            &["ptr<storage,atomic<u32>,read>", "u32"],
+            "refused 8",
+        );
+        call(
+            "atomicMax",
+            &["ptr<private,atomic<u32>,read_write>", "u32"],
+            "refused 8",
+        );
+        let load = |operand: &str, answer: &str| call("workgroupUniformLoad", &[operand], answer);
+        load(shared, "i32");
+        load(counter, "refused 8");
+        load("ptr<workgroup,array<f32,4>,read_write>", "array<f32,4>");
+        load("ptr<workgroup,array<f32>,read_write>", "refused 8");
+        load(
+            "ptr<workgroup,array<atomic<i32>,4>,read_write>",
+            "refused 8",
+        );
+        load("ptr<workgroup,f32,read>", "refused 8");
+    }
+
+    #[test]
+    fn names_are_sorted_and_all_but_seven_are_listed() {
+        for list in [&NAMES[..], &MEMORY_NAMES, &SUBGROUP_NAMES] {
             assert!(list.is_sorted_by(|a, b| a.as_bytes() < b.as_bytes()));
         }
         assert!(SUBGROUP_NAMES.iter().all(|name| !in_base(name)));
+        assert!(MEMORY_NAMES.iter().all(|name| in_base(name)));
         let ruled_names = names().filter(|name| !ruled(name).is_empty());
-        assert_eq!(ruled_names.count(), 88 + 25);
+        assert_eq!(ruled_names.count(), 88 + 11 + 25);
     }
 
     #[test]

@@ -75,6 +75,13 @@ impl Space {
             Space::Handle => "handle",
         }
     }
+    /// The access of a pointer that names none.
+    fn usual_access(self) -> Access {
+        match self {
+            Space::Function | Space::Private | Space::Workgroup => Access::ReadWrite,
+            Space::Uniform | Space::Storage | Space::Handle => Access::Read,
+        }
+    }
 }
 
 /// Access modes, in document 01's order.
@@ -113,6 +120,8 @@ pub enum WType {
     Frexp(Box<WType>),
     /// The result of modf, by the type of `fract`.
     Modf(Box<WType>),
+    /// The result of atomicCompareExchangeWeak, by the type of `old_value`.
+    Exchange(Scalar),
     /// A type of the crate for which document 01 has no row.
     Foreign(String),
 }
@@ -124,6 +133,43 @@ impl WType {
             WType::Scalar(of)
         } else {
             WType::Vector(width, of)
+        }
+    }
+    /// The type of a spelling, in which a pointer may lack its access: that is WGSL's of its space then. None where it is none of these.
+    pub fn read(spelling: &str) -> Option<WType> {
+        let scalar = |name: &str| SCALARS.into_iter().find(|of| of.name() == name);
+        if let Some(of) = scalar(spelling) {
+            return Some(WType::Scalar(of));
+        }
+        let (head, inside) = spelling.strip_suffix('>')?.split_once('<')?;
+        let size = |digit: &str| digit.parse().ok().filter(|n| WIDTHS.contains(n));
+        match head {
+            "array" => {
+                let counted = inside.rsplit_once(',');
+                let count = counted.and_then(|(elem, n)| Some((elem, n.parse().ok()?)));
+                let (elem, count) = match count {
+                    Some((elem, n)) => (elem, Some(n)),
+                    None => (inside, None),
+                };
+                Some(WType::Array(Box::new(WType::read(elem)?), count))
+            }
+            "atomic" => scalar(inside).map(WType::Atomic),
+            "__atomic_compare_exchange_result" => scalar(inside).map(WType::Exchange),
+            "ptr" => {
+                let (space, rest) = inside.split_once(',')?;
+                let space = SPACES.into_iter().find(|one| one.name() == space)?;
+                let named = rest.rsplit_once(',').and_then(|(elem, access)| {
+                    let access = ACCESSES.into_iter().find(|one| one.name() == access)?;
+                    Some((elem, access))
+                });
+                let (elem, access) = named.unwrap_or((rest, space.usual_access()));
+                Some(WType::Pointer(space, Box::new(WType::read(elem)?), access))
+            }
+            _ if head.starts_with("vec") => Some(WType::Vector(size(&head[3..])?, scalar(inside)?)),
+            _ => {
+                let (columns, rows) = head.strip_prefix("mat")?.split_once('x')?;
+                Some(WType::Matrix(size(columns)?, size(rows)?, scalar(inside)?))
+            }
         }
     }
     /// Width and component of a scalar or vector.
@@ -139,6 +185,14 @@ impl WType {
         match self {
             WType::Scalar(of) | WType::Vector(_, of) | WType::Matrix(_, _, of) => of.is_abstract(),
             WType::Array(elem, _) | WType::Frexp(elem) | WType::Modf(elem) => elem.is_abstract(),
+            _ => false,
+        }
+    }
+    /// Whether an atomic stands in it, at any depth.
+    pub fn holds_atomic(&self) -> bool {
+        match self {
+            WType::Atomic(_) => true,
+            WType::Array(elem, _) => elem.holds_atomic(),
             _ => false,
         }
     }
@@ -181,7 +235,34 @@ impl fmt::Display for WType {
             }
             WType::Frexp(fract) => write!(f, "__frexp_result_{}", result_name(fract)),
             WType::Modf(fract) => write!(f, "__modf_result_{}", result_name(fract)),
+            WType::Exchange(of) => write!(f, "__atomic_compare_exchange_result<{}>", of.name()),
             WType::Foreign(name) => write!(f, "foreign:{name}"),
+        }
+    }
+}
+
+#[cfg(test)]
+mod tests {
+    use super::*;
+    use crate::domain::{on_memory, whole};
+
+    #[test]
+    fn every_spelling_is_read() {
+        for ty in whole().iter().chain(&on_memory()) {
+            assert_eq!(WType::read(&ty.to_string()).as_ref(), Some(ty));
+        }
+        let unnamed = WType::read("ptr<workgroup,atomic<i32>>").unwrap();
+        assert_eq!(unnamed.to_string(), "ptr<workgroup,atomic<i32>,read_write>");
+        for none in [
+            "St",
+            "f64",
+            "vec5<f32>",
+            "vec<f32>",
+            "array<>",
+            "ptr<storage>",
+            "mat2<f32>",
+        ] {
+            assert_eq!(WType::read(none), None, "{none}");
         }
     }
 }

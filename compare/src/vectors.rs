@@ -77,10 +77,9 @@ pub fn check(files: &[String]) -> bool {
     held.wrong == 0 && unread == 0
 }
 
-/// Holds every row of the files to them: refused ones are listed as `refused`. A `*` behind an operand marks one that is known only when running. Rows of the crate
-/// rules are left out. True where all agree.
+/// Holds every row of the files to them: refused ones are listed as `refused`, and those without value as `none`. A `*` behind an operand marks one that is known only when
+/// running; what stands behind one in parentheses is a remark. Rows of the crate rules are left out, and those with a type that no table holds. True where all agree.
 pub fn check_listed(files: &[String]) -> bool {
-    let types = simples();
     let mut held = Held {
         standard: Standard::default(),
         rows: 0,
@@ -88,20 +87,23 @@ pub fn check_listed(files: &[String]) -> bool {
         wrong: 0,
         listed: HashMap::new(),
     };
-    let mut left_out = 0;
+    let (mut left_out, mut foreign) = (0, 0);
     for [sign, operands, result] in rows(files) {
         if NOT_RULED.contains(&&sign[..]) {
             left_out += 1;
             continue;
         }
+        let operands = without_remarks(&operands);
         let operands: Vec<&str> = operands.split_whitespace().collect();
-        let operand = |spelled: &&str| {
-            let spelled = spelled.trim_end_matches('*');
-            let found = types.iter().find(|ty| ty.to_string() == spelled);
-            found.unwrap_or_else(|| panic!("no type: {spelled}"))
-        };
         let running: Vec<bool> = operands.iter().map(|word| word.ends_with('*')).collect();
-        let types: Vec<&WType> = operands.iter().map(operand).collect();
+        let read = operands
+            .iter()
+            .map(|word| WType::read(word.trim_end_matches('*')));
+        let Some(types) = read.collect::<Option<Vec<WType>>>() else {
+            foreign += 1;
+            continue;
+        };
+        let types: Vec<&WType> = types.iter().collect();
         let expected = Some(result).filter(|result| result != "refused");
         held.hold(
             operation(&sign, operands.len()),
@@ -112,10 +114,20 @@ pub fn check_listed(files: &[String]) -> bool {
         );
     }
     println!(
-        "{} rows, {} accepted, {} wrong; {left_out} of crate rules left out",
+        "{} rows, {} accepted, {} wrong; {left_out} of crate rules left out, {foreign} of types that no table holds",
         held.rows, held.accepted, held.wrong
     );
     held.wrong == 0
+}
+
+/// The operands without what stands in parentheses: how the compiler was given one.
+fn without_remarks(operands: &str) -> String {
+    let parts = operands.split('(').enumerate();
+    let kept = parts.map(|(i, part)| match part.split_once(')') {
+        Some((_, after)) if i > 0 => after,
+        _ => part,
+    });
+    kept.collect()
 }
 
 /// The operator of that sign, or the builtin of that name.
@@ -166,6 +178,7 @@ impl Held {
         let mut hold = |whose: &str, answer: Answer| {
             let as_listed = match (&answer, &expected) {
                 (Answer::Type(ty), Some(listed)) => ty.to_string() == *listed,
+                (Answer::NoValue, Some(listed)) => listed == "none",
                 (Answer::Refused(number), None) => refusals.contains(number),
                 _ => false,
             };

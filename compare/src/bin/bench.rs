@@ -14,7 +14,7 @@ use compare::ours::table::Table;
 use compare::sheets::{
     PATTERNS, Pattern, Sheet, all_names, kinds, table_with, two_in_turn, type_sheet,
 };
-use compare::standard::{NAMES, Standard, names};
+use compare::standard::{NAMES, SUBGROUP_NAMES, Standard};
 use compare::ty::Type;
 use compare::types::WType;
 use std::hint::black_box;
@@ -306,7 +306,7 @@ fn searches() {
         let what = format!("{calls} calls of `{name}`, {place}");
         line(&what, 7, calls as f64, both(&mut rust, ours));
     }
-    let all: Vec<&'static str> = names().collect();
+    let all = [&NAMES[..], &SUBGROUP_NAMES].concat();
     for (profile, names) in [(BASE, &NAMES[..]), (SUBGROUPS, &all)] {
         let (mut table, rust_table, sheets, calls) = all_names(names);
         let bytes: Vec<Vec<u8>> = sheets.iter().map(Sheet::bytes).collect();

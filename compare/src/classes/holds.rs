@@ -1,10 +1,11 @@
 //! When a class holds: the question, the crate's answer and ours, each tested. In the order of the list.
 
-use super::{LEFT_OUT, Seen};
+use super::Seen;
 use crate::case::{Answer, Argument, Case, Operation};
-use crate::standard::{DERIVATIVES, FLOAT_ONE, common, refusal};
+use crate::standard::{DERIVATIVES, FLOAT_ONE, MEMORY_NAMES, common, rank, refusal};
 use crate::types::Scalar::{self, *};
-use crate::types::WType::{self, Array, Matrix, Vector};
+use crate::types::WType::{self, Array, Matrix, Pointer, Vector};
+use crate::types::{Access, Space};
 use Operation::{Binary, Call, Template, Unary};
 
 /// The crate gave this type.
@@ -393,13 +394,79 @@ pub fn array_element(seen: &Seen) -> bool {
     }
 }
 
-pub fn left_out_name(seen: &Seen) -> bool {
-    match seen.case.operation {
-        Call(name) => {
-            LEFT_OUT.contains(&name)
-                && matches!(seen.rust, Answer::Type(_))
-                && *seen.ours == Answer::Refused(refusal::UNKNOWN)
+/// What the crate gives for a call on an atomic of that component, whatever the values are.
+fn crate_atomic(name: &str, of: Scalar) -> Answer {
+    match name {
+        "atomicStore" => Answer::NoValue,
+        "atomicCompareExchangeWeak" => Answer::Type(WType::Exchange(of)),
+        _ => Answer::Type(WType::Scalar(of)),
+    }
+}
+
+/// A call on an atomic that the crate takes and we refuse because it does not fit: whether its pointer is one that the standard takes, the component, and the values.
+fn unfit_atomic<'a>(seen: &'a Seen) -> Option<(bool, Scalar, &'a [&'a WType])> {
+    let (Call(name), [Pointer(space, elem, access), values @ ..]) =
+        (seen.case.operation, seen.case.operands)
+    else {
+        return None;
+    };
+    let WType::Atomic(of) = **elem else {
+        return None;
+    };
+    let shared = matches!(space, Space::Storage | Space::Workgroup) && *access == Access::ReadWrite;
+    let atomic = name.starts_with("atomic") && MEMORY_NAMES.contains(&name);
+    (atomic && *seen.rust == crate_atomic(name, of) && unfit(seen.ours))
+        .then_some((shared, of, values))
+}
+
+pub fn atomic_any_pointer(seen: &Seen) -> bool {
+    unfit_atomic(seen).is_some_and(|(shared, _, _)| !shared)
+}
+
+pub fn atomic_any_value(seen: &Seen) -> bool {
+    unfit_atomic(seen).is_some_and(|(shared, of, values)| {
+        let component = WType::Scalar(of);
+        shared && values.iter().any(|ty| rank(ty, &component).is_none())
+    })
+}
+
+pub fn atomic_store_count(seen: &Seen) -> bool {
+    match (seen.case.operation, seen.case.operands) {
+        (Call("atomicStore"), [Pointer(_, elem, _), values @ ..]) => {
+            matches!(**elem, WType::Atomic(_))
+                && values.len() != 1
+                && *seen.rust == Answer::NoValue
+                && *seen.ours == Answer::Refused(refusal::OPERANDS)
         }
+        _ => false,
+    }
+}
+
+/// What a workgroup pointer of workgroupUniformLoad points to, and its access, where the crate gives that.
+fn loaded<'a>(seen: &'a Seen) -> Option<(&'a WType, Access)> {
+    match (seen.case.operation, seen.case.operands) {
+        (Call("workgroupUniformLoad"), [Pointer(Space::Workgroup, elem, access)]) => {
+            gave(seen.rust, (**elem).clone()).then_some((&**elem, *access))
+        }
+        _ => None,
+    }
+}
+
+pub fn uniform_load_access(seen: &Seen) -> bool {
+    loaded(seen).is_some_and(|(_, access)| access != Access::ReadWrite) && unfit(seen.ours)
+}
+
+pub fn uniform_load_element(seen: &Seen) -> bool {
+    loaded(seen).is_some_and(|(elem, access)| {
+        let array = matches!(elem, Array(..));
+        let refused = matches!(elem, Array(_, None)) || elem.holds_atomic();
+        access == Access::ReadWrite && array && refused && unfit(seen.ours)
+    })
+}
+
+pub fn uniform_load_atomic(seen: &Seen) -> bool {
+    match loaded(seen) {
+        Some((WType::Atomic(of), Access::ReadWrite)) => gave(seen.ours, WType::Scalar(*of)),
         _ => false,
     }
 }

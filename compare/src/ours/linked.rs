@@ -34,6 +34,15 @@ pub struct Spelled {
 
 unsafe extern "C" {
     pub fn swartabelk_check(words: *const u32, words_len: usize, used: u32) -> Reply;
+    pub fn swartabelk_enter(
+        words: *mut u32,
+        words_len: usize,
+        used: u32,
+        kind: u32,
+        p: u32,
+        q: u32,
+        elem: u32,
+    ) -> Reply;
     pub fn swartabelk_unary(words: *mut u32, words_len: usize, used: u32, op: u32, a: u32)
     -> Reply;
     pub fn swartabelk_binary(
@@ -81,6 +90,12 @@ unsafe extern "C" {
         out: *mut u8,
         out_len: usize,
     ) -> Spelled;
+}
+
+pub fn enter(table: &mut Table, [kind, p, q, elem]: [u32; 4]) -> Reply {
+    let (words, len) = (table.words.as_mut_ptr(), table.words.len());
+    // SAFETY: the words are lent for the call, with their length.
+    unsafe { swartabelk_enter(words, len, table.used, kind, p, q, elem) }
 }
 
 pub fn unary(table: &mut Table, op: u32, a: u32) -> Reply {
@@ -294,4 +309,32 @@ fn read(before: &Table, table: &mut Table, reply: Reply) -> Result<Answer, Strin
         return Err(format!("{ty} was spelled {spelled:?}"));
     }
     Ok(Answer::Type(ty))
+}
+
+#[cfg(test)]
+mod tests {
+    use super::*;
+    use crate::domain::{on_memory, references, whole};
+
+    /// Entry by entry the library enters each type as `Table` does, and finds it again.
+    #[test]
+    fn every_type_is_entered() {
+        for ty in whole().iter().chain(&references()).chain(&on_memory()) {
+            let mut wanted = Table::new(ENTRIES);
+            let number = wanted.number(ty);
+            let mut table = Table::new(ENTRIES);
+            for (i, again) in (7..wanted.used).flat_map(|i| [(i, false), (i, true)]) {
+                let reply = enter(&mut table, wanted.entry(i));
+                let told = [reply.refusal, reply.ty, reply.mark, reply.place, reply.used];
+                assert_eq!(
+                    (told, reply.lacking),
+                    ([0, i, 0, 0, i + 1], 0),
+                    "{ty} {again}"
+                );
+                table.used = reply.used;
+            }
+            assert_eq!(table.words, wanted.words, "{ty}");
+            assert_eq!(table.read(number).as_ref(), Ok(ty));
+        }
+    }
 }

@@ -13,6 +13,7 @@ pub mod kind {
     pub const REFERENCE: u32 = 13;
     pub const FREXP: u32 = 14;
     pub const MODF: u32 = 15;
+    pub const EXCHANGE: u32 = 16;
 }
 
 /// Entries enough for any case, its result included.
@@ -47,7 +48,7 @@ impl Table {
     }
 
     /// An entry by its four words.
-    fn entry(&self, number: u32) -> [u32; 4] {
+    pub fn entry(&self, number: u32) -> [u32; 4] {
         let at = 4 * number as usize;
         [0, 1, 2, 3].map(|i| self.words[at + i])
     }
@@ -85,6 +86,7 @@ impl Table {
             }
             WType::Frexp(fract) => [kind::FREXP, 0, 0, self.number(fract)],
             WType::Modf(fract) => [kind::MODF, 0, 0, self.number(fract)],
+            WType::Exchange(of) => [kind::EXCHANGE, 0, 0, *of as u32],
             WType::Foreign(name) => panic!("no entry for {name}"),
         };
         self.add(entry)
@@ -123,6 +125,7 @@ impl Table {
             kind::REFERENCE => Ok(WType::Reference(space()?, below()?, access()?)),
             kind::FREXP if [p, q] == [0, 0] => Ok(WType::Frexp(below()?)),
             kind::MODF if [p, q] == [0, 0] => Ok(WType::Modf(below()?)),
+            kind::EXCHANGE if [p, q] == [0, 0] => Ok(WType::Exchange(scalar(elem)?)),
             _ => Err(wrong()),
         }
     }
@@ -131,11 +134,11 @@ impl Table {
 #[cfg(test)]
 mod tests {
     use super::*;
-    use crate::domain::{references, whole};
+    use crate::domain::{on_memory, references, whole};
 
     #[test]
     fn every_type_comes_back() {
-        for ty in whole().iter().chain(&references()) {
+        for ty in whole().iter().chain(&references()).chain(&on_memory()) {
             let mut table = Table::new(ENTRIES);
             let number = table.number(ty);
             assert_eq!(table.read(number).as_ref(), Ok(ty));

@@ -2,7 +2,7 @@
 
 use super::{Overload, overload};
 use crate::types::Scalar::{self, *};
-use crate::types::{FLOATS, INTEGERS, NUMERICS, SCALARS, WIDTHS, WType};
+use crate::types::{Access, FLOATS, INTEGERS, NUMERICS, SCALARS, Space, WIDTHS, WType};
 
 /// "wide float T to T, 26".
 #[rustfmt::skip]
@@ -67,6 +67,20 @@ fn with_lane(set: &[Scalar]) -> Vec<Overload> {
             set.iter()
                 .map(|&lane| overload(&[ty.clone(), scalar(lane)], ty.clone())),
         );
+    }
+    list
+}
+
+/// A read_write pointer to an atomic, in storage or in workgroup, and behind it so many values of the component.
+fn on_atomics(values: usize, result: impl Fn(Scalar) -> WType) -> Vec<Overload> {
+    let mut list = Vec::new();
+    for space in [Space::Storage, Space::Workgroup] {
+        for of in [I32, U32] {
+            let atomic = Box::new(WType::Atomic(of));
+            let pointer = WType::Pointer(space, atomic, Access::ReadWrite);
+            let parameters = [vec![pointer], vec![scalar(of); values]].concat();
+            list.push(overload(&parameters, result(of)));
+        }
     }
     list
 }
@@ -256,6 +270,11 @@ pub fn ruled(name: &str) -> Vec<Overload> {
             }
             list
         }
+        "atomicLoad" => on_atomics(0, scalar),
+        // The result of atomicStore is left out by its caller.
+        "atomicAdd" | "atomicSub" | "atomicMax" | "atomicMin" | "atomicAnd" | "atomicOr"
+        | "atomicXor" | "atomicExchange" | "atomicStore" => on_atomics(1, scalar),
+        "atomicCompareExchangeWeak" => on_atomics(2, WType::Exchange),
         name if SUBGROUP_ONE.contains(&name) => same(wide(&CONCRETES), 1),
         "subgroupAnd" | "subgroupOr" | "subgroupXor" => same(wide(&[I32, U32]), 1),
         "subgroupAll" | "subgroupAny" => to(scalar(Bool), scalar(Bool)),
