@@ -95,10 +95,17 @@ static const struct {
     size_t values;
     gives given;
 } atomics[] = {
-    {"atomicAdd", 1, COMPONENT}, {"atomicAnd", 1, COMPONENT}, {"atomicCompareExchangeWeak", 2, COMPARED},
-    {"atomicExchange", 1, COMPONENT}, {"atomicLoad", 0, COMPONENT}, {"atomicMax", 1, COMPONENT},
-    {"atomicMin", 1, COMPONENT}, {"atomicOr", 1, COMPONENT}, {"atomicStore", 1, NOTHING},
-    {"atomicSub", 1, COMPONENT}, {"atomicXor", 1, COMPONENT},
+    {"atomicAdd", 1, COMPONENT},
+    {"atomicAnd", 1, COMPONENT},
+    {"atomicCompareExchangeWeak", 2, COMPARED},
+    {"atomicExchange", 1, COMPONENT},
+    {"atomicLoad", 0, COMPONENT},
+    {"atomicMax", 1, COMPONENT},
+    {"atomicMin", 1, COMPONENT},
+    {"atomicOr", 1, COMPONENT},
+    {"atomicStore", 1, NOTHING},
+    {"atomicSub", 1, COMPONENT},
+    {"atomicXor", 1, COMPONENT},
 };
 
 #define ATOMICS (sizeof atomics / sizeof *atomics)
@@ -125,8 +132,10 @@ static int refuses(swartabelk_reply r, uint32_t refusal) { return is(r, refusal,
 
 /* The pointers that these calls take, with the component of each; those that they do not; and types that are no pointers. */
 static const uint32_t taken[][2] = {{STORAGE_I32, I32}, {STORAGE_U32, U32}, {WORKGROUP_I32, I32}, {WORKGROUP_U32, U32}};
-static const uint32_t wrong_pointers[] = {STORAGE_READ,   STORAGE_WRITE, WORKGROUP_READ, WORKGROUP_WRITE, IN_FUNCTION, IN_PRIVATE,  IN_UNIFORM,
-                                          STORAGE_PLAIN, WORKGROUP_PLAIN, TO_ATOMICS,    TO_RUNTIME_ATOMICS, TO_EXCHANGE, ATOMIC_U32, U32, BOOL};
+static const uint32_t wrong_pointers[] = {
+    STORAGE_READ, STORAGE_WRITE, WORKGROUP_READ, WORKGROUP_WRITE, IN_FUNCTION, IN_PRIVATE, IN_UNIFORM, STORAGE_PLAIN,
+    WORKGROUP_PLAIN, TO_ATOMICS, TO_RUNTIME_ATOMICS, TO_EXCHANGE, ATOMIC_U32, U32, BOOL,
+};
 
 /* Types of values that do not convert to u32. */
 static const uint32_t wrong_values[] = {BOOL, ABSTRACT_FLOAT, I32, F32, F16, VEC2_U32, VEC2_ABSTRACT_INT, ATOMIC_U32, STORAGE_U32, EXCHANGE_U32, ARRAY_F32};
@@ -162,7 +171,7 @@ static void on_atomics(size_t i) {
         HOLDS(refuses(call(name, 0, no_types, 1 + values, args), 8));
         args[at] = REF_ATOMIC;
         HOLDS(refuses(call(name, 0, no_types, 1 + values, args), 3));
-        /* 14 comes before 8: what is abstract does not convert when it is running, and what would not convert anyway is not asked. */
+        /* 14 comes after 3 and before 8, whatever else is wrong with the operands. */
         args[at] = RUNNING(ABSTRACT_INT);
         HOLDS(refuses(call(name, 0, no_types, 1 + values, args), 14));
         args[at] = RUNNING(VEC2_ABSTRACT_INT);
@@ -188,10 +197,14 @@ static void on_atomics(size_t i) {
 
 /* workgroupUniformLoad in a profile. */
 static void uniform_load(void) {
-    static const uint32_t loads[][2] = {{WORKGROUP_I32, I32}, {WORKGROUP_U32, U32}, {WORKGROUP_PLAIN, U32},
-                                        {TO_VEC, VEC2_U32}, {TO_ARRAY, ARRAY_F32}, {TO_EXCHANGE, EXCHANGE_I32}, {TO_EXCHANGES, ARRAY_OF_EXCHANGES}};
-    static const uint32_t wrong[] = {TO_RUNTIME, TO_ATOMICS, TO_ARRAYS_OF_ATOMICS, TO_RUNTIME_ATOMICS, WORKGROUP_READ, WORKGROUP_WRITE, WORKGROUP_VEC_READ,
-                                     STORAGE_U32, STORAGE_PLAIN, STORAGE_VEC, IN_FUNCTION, IN_PRIVATE, IN_UNIFORM, ATOMIC_U32, U32, VEC2_U32};
+    static const uint32_t loads[][2] = {
+        {WORKGROUP_I32, I32}, {WORKGROUP_U32, U32}, {WORKGROUP_PLAIN, U32}, {TO_VEC, VEC2_U32}, {TO_ARRAY, ARRAY_F32}, {TO_EXCHANGE, EXCHANGE_I32},
+        {TO_EXCHANGES, ARRAY_OF_EXCHANGES},
+    };
+    static const uint32_t wrong[] = {
+        TO_RUNTIME, TO_ATOMICS, TO_ARRAYS_OF_ATOMICS, TO_RUNTIME_ATOMICS, WORKGROUP_READ, WORKGROUP_WRITE, WORKGROUP_VEC_READ, STORAGE_U32,
+        STORAGE_PLAIN, STORAGE_VEC, IN_FUNCTION, IN_PRIVATE, IN_UNIFORM, ATOMIC_U32, U32, VEC2_U32,
+    };
     const char *name = "workgroupUniformLoad";
     about = name;
     for (size_t k = 0; k < LISTED(loads); k++) {
@@ -294,12 +307,25 @@ static swartabelk_reply enter(uint32_t kind, uint32_t p, uint32_t q, uint32_t el
 
 /* Entries of every kind above the scalars, each after those that it needs. */
 static const uint32_t right[][4] = {
-    {VEC, 3, 0, F32},           {MAT, 2, 4, F16},        {ARRAY, 0xFFFFFFFFu, 0, 7}, {RUNTIME, 0, 0, 9},           {ATOMIC, 0, 0, U32},
-    {PTR, STORAGE, READ_WRITE, 11}, {REF, HANDLE, READ, F32}, {FREXP, 0, 0, 7},       {MODF, 0, 0, ABSTRACT_FLOAT}, {EXCHANGE, 0, 0, I32},
-    {EXCHANGE, 0, 0, U32},      {ARRAY, 2, 0, 16},       {PTR, WORKGROUP, READ, 17}, {REF, FUNCTION, WRITE, 16},   {VEC, 2, 0, ABSTRACT_INT},
+    {VEC, 3, 0, F32},
+    {MAT, 2, 4, F16},
+    {ARRAY, 0xFFFFFFFFu, 0, 7},
+    {RUNTIME, 0, 0, 9},
+    {ATOMIC, 0, 0, U32},
+    {PTR, STORAGE, READ_WRITE, 11},
+    {REF, HANDLE, READ, F32},
+    {FREXP, 0, 0, 7},
+    {MODF, 0, 0, ABSTRACT_FLOAT},
+    {EXCHANGE, 0, 0, I32},
+    {EXCHANGE, 0, 0, U32},
+    {ARRAY, 2, 0, 16},
+    {PTR, WORKGROUP, READ, 17},
+    {REF, FUNCTION, WRITE, 16},
+    {VEC, 2, 0, ABSTRACT_INT},
 };
 
-/* Entries that break a rule, over the table that those make. 7 is a vector, 9 an array, 10 one without count, 12 a pointer, 13 a reference, 21 a vector of AbstractInt. */
+/* Entries that break a rule, over the table that those make. 7 is a vector, 9 an array, 10 one without count, 12 a pointer, 13 a reference, 21 a vector of
+   AbstractInt. */
 static const uint32_t broken[][4] = {
     /* A scalar's words. */
     {BOOL, 1, 0, 0}, {F32, 0, 1, 0}, {U32, 0, 0, 1}, {F16, 0, 0, 6},
@@ -308,15 +334,18 @@ static const uint32_t broken[][4] = {
     {ARRAY, 0, 0, F32}, {ARRAY, 4, 1, F32}, {ARRAY, 4, 0, 10}, {ARRAY, 4, 0, 12}, {ARRAY, 4, 0, 13},
     {RUNTIME, 1, 0, F32}, {RUNTIME, 0, 1, F32}, {RUNTIME, 0, 0, 10}, {RUNTIME, 0, 0, 12},
     {ATOMIC, 0, 0, F32}, {ATOMIC, 0, 0, BOOL}, {ATOMIC, 1, 0, U32}, {ATOMIC, 0, 1, U32}, {ATOMIC, 0, 0, 7},
-    {PTR, HANDLE, READ, F32}, {PTR, STORAGE, 3, F32}, {PTR, STORAGE, READ, ABSTRACT_INT}, {PTR, STORAGE, READ, 21}, {PTR, STORAGE, READ, 12}, {PTR, STORAGE, READ, 13},
+    {PTR, HANDLE, READ, F32}, {PTR, STORAGE, 3, F32}, {PTR, STORAGE, READ, ABSTRACT_INT},
+    {PTR, STORAGE, READ, 21}, {PTR, STORAGE, READ, 12}, {PTR, STORAGE, READ, 13},
     {REF, 6, READ, F32}, {REF, HANDLE, 3, F32}, {REF, HANDLE, READ, ABSTRACT_FLOAT}, {REF, HANDLE, READ, 13},
     {FREXP, 0, 0, I32}, {FREXP, 1, 0, F32}, {FREXP, 0, 1, F32}, {FREXP, 0, 0, 21},
     {MODF, 0, 0, U32}, {MODF, 1, 0, F32}, {MODF, 0, 0, 9},
-    {EXCHANGE, 0, 0, F32}, {EXCHANGE, 0, 0, BOOL}, {EXCHANGE, 0, 0, ABSTRACT_INT}, {EXCHANGE, 1, 0, I32}, {EXCHANGE, 0, 1, I32}, {EXCHANGE, 0, 0, 11}, {EXCHANGE, 0, 0, 16},
+    {EXCHANGE, 0, 0, F32}, {EXCHANGE, 0, 0, BOOL}, {EXCHANGE, 0, 0, ABSTRACT_INT}, {EXCHANGE, 1, 0, I32},
+    {EXCHANGE, 0, 1, I32}, {EXCHANGE, 0, 0, 11}, {EXCHANGE, 0, 0, 16},
     /* No kind. */
     {17, 0, 0, 0}, {17, 0, 0, I32}, {256 + VEC, 3, 0, F32}, {0xFFFFFFFFu, 0, 0, 0}, {RUNNING(BOOL), 0, 0, 0},
     /* An elem that is not below the count; the bit of a mark is part of it. */
-    {VEC, 3, 0, 22}, {RUNTIME, 0, 0, 22}, {RUNTIME, 0, 0, 0xFFFFFFFFu}, {EXCHANGE, 0, 0, RUNNING(I32)}, {ATOMIC, 0, 0, RUNNING(U32)}, {ARRAY, 4, 0, RUNNING(F32)},
+    {VEC, 3, 0, 22}, {RUNTIME, 0, 0, 22}, {RUNTIME, 0, 0, 0xFFFFFFFFu},
+    {EXCHANGE, 0, 0, RUNNING(I32)}, {ATOMIC, 0, 0, RUNNING(U32)}, {ARRAY, 4, 0, RUNNING(F32)},
 };
 
 static void entered(void) {
