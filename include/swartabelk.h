@@ -117,12 +117,13 @@ swartabelk_reply swartabelk_binary(uint32_t *words, size_t words_len, uint32_t u
  * Calls on memory are in both profiles, and a value of theirs is running. Those on atomics take first a read_write pointer in space storage or workgroup to an atomic,
  * then values that convert to its component:
  *
- *    atomicLoad                                                   no value; gives the component
- *    atomicAdd Sub Max Min And Or Xor, atomicExchange             one value; give the component
- *    atomicStore                                                  one value; gives none, as a barrier
- *    atomicCompareExchangeWeak                                    two values; gives the type of kind 16 with that component
- *    workgroupUniformLoad                                         takes a read_write pointer in space workgroup: to an atomic, and gives its component; or to any other
- *                                                                 type but an array without count and one that holds an atomic at any depth, and gives that type
+ *    atomicLoad                                          the pointer alone; gives the component
+ *    atomicAdd Sub Max Min And Or Xor, atomicExchange    one value; give the component
+ *    atomicStore                                         one value; has no value, as a barrier has none
+ *    atomicCompareExchangeWeak                           two values; gives the type of kind 16 over the component
+ *
+ * workgroupUniformLoad takes a read_write pointer in space workgroup. To an atomic it gives the component; to any other type it gives that type, which is no array
+ * without count and holds no atomic at any depth.
  *
  * An operand that breaks these rules is refused with 8. */
 swartabelk_reply swartabelk_call(uint32_t *words, size_t words_len, uint32_t used, uint32_t profile, const uint8_t *name, size_t name_len,
@@ -136,7 +137,8 @@ swartabelk_reply swartabelk_template(uint32_t *words, size_t words_len, uint32_t
 
 /* The type of a whole sheet, whose calls are those of the profile. Its first byte is its version. In version 1 every value is const, and no result keeps a mark: the
  * reply's is 0. In version 2 the payload of a push and of a take ends with a mark byte, 0 for const and 1 for running, and results keep the marks that calls give
- * them; any other mark byte is 10. A running value that is abstract may be pushed, taken, and left at the end: 14 is about operands. */
+ * them; any other mark byte is 10. A running value that is abstract may be pushed, taken, and left at the end: 14 is about operands. A call without value is the
+ * last item, and no value stands below it; else it is 11. */
 swartabelk_reply swartabelk_sheet(uint32_t *words, size_t words_len, uint32_t used, uint32_t profile, const uint8_t *sheet, size_t sheet_len);
 
 /* Writes the spelling of a type to the front of `out`. Later bytes stay unchanged, and all of them where it is refused. */
