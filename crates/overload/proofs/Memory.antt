@@ -1,4 +1,5 @@
--- Demand 3 for calls on atomics and for workgroupUniformLoad (document 02, K5), whose overloads are described: one for each pointer type that the rule takes. Assumes nothing.
+-- Demand 3 for calls on atomics, for workgroupUniformLoad (document 02, K5) and for arrayLength (K6), whose overloads are described: one for each pointer type that the rule takes.
+-- Assumes nothing.
 use Prim.Native.Nat.{ℕ, zero, suc, _<_}
 use native.Mathlib.Omega.{arith}
 use mathlib.Core.Path.{_≡_, refl, sym, _∙_, ap, subst}
@@ -7,7 +8,7 @@ use mathlib.Core.Bool.{Bool, true, false, _&&_, _||_, not, cond}
 use mathlib.Core.List.{List, [], _∷_}
 use lib.Dec.{T, eqb, leb}
 use borrow.Author.Tests.{eqb-true, lt-ltb}
-use Rattle.conv.specs.Types.{Ty, i32, u32, workgroup, storage, readWrite, isAbstract, abstractTy, isValue, isRuntime, holdsAtomic, formed}
+use Rattle.conv.specs.Types.{Ty, i32, u32, workgroup, storage, read, readWrite, isAbstract, abstractTy, isValue, isRuntime, holdsAtomic, formed}
 use Rattle.conv.specs.Types.Ty.{scalar, vec, mat, array, runtime, atomic, ptr, ref, frexp, modf, exchange}
 use Rattle.conv.specs.Rank.{both, Shape, shapeOf, componentOf, tagOf, isPointer, firstOf, secondOf, elementOf}
 use Rattle.conv.specs.Rank.Shape.{other}
@@ -15,7 +16,7 @@ use Rattle.conv.proofs.Made.{remake, remade}
 use Rattle.overload.specs.Overload.{Overload, or, fits, Judged, Resolved}
 use Rattle.overload.specs.Overload.Judged.{gives, noneFits, nonePreferred}
 use Rattle.overload.specs.Marks.{anyAbstract}
-use Rattle.overload.specs.Rows.{toAtomic, values, atomicOf, isAtomic, loadable, loaded, uniformLoadOf, takesAtomic, atomicIn, judgeAtomic, takesLoad, judgeLoad}
+use Rattle.overload.specs.Rows.{toAtomic, values, atomicOf, isAtomic, loadable, loaded, uniformLoadOf, toRuntime, arrayLengthOf, takesAtomic, atomicIn, judgeAtomic, takesLoad, judgeLoad, takesLength, judgeLength}
 use Rattle.overload.proofs.Operands.{and-left, and-right, allFormed}
 use Rattle.overload.proofs.Results.{T-true}
 use Rattle.overload.proofs.Described.{described, undescribed, described-none, described-never, nothingMore}
@@ -37,7 +38,7 @@ pair : (a b : Bool) → a ≡ true → b ≡ true → (a && b) ≡ true
 pair true b e h = h
 pair false b e h = e
 
--- A POINTER AND AN ATOMIC, from their tests
+-- A POINTER, AN ATOMIC AND AN ARRAY WITHOUT COUNT, from their tests
 
 pub pointer-is : (x : Ty) → isPointer x ≡ true → x ≡ ptr (firstOf x) (secondOf x) (elementOf x)
 unfolding remake
@@ -46,6 +47,20 @@ pointer-is x h = sym (remade x) ∙ ap (λ (k : ℕ). remake k (firstOf x) (seco
 pub atomic-is : (t : Ty) → isAtomic t ≡ true → t ≡ atomic (firstOf t)
 unfolding remake
 atomic-is t h = sym (remade t) ∙ ap (λ (k : ℕ). remake k (firstOf t) (secondOf t) (componentOf t) (elementOf t)) (eqb-true (tagOf t) 5 h)
+
+runtime-is : (t : Ty) → isRuntime t ≡ true → t ≡ runtime (elementOf t)
+unfolding isRuntime elementOf
+runtime-is (runtime t) h = refl
+runtime-is (scalar s) h = clash h refl
+runtime-is (vec n s) h = clash h refl
+runtime-is (mat c r s) h = clash h refl
+runtime-is (array k t) h = clash h refl
+runtime-is (atomic s) h = clash h refl
+runtime-is (ptr space access t) h = clash h refl
+runtime-is (ref space access t) h = clash h refl
+runtime-is (frexp t) h = clash h refl
+runtime-is (modf t) h = clash h refl
+runtime-is (exchange s) h = clash h refl
 
 -- the component of an atomic that there is
 
@@ -172,6 +187,23 @@ atomic-concrete k out o m h =
     let none : anyAbstract (toAtomic (m .0) (m .1) ∷ values k (m .1)) ≡ false = rw (i, values-concrete k (m .1) i) in
     subst T none (subst (λ (p : Overload). T (anyAbstract (p .params))) (m .4) h)
 
+-- ONE OPERAND, by a test that says of a type that there is whether the rule takes it
+module _ (set : Overload → Type 0) (takes : Ty → Type 0) (test : Ty → Bool) (out : Ty → Ty)
+    (each : (o : Overload) → set o → (x : Ty) × takes x × (shapeOf x ≡ other) × (o ≡ record { params = x ∷ []; result = out x }))
+    (all : (x : Ty) → takes x → set (record { params = x ∷ []; result = out x }))
+    (passed : (x : Ty) → formed x ≡ true → test x ≡ true → takes x) (passes : (x : Ty) → takes x → test x ≡ true) where
+  tested : (x : Ty) → formed x ≡ true → (a : Bool) → test x ≡ a → Resolved set (x ∷ []) (cond a (gives (out x)) noneFits)
+  unfolding fits
+  tested x f true e = described set takes nothingMore out each all x [] (passed x f e) tt
+  tested x f false e = undescribed set takes nothingMore out each all x [] (λ c t. clash (passes x c) e)
+
+-- and a pointer has no abstract type
+alone-concrete : (space access : ℕ) (t : Ty) (o : Overload) (out : Ty) → T (formed (ptr space access t)) → o ≡ record { params = ptr space access t ∷ []; result = out } → T (anyAbstract (o .params)) → ⊥
+unfolding anyAbstract abstractTy or
+alone-concrete space access t o out f e h =
+    let none : anyAbstract (ptr space access t ∷ []) ≡ false = rw (pointed-concrete space access t (T-true (formed (ptr space access t)) f)) in
+    subst T none (subst (λ (p : Overload). T (anyAbstract (p .params))) e h)
+
 -- WORKGROUPUNIFORMLOAD
 
 -- a pointer that it takes
@@ -203,14 +235,9 @@ all-load : (x : Ty) → Shared x → uniformLoadOf (record { params = x ∷ []; 
 unfolding elementOf
 all-load x c = (c .0, c .1, c .2, ap (λ (y : Ty). record { params = y ∷ []; result = loadedBy y }) (c .3))
 
-load-first : (x : Ty) → formed x ≡ true → (a : Bool) → takesLoad x ≡ a → Resolved uniformLoadOf (x ∷ []) (cond a (gives (loadedBy x)) noneFits)
-unfolding fits
-load-first x f true e = described uniformLoadOf Shared nothingMore loadedBy each-load all-load x [] (to-shared x f e) tt
-load-first x f false e = undescribed uniformLoadOf Shared nothingMore loadedBy each-load all-load x [] (λ c t. clash (of-shared x c) e)
-
 pub judge-load : (x : Ty) → formed x ≡ true → Resolved uniformLoadOf (x ∷ []) (judgeLoad x)
 unfolding judgeLoad
-judge-load x f = load-first x f (takesLoad x) refl
+judge-load x f = tested uniformLoadOf Shared takesLoad loadedBy each-load all-load to-shared of-shared x f (takesLoad x) refl
 
 pub load-never : (ts : List Ty) → Resolved uniformLoadOf ts nonePreferred → ⊥
 load-never = described-never uniformLoadOf Shared nothingMore loadedBy each-load all-load
@@ -234,7 +261,58 @@ unfolding judgeLoad
 load-formed x f R h = load-gives x f (takesLoad x) refl R h
 
 pub load-concrete : (o : Overload) → uniformLoadOf o → T (anyAbstract (o .params)) → ⊥
-unfolding anyAbstract abstractTy or
-load-concrete o m h =
-    let none : anyAbstract (ptr workgroup readWrite (m .0) ∷ []) ≡ false = rw (pointed-concrete workgroup readWrite (m .0) (T-true (formed (ptr workgroup readWrite (m .0))) (m .2))) in
-    subst T none (subst (λ (p : Overload). T (anyAbstract (p .params))) (m .3) h)
+load-concrete o m = alone-concrete workgroup readWrite (m .0) o (loaded (m .0)) (m .2) (m .3)
+
+-- ARRAYLENGTH
+
+-- a pointer that it takes
+abbrev Unsized : Ty → Type 0
+Unsized x = (access : ℕ) × (t : Ty) × ((access ≡ read) ⊎ (access ≡ readWrite)) × T (formed (toRuntime access t)) × (x ≡ toRuntime access t)
+
+abbrev lengthBy : Ty → Ty
+lengthBy x = scalar u32
+
+to-unsized : (x : Ty) → formed x ≡ true → takesLength x ≡ true → Unsized x
+to-unsized x f h =
+    let p = and-left (isPointer x && eqb (firstOf x) storage && (eqb (secondOf x) read || eqb (secondOf x) readWrite)) _ h in
+    let a = and-right (isPointer x && eqb (firstOf x) storage && (eqb (secondOf x) read || eqb (secondOf x) readWrite)) (isRuntime (elementOf x)) h in
+    let q = and-left (isPointer x && eqb (firstOf x) storage) _ p in
+    let w = and-right (isPointer x && eqb (firstOf x) storage) _ p in
+    let g = eqb-true (firstOf x) storage (and-right (isPointer x) _ q) in
+    let e : x ≡ toRuntime (secondOf x) (elementOf (elementOf x)) = pointer-is x (and-left (isPointer x) _ q) ∙ (λ i. ptr (g i) (secondOf x) (runtime-is (elementOf x) a i)) in (
+      secondOf x,
+      elementOf (elementOf x),
+      ⊎-elim (λ d. inl (eqb-true (secondOf x) read d)) (λ d. inr (eqb-true (secondOf x) readWrite d)) (either (eqb (secondOf x) read) (eqb (secondOf x) readWrite) w),
+      subst T (sym (ap formed (sym e) ∙ f)) tt,
+      e,
+    )
+
+of-unsized : (x : Ty) → Unsized x → takesLength x ≡ true
+unfolding tagOf firstOf secondOf elementOf isRuntime
+of-unsized x k = ap takesLength (k .4) ∙ ⊎-elim (λ e. rw e refl) (λ e. rw e refl) (k .2)
+
+each-length : (o : Overload) → arrayLengthOf o → (x : Ty) × Unsized x × (shapeOf x ≡ other) × (o ≡ record { params = x ∷ []; result = lengthBy x })
+unfolding shapeOf
+each-length o m = (toRuntime (m .0) (m .1), (m .0, m .1, m .2, m .3, refl), refl, m .4)
+
+all-length : (x : Ty) → Unsized x → arrayLengthOf (record { params = x ∷ []; result = lengthBy x })
+all-length x c = (c .0, c .1, c .2, c .3, ap (λ (y : Ty). record { params = y ∷ []; result = lengthBy y }) (c .4))
+
+pub judge-length : (x : Ty) → formed x ≡ true → Resolved arrayLengthOf (x ∷ []) (judgeLength x)
+unfolding judgeLength
+judge-length x f = tested arrayLengthOf Unsized takesLength lengthBy each-length all-length to-unsized of-unsized x f (takesLength x) refl
+
+pub length-never : (ts : List Ty) → Resolved arrayLengthOf ts nonePreferred → ⊥
+length-never = described-never arrayLengthOf Unsized nothingMore lengthBy each-length all-length
+
+-- u32 is a type that there is
+pub length-formed : (x : Ty) → formed x ≡ true → (R : Ty) → judgeLength x ≡ gives R → formed R ≡ true
+unfolding judgeLength formed
+length-formed x f R h = go (takesLength x) h
+  where
+    go : (a : Bool) → cond a (gives (scalar u32)) noneFits ≡ gives R → formed R ≡ true
+    go true e = ap formed (sym (inner e))
+    go false e = none-gives e
+
+pub length-concrete : (o : Overload) → arrayLengthOf o → T (anyAbstract (o .params)) → ⊥
+length-concrete o m = alone-concrete storage (m .0) (runtime (m .1)) o (scalar u32) (m .3) (m .4)

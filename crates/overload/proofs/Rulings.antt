@@ -16,14 +16,14 @@ use Rattle.conv.proofs.Finite.{both-right, below}
 use Rattle.overload.specs.Overload.{Overload, or, fits, Judged, Resolved}
 use Rattle.overload.specs.Marks.{anyAbstract, remains, remaining}
 use Rattle.overload.specs.Overload.Judged.{gives, noneFits, nonePreferred}
-use Rattle.overload.specs.Rows.{Row, rows, noRow, rowAt, overloadsOf, ofRow, addressOf, indirectionOf, atomicOf, uniformLoadOf, Ruling, overloadsBy, judgeRow, judgeAddress, judgeIndirection, judgeLoad, alone, judgeBy, Known}
-use Rattle.overload.specs.Rows.Ruling.{byRow, address, indirection, onAtomic, comparing, uniformLoad}
+use Rattle.overload.specs.Rows.{Row, rows, noRow, rowAt, overloadsOf, ofRow, addressOf, indirectionOf, atomicOf, uniformLoadOf, toRuntime, arrayLengthOf, Ruling, overloadsBy, judgeRow, judgeAddress, judgeIndirection, judgeLoad, judgeLength, alone, judgeBy, Known}
+use Rattle.overload.specs.Rows.Ruling.{byRow, address, indirection, onAtomic, comparing, uniformLoad, arrayLength}
 use Rattle.overload.proofs.Preference.{or-cases, same-resolved}
 use Rattle.overload.proofs.Marks.{sifted-resolved, left-never, concrete-remains}
 use Rattle.overload.proofs.Operands.{allFormed, and-left, and-right}
 use Rattle.overload.proofs.Results.{T-true, gives-formed}
 use Rattle.overload.proofs.Described.{judge-address, judge-indirection, address-never, indirection-never}
-use Rattle.overload.proofs.Memory.{integer-small, exchange-formed, judge-atomic, atomic-never, atomic-formed, atomic-concrete, judge-load, load-never, load-formed, load-concrete}
+use Rattle.overload.proofs.Memory.{integer-small, exchange-formed, judge-atomic, atomic-never, atomic-formed, atomic-concrete, judge-load, load-never, load-formed, load-concrete, judge-length, length-never, length-formed, length-concrete}
 
 clash : {R : Ty} → noneFits ≡ gives R → ⊥
 clash e = let z : _≡_ {A = ℕ} 0 1 = cc in omega arith
@@ -69,6 +69,9 @@ indirection-one o m = (ptr (m .0) (m .1) (m .2), ap (λ (p : Overload). p .param
 
 load-one : OneParam uniformLoadOf
 load-one o m = (ptr workgroup readWrite (m .0), ap (λ (p : Overload). p .params) (m .3))
+
+length-one : OneParam arrayLengthOf
+length-one o m = (toRuntime (m .0) (m .1), ap (λ (p : Overload). p .params) (m .4))
 
 -- WHAT `&` AND `*` GIVE is a type that there is: a pointer and a reference ask the same of their element
 
@@ -178,6 +181,9 @@ module _ (ms : List Bool) where
   load-stays : Stays uniformLoadOf
   load-stays o m = concrete-remains o ms (load-concrete o m)
 
+  length-stays : Stays arrayLengthOf
+  length-stays o m = concrete-remains o ms (length-concrete o m)
+
   -- so a set of which nothing is dropped has the judgments that it had
   module _ (set : Overload → Type 0) (stays : Stays set) (ts : List Ty) (j : Judged) where
     to-left : Resolved set ts j → Resolved (remaining ms set) ts j
@@ -202,6 +208,7 @@ module _ (ts : List Ty) (f : allFormed ts ≡ true) (ms : List Bool) where
   ruling-resolved (onAtomic j) = to-left ms (atomicOf j scalar) (atomic-stays ms j scalar) ts _ (judge-atomic j scalar ts f)
   ruling-resolved comparing = to-left ms (atomicOf 2 exchange) (atomic-stays ms 2 exchange) ts _ (judge-atomic 2 exchange ts f)
   ruling-resolved uniformLoad = to-left ms uniformLoadOf (load-stays ms) ts _ (alone-resolved uniformLoadOf load-one judgeLoad judge-load ts f)
+  ruling-resolved arrayLength = to-left ms arrayLengthOf (length-stays ms) ts _ (alone-resolved arrayLengthOf length-one judgeLength judge-length ts f)
 
   -- where an overload fits that remains one is preferred to every other that does: REFUSAL 13 IS NEVER GIVEN
   pub ruling-never : (r : Ruling) → Known r → Resolved (remaining ms (overloadsBy r)) ts nonePreferred → ⊥
@@ -212,6 +219,7 @@ module _ (ts : List Ty) (f : allFormed ts ≡ true) (ms : List Bool) where
   ruling-never (onAtomic j) k q = atomic-never j scalar ts (of-left ms (atomicOf j scalar) (atomic-stays ms j scalar) ts nonePreferred q)
   ruling-never comparing k q = atomic-never 2 exchange ts (of-left ms (atomicOf 2 exchange) (atomic-stays ms 2 exchange) ts nonePreferred q)
   ruling-never uniformLoad k q = load-never ts (of-left ms uniformLoadOf (load-stays ms) ts nonePreferred q)
+  ruling-never arrayLength k q = length-never ts (of-left ms arrayLengthOf (length-stays ms) ts nonePreferred q)
 
   -- what it gives is a type that there is
   pub ruling-formed : (r : Ruling) → Known r → (R : Ty) → judgeBy r ts ms ≡ gives R → formed R ≡ true
@@ -222,6 +230,7 @@ module _ (ts : List Ty) (f : allFormed ts ≡ true) (ms : List Bool) where
   ruling-formed (onAtomic j) k R e = atomic-formed j scalar scalar-formed ts f R e
   ruling-formed comparing k R e = atomic-formed 2 exchange exchange-formed ts f R e
   ruling-formed uniformLoad k R e = alone-formed uniformLoadOf load-one judgeLoad load-formed ts f R e
+  ruling-formed arrayLength k R e = alone-formed arrayLengthOf length-one judgeLength length-formed ts f R e
 
 -- a row of the list is known by its number
 rowTest : ℕ → Bool

@@ -6,7 +6,7 @@ use mathlib.Core.Bool.{Bool, _&&_, _||_, not, cond}
 use lib.Dec.{T, eqb}
 use mathlib.Core.List.{List, [], _∷_, _++_, map}
 use lib.ListN.{getD, length}
-use Rattle.conv.specs.Types.{Ty, bool, abstractInt, abstractFloat, i32, u32, f32, f16, exponent, workgroup, storage, handle, readWrite, isRuntime, holdsAtomic, formed}
+use Rattle.conv.specs.Types.{Ty, bool, abstractInt, abstractFloat, i32, u32, f32, f16, exponent, workgroup, storage, handle, read, readWrite, isRuntime, holdsAtomic, formed}
 use Rattle.conv.specs.Types.Ty.{scalar, vec, mat, array, runtime, atomic, ptr, ref, frexp, modf, exchange}
 use Rattle.conv.specs.Rank.{Shape, columnsOf, rowsOf, tagOf, isPointer, firstOf, secondOf, elementOf, made}
 use Rattle.conv.specs.Rank.Shape.{one, vector, matrix}
@@ -162,7 +162,7 @@ concrete = i32 ∷ u32 ∷ f32 ∷ f16 ∷ []
 abbrev pub only : ℕ → List ℕ
 only s = s ∷ []
 
--- PATTERNS BY NAME: `N` of the size and `E` the component, of T; `I` the scalar of the second choice; `Nof s` and `Eof s` of the scalar s
+-- PATTERNS BY NAME: `N` of the size and `E` the component, of T; `I` the scalar of the second choice; `Nexp` of the size, of what follows T; `Nof s` and `Eof s` of the scalar s
 
 abbrev pub N : Pattern
 N = record { form = sized; of = ofT }
@@ -172,6 +172,9 @@ E = record { form = single; of = ofT }
 
 abbrev pub I : Pattern
 I = record { form = single; of = ofI }
+
+abbrev pub Nexp : Pattern
+Nexp = record { form = sized; of = expT }
 
 abbrev pub Nof : ℕ → Pattern
 Nof s = record { form = sized; of = just s }
@@ -419,6 +422,10 @@ ofLane = row 51 (choosing concrete bits wides (N ∷ I ∷ []) N ∷ [])
 abbrev pub shuffling : Row
 shuffling = row 52 (family concrete wides (N ∷ Eof u32 ∷ []) N ∷ [])
 
+-- ldexp (document 02, K6): "T, wide float, and I, AbstractInt or i32 of T's width, where I is concrete exactly when T is, and gives T". So I follows T, as `exp` follows `fract`
+abbrev pub scaling : Row
+scaling = row 53 (family float wides (N ∷ Nexp ∷ []) N ∷ [])
+
 -- all rows, by their numbers
 unfoldable pub rows : List Row
 rows =
@@ -428,6 +435,7 @@ rows =
     ∷ oneF32 ∷ frexpOf ∷ modfOf ∷ packing4F32 ∷ packing4I32 ∷ packing4U32 ∷ packing2F32 ∷ unpacking4F32 ∷ unpacking4I32 ∷ unpacking4U32 ∷ unpacking2F32
     ∷ packedDotU32 ∷ packedDotI32 ∷ oneBool ∷ selecting
     ∷ oneConcrete ∷ voting ∷ balloting ∷ electing ∷ ofLane ∷ shuffling
+    ∷ scaling
     ∷ []
 
 -- the row of a number; a number that no row has has no overload
@@ -494,13 +502,23 @@ abbrev pub uniformLoadOf : Overload → Type 0
 uniformLoadOf o =
     (t : Ty) × T (loadable t) × T (formed (ptr workgroup readWrite t)) × (o ≡ record { params = ptr workgroup readWrite t ∷ []; result = loaded t })
 
+-- ARRAYLENGTH (document 02, K6): "takes only a pointer in space storage, with read or read_write access, to an array without count"; it gives u32
+
+abbrev pub toRuntime : ℕ → Ty → Ty
+toRuntime access t = ptr storage access (runtime t)
+
+abbrev pub arrayLengthOf : Overload → Type 0
+arrayLengthOf o =
+    (access : ℕ) × (t : Ty) × ((access ≡ read) ⊎ (access ≡ readWrite)) × T (formed (toRuntime access t))
+    × (o ≡ record { params = toRuntime access t ∷ []; result = scalar u32 })
+
 -- A RULING says which overloads a call has: those of a row, or those that a rule describes. On atomics: with so many values, giving the component; with two values, giving
 -- the result of a compare
 pub data Ruling : Type 0 where
   byRow : Row → Ruling
   address indirection : Ruling
   onAtomic : ℕ → Ruling
-  comparing uniformLoad : Ruling
+  comparing uniformLoad arrayLength : Ruling
 
 unfoldable pub overloadsBy : Ruling → Overload → Type 0
 overloadsBy (byRow r) = ofRow r
@@ -509,6 +527,7 @@ overloadsBy indirection = indirectionOf
 overloadsBy (onAtomic k) = atomicOf k scalar
 overloadsBy comparing = atomicOf 2 exchange
 overloadsBy uniformLoad = uniformLoadOf
+overloadsBy arrayLength = arrayLengthOf
 
 -- HOW A CALL IS JUDGED, by the types and the marks of its operands: a listed row by those of its overloads that remain; a described rule by itself, since none of its
 -- overloads is ever dropped
@@ -566,6 +585,13 @@ takesLoad x = isPointer x && eqb (firstOf x) workgroup && eqb (secondOf x) readW
 unfoldable pub judgeLoad : Ty → Judged
 judgeLoad x = cond (takesLoad x) (gives (loaded (elementOf x))) noneFits
 
+-- and one that arrayLength takes
+abbrev pub takesLength : Ty → Bool
+takesLength x = isPointer x && eqb (firstOf x) storage && (eqb (secondOf x) read || eqb (secondOf x) readWrite) && isRuntime (elementOf x)
+
+unfoldable pub judgeLength : Ty → Judged
+judgeLength x = cond (takesLength x) (gives (scalar u32)) noneFits
+
 unfoldable pub judgeBy : Ruling → List Ty → List Bool → Judged
 judgeBy (byRow r) ts ms = judgeRow r ts ms
 judgeBy address ts ms = alone judgeAddress ts
@@ -573,6 +599,7 @@ judgeBy indirection ts ms = alone judgeIndirection ts
 judgeBy (onAtomic k) ts ms = judgeAtomic k scalar ts
 judgeBy comparing ts ms = judgeAtomic 2 exchange ts
 judgeBy uniformLoad ts ms = alone judgeLoad ts
+judgeBy arrayLength ts ms = alone judgeLength ts
 
 -- the row of a ruling is one of `rows`, and stands there at its number
 unfoldable pub Known : Ruling → Type 0
@@ -582,3 +609,4 @@ Known indirection = Unit {0}
 Known (onAtomic k) = Unit {0}
 Known comparing = Unit {0}
 Known uniformLoad = Unit {0}
+Known arrayLength = Unit {0}

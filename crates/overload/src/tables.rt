@@ -117,6 +117,8 @@ pub fn row_line(row: usize) -> u64
         51 => 0x2_42_0_fffff0ff0,
         // shuffling
         52 => 0x2_43_0_fffff0ff0,
+        // scaling
+        53 => 0x2_44_0_ffff0fff0,
         _ => 0x0_00_0_fffffffff,
     }
 }
@@ -263,6 +265,8 @@ pub fn family_word(f: u64) -> u64
         66 => 0x6_a_5_0_0_90_90_90_71_90_2,
         // shuffling: (N, E of u32) to N; T concrete; wides
         67 => 0x0_a_5_0_0_90_90_90_41_90_2,
+        // scaling: (N, N of exp) to N; T float; wides
+        68 => 0x0_4_5_0_0_90_90_90_80_90_2,
         _ => 0xf_f_f_0_0_90_90_90_90_90_0,
     }
 }

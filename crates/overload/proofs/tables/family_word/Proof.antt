@@ -84,4 +84,5 @@ family-word-spec =
     (λ c. word-line 65 tt refl refl refl (c .match .keys66))
     (λ c. word-line 66 tt refl refl refl (c .match .keys67))
     (λ c. word-line 67 tt refl refl refl (c .match .keys68))
+    (λ c. word-line 68 tt refl refl refl (c .match .keys69))
     (λ c. no-word-line tt refl refl refl (above (length families) _ (c .match .rest))))

@@ -68,4 +68,5 @@ row-line-spec =
     (λ c. row-line 50 tt refl refl refl (c .match .keys51))
     (λ c. row-line 51 tt refl refl refl (c .match .keys52))
     (λ c. row-line 52 tt refl refl refl (c .match .keys53))
+    (λ c. row-line 53 tt refl refl refl (c .match .keys54))
     (λ c. no-row-line tt refl refl (above (length rows) _ (c .match .rest))))
