@@ -10,10 +10,10 @@ use mathlib.Core.List.{List, [], _∷_, _++_, map}
 use lib.Dec.{eqb}
 use Rattle.conv.specs.Rank.{both}
 use Rattle.text.specs.Text.{ascii}
-use Rattle.overload.specs.Rows.{Row, oneFloat, twoFloats, threeFloats, mixing, oneNumeric, twoNumerics, threeNumerics, negating, oneBits, extracting, inserting, measuring, distancing, dotting, oneFloatVector, twoFloatVectors, threeFloatVectors, refracting, crossing, squareMatrix, transposing, oneF32, frexpOf, modfOf, packing4F32, packing4I32, packing4U32, packing2F32, unpacking4F32, unpacking4I32, unpacking4U32, unpacking2F32, packedDotU32, packedDotI32, oneBool, selecting, oneConcrete, voting, balloting, electing, ofLane, shuffling}
-use Rattle.overload.specs.Rows.Ruling.{byRow}
+use Rattle.overload.specs.Rows.{Row, oneFloat, twoFloats, threeFloats, mixing, oneNumeric, twoNumerics, threeNumerics, negating, oneBits, extracting, inserting, measuring, distancing, dotting, oneFloatVector, twoFloatVectors, threeFloatVectors, refracting, crossing, squareMatrix, transposing, oneF32, frexpOf, modfOf, packing4F32, packing4I32, packing4U32, packing2F32, unpacking4F32, unpacking4I32, unpacking4U32, unpacking2F32, packedDotU32, packedDotI32, oneBool, selecting, oneConcrete, voting, balloting, electing, ofLane, shuffling, scaling}
+use Rattle.overload.specs.Rows.Ruling.{byRow, arrayLength}
 use Rattle.names.specs.Names.{Rule, loading, updating, exchanging, uniformLoading, Name, names, sameBytes, within, Named, ruleFor, ruleIn, ruleOf}
-use Rattle.names.specs.Names.Rule.{ruling, storing, bitcast, arrayLength, ldexp, barrier}
+use Rattle.names.specs.Names.Rule.{ruling, storing, bitcast, barrier}
 use Rattle.names.specs.Names.Named.{rule, unknown}
 use Rattle.names.proofs.Bytes.{same-bytes}
 
@@ -96,17 +96,16 @@ ruled =
     ++ (ruledBy oneBool "all any"
     ++ ruledBy selecting "select"))))))))))))))))))))))))))))))))))
 
--- "Crate rules, 6"
+-- "Crate rules, 6"; of these, document 02, K6, "ldexp and arrayLength by the book. Make both ruled": so 4
 pub crateRules : List Name
-crateRules =
-    group bitcast "bitcast"
-    ++ (group arrayLength "arrayLength"
-    ++ (group ldexp "ldexp"
-    ++ group barrier "storageBarrier textureBarrier workgroupBarrier"))
+crateRules = group bitcast "bitcast" ++ group barrier "storageBarrier textureBarrier workgroupBarrier"
+
+pub byTheBook : List Name
+byTheBook = ruledBy scaling "ldexp" ++ group (ruling arrayLength) "arrayLength"
 
 -- the 94
 abbrev pub document : List Name
-document = ruled ++ crateRules
+document = ruled ++ (crateRules ++ byTheBook)
 
 -- document 02, K5: "Add, in both profiles, atomicLoad, atomicStore, the seven read-modify-write calls from atomicAdd to atomicXor, atomicExchange, atomicCompareExchangeWeak and
 -- workgroupUniformLoad"; "Results are running"
@@ -169,16 +168,16 @@ same-rules profile rs other t u s = go (ruleIn profile rs s) refl (ruleIn profil
 -- THE TABLE SAYS WHAT THE DOCUMENTS SAY, of all bytes: in any profile the rule and the mark are those of the lists; in profile 0 those of document 01's and of the calls on memory alone
 
 pub as-documents : (profile : ℕ) (s : List ℕ) → ruleOf profile s ≡ ruleIn profile (olderNames ++ subgroups) s
-unfolding ascii words ahead among runningEvenSo under ruled crateRules memoryCalls subgroups names both sameBytes ruleIn
+unfolding ascii words ahead among runningEvenSo under ruled crateRules byTheBook memoryCalls subgroups names both sameBytes ruleIn
 as-documents profile s = same-rules profile names (olderNames ++ subgroups) refl refl s
 
 pub as-older : (s : List ℕ) → ruleOf 0 s ≡ ruleIn 0 olderNames s
-unfolding ascii words ahead among runningEvenSo under ruled crateRules memoryCalls names both sameBytes within ruleIn
+unfolding ascii words ahead among runningEvenSo under ruled crateRules byTheBook memoryCalls names both sameBytes within ruleIn
 as-older s = same-rules 0 names olderNames refl refl s
 
 -- and each of document 01's names has there the rule that document 01 gives it, and its mark
 pub as-document : (s : List ℕ) (R : Rule) (m : Bool) → ruleIn 0 document s ≡ rule R m → ruleOf 0 s ≡ rule R m
-unfolding ascii words ahead among runningEvenSo under ruled crateRules names both sameBytes within ruleIn
+unfolding ascii words ahead among runningEvenSo under ruled crateRules byTheBook names both sameBytes within ruleIn
 as-document s R m e = covered 0 document names refl s R m e
 
 -- RUNNING EVEN SO are the nine derivatives, arrayLength, the subgroup and quad names, the calls on memory, and no other

@@ -9,10 +9,10 @@ use lib.Dec.{eqb, ltb}
 use lib.ListN.{length, List·getD-eq-default}
 use borrow.Author.Tests.{lt-ltb, le-ltb, eq-eqb, ne-eqb, ltb-true, ltb-false}
 use Rattle.overload.specs.Rows.{Row, rows, noRow, rowAt, Ruling, Known}
-use Rattle.overload.specs.Rows.Ruling.{byRow, address, indirection, onAtomic, comparing, uniformLoad}
+use Rattle.overload.specs.Rows.Ruling.{byRow, address, indirection, onAtomic, comparing, uniformLoad, arrayLength}
 use Rattle.overload.proofs.Rulings.{row-known}
 use Rattle.names.specs.Names.{Rule, loading, updating, exchanging, uniformLoading, Name, names, sameBytes, within, Named, ruleIn, ruleOf}
-use Rattle.names.specs.Names.Rule.{ruling, storing, bitcast, arrayLength, ldexp, barrier}
+use Rattle.names.specs.Names.Rule.{ruling, storing, bitcast, barrier}
 use Rattle.names.specs.Names.Named.{rule, unknown}
 use Rattle.names.specs.inner.Table.{rulingNumber, ruleNumber, numbered, replied}
 use Rattle.names.specs.declared.RuleNo.the-variants.{Is, Unknown}
@@ -76,13 +76,9 @@ module _ (k : ℕ) where
   unfolding numbered
   numbered-bitcast h = rw (le-ltb k 100 (omega arith), eq-eqb k 100 h)
 
-  pub numbered-length : k ≡ 101 → numbered k ≡ arrayLength
+  pub numbered-length : k ≡ 101 → numbered k ≡ ruling arrayLength
   unfolding numbered
   numbered-length h = rw (le-ltb k 100 (omega arith), ne-eqb k 100 (λ e. omega arith), eq-eqb k 101 h)
-
-  pub numbered-ldexp : k ≡ 102 → numbered k ≡ ldexp
-  unfolding numbered
-  numbered-ldexp h = rw (le-ltb k 100 (omega arith), ne-eqb k 100 (λ e. omega arith), ne-eqb k 101 (λ e. omega arith), eq-eqb k 102 h)
 
   -- of a literal number
   module _ (j : ℕ) (h : k ≡ j) where
@@ -110,10 +106,10 @@ module _ (k : ℕ) where
   numbered-uniform h = as-literal 108 h
 
   -- and every other is a barrier's
-  pub numbered-barrier : 100 ≤ k → k ≢ 100 → k ≢ 101 → k ≢ 102 → k ≢ 104 → k ≢ 105 → k ≢ 106 → k ≢ 107 → k ≢ 108 → numbered k ≡ barrier
+  pub numbered-barrier : 100 ≤ k → k ≢ 100 → k ≢ 101 → k ≢ 104 → k ≢ 105 → k ≢ 106 → k ≢ 107 → k ≢ 108 → numbered k ≡ barrier
   unfolding numbered
-  numbered-barrier h a b c d e f g i =
-      rw (le-ltb k 100 h, ne-eqb k 100 a, ne-eqb k 101 b, ne-eqb k 102 c, ne-eqb k 104 d, ne-eqb k 105 e, ne-eqb k 106 f, ne-eqb k 107 g, ne-eqb k 108 i)
+  numbered-barrier h a b d e f g i =
+      rw (le-ltb k 100 h, ne-eqb k 100 a, ne-eqb k 101 b, ne-eqb k 104 d, ne-eqb k 105 e, ne-eqb k 106 f, ne-eqb k 107 g, ne-eqb k 108 i)
 
 -- and a ruling among them is known
 
@@ -124,10 +120,9 @@ again (ruling indirection) = ruling indirection
 again (ruling (onAtomic k)) = ruling (onAtomic k)
 again (ruling comparing) = ruling comparing
 again (ruling uniformLoad) = ruling uniformLoad
+again (ruling arrayLength) = ruling arrayLength
 again storing = storing
 again bitcast = bitcast
-again arrayLength = arrayLength
-again ldexp = ldexp
 again barrier = barrier
 
 name-again : (profile : ℕ) (s : List ℕ) (R : Rule) {m : Bool} → ruleOf profile s ≡ rule R m → again R ≡ R
@@ -142,6 +137,7 @@ ruling-known profile s indirection e = tt
 ruling-known profile s (onAtomic k) e = tt
 ruling-known profile s comparing e = tt
 ruling-known profile s uniformLoad e = tt
+ruling-known profile s arrayLength e = tt
 
 -- so is a ruling that a number has
 
@@ -165,18 +161,17 @@ described r q k e = let p : q ≡ r = cc in subst Known p k
 
 pub number-known : (k : ℕ) (r : Ruling) → numbered k ≡ ruling r → Known r
 unfolding numbered Known
-number-known k r e = go (ltb k 100) (eqb k 100) (eqb k 101) (eqb k 102) (eqb k 104) (eqb k 105) (eqb k 106) (eqb k 107) (eqb k 108) e
+number-known k r e = go (ltb k 100) (eqb k 100) (eqb k 101) (eqb k 104) (eqb k 105) (eqb k 106) (eqb k 107) (eqb k 108) e
   where
-    go : (a b c d f g h i j : Bool)
-        → cond a (ruling (byRow (rowAt k))) (cond b bitcast (cond c arrayLength (cond d ldexp (cond f loading (cond g updating (cond h storing (cond i exchanging (cond j uniformLoading barrier)))))))) ≡ ruling r
+    go : (a b c f g h i j : Bool)
+        → cond a (ruling (byRow (rowAt k))) (cond b bitcast (cond c (ruling arrayLength) (cond f loading (cond g updating (cond h storing (cond i exchanging (cond j uniformLoading barrier))))))) ≡ ruling r
         → Known r
-    go true b c d f g h i j q = described r (byRow (rowAt k)) (row-number k) q
-    go false true c d f g h i j q = impossible (cc)
-    go false false true d f g h i j q = impossible (cc)
-    go false false false true f g h i j q = impossible (cc)
-    go false false false false true g h i j q = described r (onAtomic 0) tt q
-    go false false false false false true h i j q = described r (onAtomic 1) tt q
-    go false false false false false false true i j q = impossible (cc)
-    go false false false false false false false true j q = described r comparing tt q
-    go false false false false false false false false true q = described r uniformLoad tt q
-    go false false false false false false false false false q = impossible (cc)
+    go true b c f g h i j q = described r (byRow (rowAt k)) (row-number k) q
+    go false true c f g h i j q = impossible (cc)
+    go false false true f g h i j q = described r arrayLength tt q
+    go false false false true g h i j q = described r (onAtomic 0) tt q
+    go false false false false true h i j q = described r (onAtomic 1) tt q
+    go false false false false false true i j q = impossible (cc)
+    go false false false false false false true j q = described r comparing tt q
+    go false false false false false false false true q = described r uniformLoad tt q
+    go false false false false false false false false q = impossible (cc)

@@ -1,4 +1,4 @@
--- THE BUILTIN NAMES of document 01, "Builtins", and of document 02, K1, K3 and K5: each with its profile, its rule and whether its result is running, and the rule of any bytes
+-- THE BUILTIN NAMES of document 01, "Builtins", and of document 02, K1, K3, K5 and K6: each with its profile, its rule and whether its result is running, and the rule of any bytes
 -- that are offered as a name.
 -- Assumes nothing.
 use Prim.Native.Nat.{ℕ, _+_, _<_}
@@ -9,8 +9,8 @@ use lib.Dec.{T, eqb, ltb, leb}
 use lib.ListN.{length, getD}
 use Rattle.text.specs.Text.{ascii}
 use Rattle.conv.specs.Rank.{both}
-use Rattle.overload.specs.Rows.{Row, Ruling, negating, oneFloat, twoFloats, threeFloats, mixing, oneNumeric, twoNumerics, threeNumerics, oneBits, extracting, inserting, measuring, distancing, dotting, oneFloatVector, twoFloatVectors, threeFloatVectors, refracting, crossing, squareMatrix, transposing, oneF32, frexpOf, modfOf, packing4F32, packing4I32, packing4U32, packing2F32, unpacking4F32, unpacking4I32, unpacking4U32, unpacking2F32, packedDotU32, packedDotI32, oneBool, selecting, oneConcrete, voting, balloting, electing, ofLane, shuffling}
-use Rattle.overload.specs.Rows.Ruling.{byRow, onAtomic, comparing, uniformLoad}
+use Rattle.overload.specs.Rows.{Row, Ruling, negating, oneFloat, twoFloats, threeFloats, mixing, oneNumeric, twoNumerics, threeNumerics, oneBits, extracting, inserting, measuring, distancing, dotting, oneFloatVector, twoFloatVectors, threeFloatVectors, refracting, crossing, squareMatrix, transposing, oneF32, frexpOf, modfOf, packing4F32, packing4I32, packing4U32, packing2F32, unpacking4F32, unpacking4I32, unpacking4U32, unpacking2F32, packedDotU32, packedDotI32, oneBool, selecting, oneConcrete, voting, balloting, electing, ofLane, shuffling, scaling}
+use Rattle.overload.specs.Rows.Ruling.{byRow, onAtomic, comparing, uniformLoad, arrayLength}
 
 -- A RULE: which overloads the calls of a name have; that of atomicStore, which takes what the other calls on atomics with one value take, and gives no value; or one of the crate
 -- rules, of which the three barriers have one
@@ -18,7 +18,7 @@ use Rattle.overload.specs.Rows.Ruling.{byRow, onAtomic, comparing, uniformLoad}
 pub data Rule : Type 0 where
   ruling : Ruling → Rule
   storing : Rule
-  bitcast arrayLength ldexp barrier : Rule
+  bitcast barrier : Rule
 
 -- the rules of the other calls on memory, of document 02, K5
 
@@ -41,10 +41,14 @@ pub record Name : Type 0 where
   pub rule : Rule
   pub running : Bool
 
--- a ruled name, with its row of `overload/specs/Rows.antt`; a name with a crate rule; a name of profile 1; and a call on memory, K5: "Add, in both profiles", "Results are running"
+-- a ruled name, with its row of `overload/specs/Rows.antt`, or with overloads that are described there; a name with a crate rule; a name of profile 1; and a call on memory, K5: "Add, in both
+-- profiles", "Results are running"
 
 abbrev pub ruled : String → Row → Name
 ruled text row = record { text = ascii text; profile = 0; rule = ruling (byRow row); running = false }
+
+abbrev pub described : String → Ruling → Name
+described text r = record { text = ascii text; profile = 0; rule = ruling r; running = false }
 
 abbrev pub crateRule : String → Rule → Name
 crateRule text rule = record { text = ascii text; profile = 0; rule = rule; running = false }
@@ -67,7 +71,7 @@ names =
     ∷ ruled "acosh" oneFloat
     ∷ ruled "all" oneBool
     ∷ ruled "any" oneBool
-    ∷ whenRunning (crateRule "arrayLength" arrayLength)
+    ∷ whenRunning (described "arrayLength" arrayLength)
     ∷ ruled "asin" oneFloat
     ∷ ruled "asinh" oneFloat
     ∷ ruled "atan" oneFloat
@@ -120,7 +124,7 @@ names =
     ∷ whenRunning (ruled "fwidthFine" oneF32)
     ∷ ruled "insertBits" inserting
     ∷ ruled "inverseSqrt" oneFloat
-    ∷ crateRule "ldexp" ldexp
+    ∷ ruled "ldexp" scaling
     ∷ ruled "length" measuring
     ∷ ruled "log" oneFloat
     ∷ ruled "log2" oneFloat

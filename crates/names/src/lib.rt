@@ -16,8 +16,6 @@ pub const RULE_BITCAST: u8 = 100;
 
 pub const RULE_ARRAY_LENGTH: u8 = 101;
 
-pub const RULE_LDEXP: u8 = 102;
-
 pub const RULE_BARRIER: u8 = 103;
 
 pub const RULE_ATOMIC_LOAD: u8 = 104;

@@ -70,7 +70,7 @@ const NAMES: [u8; COUNT * LINE_WIDTH] = *b"\
         fwidthFine                      \x20\x00\x01\
         insertBits                      \x15\x00\x00\
         inverseSqrt                     \x0c\x00\x00\
-        ldexp                           \x66\x00\x00\
+        ldexp                           \x35\x00\x00\
         length                          \x16\x00\x00\
         log                             \x0c\x00\x00\
         log2                            \x0c\x00\x00\

@@ -13,8 +13,8 @@ use Rattle.conv.specs.Rank.{both}
 use Rattle.overload.specs.Overload.{Overload, or, Judged, judge}
 use Rattle.overload.specs.Marks.{anyRunning, runningAbstract}
 use Rattle.conv.specs.Types.Ty.{scalar, exchange}
-use Rattle.overload.specs.Rows.{Ruling, overloadsOf, judgeAddress, judgeIndirection, judgeAtomic, judgeLoad, alone, judgeBy}
-use Rattle.overload.specs.Rows.Ruling.{byRow, address, indirection, onAtomic, comparing, uniformLoad}
+use Rattle.overload.specs.Rows.{Ruling, overloadsOf, judgeAddress, judgeIndirection, judgeAtomic, judgeLoad, judgeLength, alone, judgeBy}
+use Rattle.overload.specs.Rows.Ruling.{byRow, address, indirection, onAtomic, comparing, uniformLoad, arrayLength}
 use Rattle.overload.proofs.Marks.{const-all}
 use Rattle.table.specs.Placing.{Outcome, turnedDown}
 use Rattle.answer.specs.declared.Reason.the-variants.{Reference}
@@ -29,6 +29,7 @@ baseJudge indirection ts = alone judgeIndirection ts
 baseJudge (onAtomic k) ts = judgeAtomic k scalar ts
 baseJudge comparing ts = judgeAtomic 2 exchange ts
 baseJudge uniformLoad ts = alone judgeLoad ts
+baseJudge arrayLength ts = alone judgeLength ts
 
 unfoldable pub baseRuled : ℕ → List ℕ → ℕ → Ruling → List Ty → Outcome
 baseRuled place w n r ts = cond (offends r ts) (turnedDown Reference place w n) (judgedOutcome place w n (baseJudge r ts))
@@ -54,6 +55,7 @@ const-judge indirection ts ms e = refl
 const-judge (onAtomic k) ts ms e = refl
 const-judge comparing ts ms e = refl
 const-judge uniformLoad ts ms e = refl
+const-judge arrayLength ts ms e = refl
 
 pub const-ruled : (place : ℕ) (w : List ℕ) (n : ℕ) (r : Ruling) (ts : List Ty) (ms : List Bool) → anyRunning ms ≡ false → ruledOutcome place w n r ts ms ≡ baseRuled place w n r ts
 unfolding ruledOutcome baseRuled

@@ -9,7 +9,7 @@ use Rattle.overload.specs.Overload.{Judged}
 use Rattle.overload.specs.Overload.Judged.{gives, noneFits, nonePreferred}
 use Rattle.overload.specs.Marks.{runningAbstract}
 use Rattle.overload.specs.Rows.{Ruling, judgeBy}
-use Rattle.overload.specs.Rows.Ruling.{byRow, address, indirection, onAtomic, comparing, uniformLoad}
+use Rattle.overload.specs.Rows.Ruling.{byRow, address, indirection, onAtomic, comparing, uniformLoad, arrayLength}
 use Rattle.table.specs.Denote.{typeAt}
 use Rattle.table.specs.Placing.{Outcome, turnedDown, entering}
 use Rattle.answer.specs.declared.Reason.the-variants.{Reference, NoOverload, NonePreferred, RunningAbstract}
@@ -49,6 +49,7 @@ takesReference indirection = false
 takesReference (onAtomic k) = false
 takesReference comparing = false
 takesReference uniformLoad = false
+takesReference arrayLength = false
 
 -- no operand that the ruling may not be offered
 abbrev pub offends : Ruling → List Ty → Bool

@@ -6,9 +6,9 @@ use mathlib.Core.List.{List, [], _∷_, _++_}
 use lib.Dec.{T, eqb, ltb}
 use lib.ListN.{length, getD}
 use Rattle.overload.specs.Rows.{Ruling, rowAt}
-use Rattle.overload.specs.Rows.Ruling.{byRow, address, indirection, onAtomic, comparing, uniformLoad}
+use Rattle.overload.specs.Rows.Ruling.{byRow, address, indirection, onAtomic, comparing, uniformLoad, arrayLength}
 use Rattle.names.specs.Names.{Rule, loading, updating, exchanging, uniformLoading, Name, names, noName, before, sameBytes, count, nameAt, Named, ruleFor}
-use Rattle.names.specs.Names.Rule.{ruling, storing, bitcast, arrayLength, ldexp, barrier}
+use Rattle.names.specs.Names.Rule.{ruling, storing, bitcast, barrier}
 use Rattle.names.specs.Names.Named.{rule, unknown}
 use Rattle.names.specs.declared.RuleNo.{RuleNo}
 use Rattle.names.specs.declared.RuleNo.the-variants.{Is, Unknown}
@@ -26,12 +26,11 @@ rulingNumber (onAtomic (suc zero)) = 105
 rulingNumber (onAtomic (suc (suc k))) = 255
 rulingNumber comparing = 107
 rulingNumber uniformLoad = 108
+rulingNumber arrayLength = 101
 
 unfoldable pub ruleNumber : Rule → ℕ
 ruleNumber (ruling r) = rulingNumber r
 ruleNumber bitcast = 100
-ruleNumber arrayLength = 101
-ruleNumber ldexp = 102
 ruleNumber barrier = 103
 ruleNumber storing = 106
 
@@ -40,13 +39,12 @@ unfoldable pub numbered : ℕ → Rule
 numbered k =
     cond (ltb k 100) (ruling (byRow (rowAt k)))
     (cond (eqb k 100) bitcast
-    (cond (eqb k 101) arrayLength
-    (cond (eqb k 102) ldexp
+    (cond (eqb k 101) (ruling arrayLength)
     (cond (eqb k 104) loading
     (cond (eqb k 105) updating
     (cond (eqb k 106) storing
     (cond (eqb k 107) exchanging
-    (cond (eqb k 108) uniformLoading barrier))))))))
+    (cond (eqb k 108) uniformLoading barrier)))))))
 
 -- a reply: the number of the rule that a name has, and whether its result is running even so
 unfoldable pub replied : Named → RuleNo
