@@ -7,11 +7,11 @@ use mathlib.Core.Bool.{Bool, true, false, _&&_, _||_, not, cond}
 use mathlib.Core.List.{List}
 use lib.Dec.{eqb}
 use borrow.Author.Tests.{ltb-true, eq-eqb, eqb-true, ne-eqb}
-use Rattle.conv.specs.Types.{Ty, bool, workgroup, storage, readWrite, isRuntime, holdsAtomic, formed}
+use Rattle.conv.specs.Types.{Ty, bool, u32, workgroup, storage, read, readWrite, isRuntime, holdsAtomic, formed}
 use Rattle.conv.specs.Types.Ty.{scalar, vec, mat, array, runtime, atomic, ptr, ref, frexp, modf, exchange}
 use Rattle.conv.specs.Rank.{tagOf, isPointer, firstOf, secondOf, elementOf}
 use Rattle.overload.specs.Overload.Judged.{gives, noneFits}
-use Rattle.overload.specs.Rows.{isAtomic, loadable, loaded, takesAtomic, atomicIn, takesLoad, judgeLoad}
+use Rattle.overload.specs.Rows.{isAtomic, loadable, loaded, takesAtomic, atomicIn, takesLoad, judgeLoad, takesLength, judgeLength}
 use Rattle.overload.proofs.Operands.{and-right}
 use Rattle.overload.proofs.Memory.{integer-small}
 use Rattle.table.specs.Table.{scalars, kindRuntime, kindAtomic, kindPtr, entryAt, Sound}
@@ -131,6 +131,16 @@ module _ (w : List ℕ) (n : ℕ) (s : Sound w n) where
         → bool ≡ cond (takesAtomic (typeAt w t)) (atomicIn (typeAt w t)) bool
     not-taken h = sym (ap (λ (x : Bool). cond x (atomicIn (typeAt w t)) bool) (takes-is ∙ h))
 
+    -- ARRAYLENGTH
+
+    length-is : takesLength (typeAt w t) ≡ (eqb (e .p) storage && (eqb (e .q) read || eqb (e .q) readWrite) && eqb (f .kind) kindRuntime)
+    unfolding tagOf firstOf secondOf elementOf
+    length-is = ap takesLength type-is ∙ ap (λ (x : Bool). eqb (e .p) storage && (eqb (e .q) read || eqb (e .q) readWrite) && x) inner-runtime-is
+
+    pub length-by : (b : Bool) → (eqb (e .p) storage && (eqb (e .q) read || eqb (e .q) readWrite) && eqb (f .kind) kindRuntime) ≡ b → cond b (gives (scalar u32)) noneFits ≡ judgeLength (typeAt w t)
+    unfolding judgeLength
+    length-by b h = ap (λ (x : Bool). cond x (gives (scalar u32)) noneFits) (sym (length-is ∙ h))
+
     -- WORKGROUPUNIFORMLOAD, of a workgroup pointer with read_write access
 
     module _ (p : e .p ≡ workgroup) (q : e .q ≡ readWrite) where
@@ -173,6 +183,10 @@ module _ (w : List ℕ) (n : ℕ) (s : Sound w n) where
   module _ (t : ℕ) (l : t < n) where
     pub no-taken : entryAt w t .kind ≢ kindPtr → bool ≡ cond (takesAtomic (typeAt w t)) (atomicIn (typeAt w t)) bool
     no-taken k = sym (rw (no-pointer t l k))
+
+    pub no-length : entryAt w t .kind ≢ kindPtr → noneFits ≡ judgeLength (typeAt w t)
+    unfolding judgeLength
+    no-length k = sym (rw (no-pointer t l k))
 
     no-load : takesLoad (typeAt w t) ≡ false → judgeLoad (typeAt w t) ≡ noneFits
     unfolding judgeLoad

@@ -8,7 +8,7 @@ use Rattle.table.specs.Placing.{Gave}
 use Rattle.table.proofs.OneReply.{gave-one}
 use Rattle.ruled.specs.Call.{judgedOutcome, silentOutcome}
 
--- `on_atomic`, `comparing` and `uniform_load` promise the outcome of their judgment, `storing` the silent one
+-- `on_atomic`, `comparing`, `uniform_load` and `array_length` promise the outcome of their judgment, `storing` the silent one
 pub judged-one : (place : ℕ) (w : List ℕ) (n : ℕ) (j : Judged) (r q : Answer) (v u : List ℕ) → Gave (judgedOutcome place w n j) r v → Gave (judgedOutcome place w n j) q u → (r ≡ q) × (v ≡ u)
 judged-one place w n j r q v u = gave-one (judgedOutcome place w n j) r q v u
 

@@ -1,7 +1,8 @@
-// Calls on memory: those on atomics, and workgroupUniformLoad. Their overloads are described, one for each pointer type that the rule takes: the pointer's entry is read, and
+// Calls on memory: those on atomics, workgroupUniformLoad and arrayLength. Their overloads are described, one for each pointer type that the rule takes: the pointer's entry is read, and
 // nothing is searched.
 use conv::NONE;
 use conv::SCALARS;
+use table::ACCESS_READ;
 use table::ACCESS_READ_WRITE;
 use table::Answer;
 use table::Entry;
@@ -24,7 +25,7 @@ ghost use Rattle.conv.specs.Types.Ty.{scalar, exchange};
 ghost use Rattle.conv.specs.Rank.{converts};
 ghost use Rattle.held.specs.Held.{numberOf};
 ghost use Rattle.overload.specs.Overload.{fits};
-ghost use Rattle.overload.specs.Rows.{values, takesAtomic, atomicIn, judgeAtomic, judgeLoad};
+ghost use Rattle.overload.specs.Rows.{values, takesAtomic, atomicIn, judgeAtomic, judgeLoad, judgeLength};
 ghost use Rattle.table.specs.Table.{Sound};
 ghost use Rattle.table.specs.Denote.{typeAt};
 ghost use Rattle.table.specs.Placing.{Gave};
@@ -182,4 +183,29 @@ pub fn uniform_load(words: &[u32], n: usize, place: Place, a: u32) -> Answer
     ensures { λ r. ⌜ Gave (judgedOutcome (place .0) (now (words .entry)) n (judgeLoad (operandTy (now (words .entry)) a))) r (now (words .entry)) ⌝ }
 {
     load_at(words, n, place, held::number(a).0)
+}
+
+// arrayLength of the type at t: u32, of a pointer in space storage that may be read, to an array without count.
+fn length_at(words: &[u32], n: usize, place: Place, t: usize) -> Answer
+    requires { ⌜ Sound (now words) n × (t < n) ⌝ }
+    ensures { λ r. ⌜ Gave (judgedOutcome (place .0) (now (words .entry)) n (judgeLength (typeAt (now (words .entry)) t))) r (now (words .entry)) ⌝ }
+{
+    let e = table::entry_at(words, t);
+    if e.kind != KIND_PTR {
+        return table::refused(Reason::NoOverload, place, n);
+    }
+    let f = table::entry_at(words, cast::word(e.elem));
+    let read = (e.q == ACCESS_READ) | (e.q == ACCESS_READ_WRITE);
+    if (e.p == SPACE_STORAGE) & read & (f.kind == KIND_RUNTIME) {
+        return table::accepted(TypeNo(table::U32), n);
+    }
+    table::refused(Reason::NoOverload, place, n)
+}
+
+// The same of an operand.
+pub fn array_length(words: &[u32], n: usize, place: Place, a: u32) -> Answer
+    requires { ⌜ Sound (now words) n × (numberOf a < n) ⌝ }
+    ensures { λ r. ⌜ Gave (judgedOutcome (place .0) (now (words .entry)) n (judgeLength (operandTy (now (words .entry)) a))) r (now (words .entry)) ⌝ }
+{
+    length_at(words, n, place, held::number(a).0)
 }
