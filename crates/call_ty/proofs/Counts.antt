@@ -10,7 +10,7 @@ use Rattle.conv.specs.Rank.{both, converts}
 use Rattle.conv.proofs.Finite.{both-right}
 use Rattle.overload.specs.Overload.{Overload, fits}
 use Rattle.overload.specs.Rows.{values, Ruling, overloadsBy, Known}
-use Rattle.overload.specs.Rows.Ruling.{byRow, address, indirection, onAtomic, comparing, uniformLoad}
+use Rattle.overload.specs.Rows.Ruling.{byRow, address, indirection, onAtomic, comparing, uniformLoad, arrayLength}
 use Rattle.overload.proofs.Counts.{known-count}
 use Rattle.names.specs.Names.Rule.{ruling}
 use Rattle.call_ty.specs.Calls.{operandsBy, operandsOf}
@@ -35,6 +35,7 @@ param-count indirection k o m = ap (λ (p : Overload). length (p .params)) (m .4
 param-count (onAtomic j) k o m = ap (λ (p : Overload). length (p .params)) (m .4) ∙ ap suc (value-count j (m .1))
 param-count comparing k o m = ap (λ (p : Overload). length (p .params)) (m .4) ∙ ap suc (value-count 2 (m .1))
 param-count uniformLoad k o m = ap (λ (p : Overload). length (p .params)) (m .3)
+param-count arrayLength k o m = ap (λ (p : Overload). length (p .params)) (m .4)
 
 pub wrong-count : (r : Ruling) → Known r → (ts : List Ty) → length ts ≢ operandsOf (ruling r) → (o : Overload) → overloadsBy r o → T (fits (o .params) ts) → ⊥
 wrong-count r k ts h o m f = h (sym (fits-count (o .params) ts f) ∙ param-count r k o m)

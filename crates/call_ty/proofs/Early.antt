@@ -8,21 +8,20 @@ use mathlib.Core.List.{List, [], _∷_}
 use lib.Dec.{T, eqb}
 use lib.ListN.{length}
 use Rattle.held.specs.Held.{markOf}
-use Rattle.conv.specs.Types.{Ty, u32}
-use Rattle.conv.specs.Types.Ty.{scalar}
+use Rattle.conv.specs.Types.{Ty}
 use Rattle.overload.specs.Overload.{or}
 use Rattle.overload.specs.Overload.Judged.{gives}
 use Rattle.overload.specs.Marks.{anyRunning}
 use Rattle.overload.specs.Rows.Ruling.{onAtomic}
 use Rattle.names.specs.Names.{Rule, Named, ruleOf}
-use Rattle.names.specs.Names.Rule.{ruling, storing, bitcast, arrayLength, ldexp, barrier}
+use Rattle.names.specs.Names.Rule.{ruling, storing, bitcast, barrier}
 use Rattle.names.specs.Names.Named.{rule, unknown}
 use Rattle.table.specs.Table.{soundb}
 use Rattle.table.specs.Placing.{Outcome, turnedDown}
 use Rattle.answer.specs.declared.Reason.the-variants.{Unsound, NoSuchType, Reference, Unknown, Template, Operands}
 use Rattle.ruled.specs.Call.{anyReference}
 use Rattle.ruled.proofs.Early.{baseJudge, const-number, const-clash, const-judge}
-use Rattle.call_ty.specs.Calls.{firstIn, secondIn, templateRight, operandsOf, judgeLdexp, Given, givenBy, givenOutcome, byRule, runsBy, allUnder, numbers, marksOf, types, typeBuiltinFn, builtinRuns}
+use Rattle.call_ty.specs.Calls.{firstIn, templateRight, operandsOf, Given, givenBy, givenOutcome, byRule, runsBy, allUnder, numbers, marksOf, types, typeBuiltinFn, builtinRuns}
 use Rattle.call_ty.specs.Calls.Given.{judgment, silently, nothing}
 
 -- THE BASE. What a rule gave
@@ -30,8 +29,6 @@ unfoldable pub baseGiven : Rule → List Ty → List Ty → Given
 baseGiven (ruling r) ts us = judgment (baseJudge r us)
 baseGiven storing ts us = silently (baseJudge (onAtomic 1) us)
 baseGiven bitcast ts us = judgment (gives (firstIn ts))
-baseGiven arrayLength ts us = judgment (gives (scalar u32))
-baseGiven ldexp ts us = judgment (judgeLdexp (firstIn us) (secondIn us))
 baseGiven barrier ts us = nothing
 
 -- on loaded operands, by their types, at a place: 4, 5, 7, 3, then its rule
@@ -79,8 +76,6 @@ unfolding givenBy baseGiven
 const-given (ruling r) ts us ms e = ap judgment (const-judge r us ms e)
 const-given storing ts us ms e = ap silently (const-judge (onAtomic 1) us ms e)
 const-given bitcast ts us ms e = refl
-const-given arrayLength ts us ms e = refl
-const-given ldexp ts us ms e = refl
 const-given barrier ts us ms e = refl
 
 call-at : (place : ℕ) (w : List ℕ) (n : ℕ) (named : Named) (ts us : List Ty) (ms : List Bool) → anyRunning ms ≡ false

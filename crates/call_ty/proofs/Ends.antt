@@ -5,8 +5,7 @@ use mathlib.Core.Bool.{Bool, true, false, cond}
 use mathlib.Core.List.{List, [], _∷_}
 use lib.Dec.{eqb}
 use lib.ListN.{length}
-use Rattle.conv.specs.Types.{Ty, u32, formed}
-use Rattle.conv.specs.Types.Ty.{scalar}
+use Rattle.conv.specs.Types.{Ty, formed}
 use Rattle.overload.specs.Overload.{Judged, Resolved}
 use Rattle.overload.specs.Overload.Judged.{gives, noneFits, nonePreferred}
 use Rattle.overload.specs.Marks.{remaining, runningAbstract}
@@ -15,7 +14,7 @@ use Rattle.overload.specs.Rows.Ruling.{onAtomic}
 use Rattle.overload.proofs.Operands.{and-left, allFormed}
 use Rattle.overload.proofs.Rulings.{ruling-resolved, ruling-never, ruling-formed}
 use Rattle.names.specs.Names.{Rule, Named, ruleOf}
-use Rattle.names.specs.Names.Rule.{ruling, storing, bitcast, arrayLength, ldexp, barrier}
+use Rattle.names.specs.Names.Rule.{ruling, storing, bitcast, barrier}
 use Rattle.names.specs.Names.Named.{rule, unknown}
 use Rattle.names.proofs.Rules.{ruling-known}
 use Rattle.answer.specs.Answer.{reasonNo}
@@ -25,11 +24,10 @@ use Rattle.answer.specs.declared.Reason.{Reason}
 use Rattle.answer.specs.declared.Reason.the-variants.{Unsound, NoSuchType, Reference, Unknown, Template, Operands, NoOverload, RunningAbstract}
 use Rattle.table.proofs.SoundLaws.{sound-of}
 use Rattle.ruled.specs.Call.{anyReference, judgedOutcome, withoutValue, silentOutcome}
-use Rattle.call_ty.specs.Calls.{firstIn, secondIn, templateRight, operandsOf, ldexpTakes, judgeLdexp, givenBy, givenOutcome, byRule, allUnder, numbers, marksOf, types, typeBuiltinFn}
+use Rattle.call_ty.specs.Calls.{firstIn, templateRight, operandsOf, givenBy, givenOutcome, byRule, allUnder, numbers, marksOf, types, typeBuiltinFn}
 use Rattle.call_ty.specs.Calls.Given.{judgment}
 use Rattle.call_ty.proofs.Lists.{types-formed, all-under}
 use Rattle.call_ty.proofs.Ways.{by-unknown}
-use native.Mathlib.Omega.{arith}
 
 -- no refusal that a call gives has the number 13
 abbrev pub thirteen : Reason → Bool
@@ -79,26 +77,11 @@ module _ (place : ℕ) (w : List ℕ) (n : ℕ) (runs : Bool) (ts us : List Ty) 
   unfolding judgedOutcome
   type-ends r R f g = valued R r runs f refl g refl
 
-  ldexp-ends : (r : Rule) → givenBy r ts us ms ≡ judgment (judgeLdexp (firstIn us) (secondIn us)) → Ends place w n (rule r runs) ts us ms (judgedOutcome place w n (judgeLdexp (firstIn us) (secondIn us)))
-  unfolding judgeLdexp
-  ldexp-ends r g =
-      judged r (cond (ldexpTakes (firstIn us) (secondIn us)) (gives (firstIn us)) noneFits) (λ R. go (ldexpTakes (firstIn us) (secondIn us)) R) (none (ldexpTakes (firstIn us) (secondIn us))) g
-    where
-      go : (b : Bool) (R : Ty) → cond b (gives (firstIn us)) noneFits ≡ gives R → formed R ≡ true
-      go true R e = let q : firstIn us ≡ R = cc in ap formed (sym q) ∙ first-formed us fu
-      go false R e = absurd (let z : _≡_ {A = ℕ} 0 1 = cc in omega arith)
-
-      none : (b : Bool) → cond b (gives (firstIn us)) noneFits ≡ nonePreferred → ⊥
-      none true e = let z : _≡_ {A = ℕ} 0 1 = cc in omega arith
-      none false e = let z : _≡_ {A = ℕ} 0 1 = cc in omega arith
-
   rule-ends : (r : Rule) → KnownIn (rule r runs) → Ends place w n (rule r runs) ts us ms (givenOutcome place w n (givenBy r ts us ms))
   unfolding givenOutcome givenBy formed Known
   rule-ends (ruling r) k = ruling-ends r (k r runs refl) refl
   rule-ends storing k = silent-ends storing (judgeBy (onAtomic 1) us ms) (λ e. ruling-never us fu ms (onAtomic 1) tt (subst (Resolved (remaining ms (overloadsBy (onAtomic 1))) us) e (ruling-resolved us fu ms (onAtomic 1))))
   rule-ends bitcast k = type-ends bitcast (firstIn ts) (first-formed ts ft) refl
-  rule-ends arrayLength k = type-ends arrayLength (scalar u32) refl refl
-  rule-ends ldexp k = ldexp-ends ldexp refl
   rule-ends barrier k = silent refl
 
   named-ends : (r : Rule) → KnownIn (rule r runs) → Ends place w n (rule r runs) ts us ms (byRule place w n (rule r runs) ts us ms)

@@ -11,8 +11,8 @@ use Rattle.conv.specs.Rank.{shapeOf, tagOf, componentOf}
 use Rattle.overload.specs.inner.Code.{codeOf}
 use Rattle.overload.proofs.Operands.{code-scalar, code-vec, code-mat, code-other, between, float-small, and-left, and-right}
 use Rattle.table.proofs.KindLaws.{split}
-use Rattle.call_ty.specs.Calls.{isScalar, isVector, isNumeric, wideNumeric, ldexpTakes}
-use Rattle.call_ty.specs.inner.Codes.{numericCode, ldexpCodes}
+use Rattle.call_ty.specs.Calls.{isScalar, isVector, isNumeric, wideNumeric}
+use Rattle.call_ty.specs.inner.Codes.{numericCode}
 
 pub record Parts (t : Ty) (x : ℕ) : Type 0 where
   pub single : isScalar t ≡ ltb x 7
@@ -64,14 +64,9 @@ either x =
     split (ltb x 7) (λ b. let l = ltb-true x 7 b in rw (b, lt-ltb x 28 (omega arith)))
     (λ b. rw (b, le-leb 7 x (ltb-false x 7 b)))
 
--- the two tests of the crate rules, by the numbers
-
+-- the test of `bitcast`'s template type, by the number
 pub numeric-by : (t : Ty) → formed t ≡ true → wideNumeric t ≡ numericCode (codeOf t)
 unfolding wideNumeric
 numeric-by t f =
     let p = parts t f in
     (λ i. (p .single i || p .many i) && isNumeric (p .component i)) ∙ ap (λ (b : Bool). b && isNumeric (codeOf t % 7)) (either (codeOf t))
-
-pub ldexp-by : (t u : Ty) → formed t ≡ true → formed u ≡ true → ldexpTakes t u ≡ ldexpCodes (codeOf t) (codeOf u)
-unfolding ldexpTakes
-ldexp-by t u f g = let p = parts t f in let q = parts u g in rw (p .single, p .many, p .component, q .single, q .many, q .component)

@@ -18,7 +18,7 @@ use Rattle.overload.specs.Overload.Judged.{gives, noneFits, nonePreferred}
 use Rattle.overload.specs.Marks.{sifted, dropped}
 use Rattle.overload.specs.Rows.{formAt, componentAt, wrapped, overSecond, atSizes, overSet, ofFamilies, headCount, judgeBy}
 use Rattle.names.specs.Names.{Rule, Name, names, sameBytes, within, Named, ruleIn, ruleOf}
-use Rattle.names.specs.Names.Rule.{ruling, storing, bitcast, arrayLength, ldexp, barrier}
+use Rattle.names.specs.Names.Rule.{ruling, storing, bitcast, barrier}
 use Rattle.names.specs.Names.Named.{rule, unknown}
 use Rattle.call_ty.specs.Calls.{operandsBy, operandsOf, givenBy, Given}
 use Rattle.call_ty.specs.Calls.Given.{judgment, nothing}
@@ -47,8 +47,6 @@ wants : ℕ → Rule → Bool
 wants profile (ruling r) = leb 1 (operandsBy r) || (leb 1 profile && gaveScalar (judgeBy r [] []))
 wants profile storing = true
 wants profile bitcast = true
-wants profile arrayLength = true
-wants profile ldexp = true
 wants profile barrier = true
 
 allWant : List Name → Bool
@@ -109,8 +107,6 @@ by-rule profile (ruling r) (first, l, t) e ts =
     scalarly (g .0) (g .1) (omega arith) (ap judgment (g .2))
 by-rule profile storing w e ts = absurd (omega arith)
 by-rule profile bitcast w e ts = absurd (omega arith)
-by-rule profile arrayLength w e ts = absurd (omega arith)
-by-rule profile ldexp w e ts = absurd (omega arith)
 by-rule profile barrier w e ts = silent refl
 
 -- A CALL WITHOUT OPERANDS, in a profile

@@ -8,21 +8,21 @@ use native.Mathlib.Omega.{arith}
 use lib.Dec.{eqb, ltb, leb}
 use lib.ListN.{length, getD, length-map}
 use borrow.Author.Tests.{eq-eqb, ne-eqb, eqb-true, eqb-false, ltb-true, ltb-false, leb-true, leb-false}
-use Rattle.conv.specs.Types.{Ty, u32}
+use Rattle.conv.specs.Types.{Ty}
 use Rattle.conv.specs.Types.Ty.{scalar, exchange}
-use Rattle.overload.specs.Overload.{or}
+use Rattle.overload.specs.Overload.{Judged, or}
 use Rattle.overload.specs.Marks.{anyRunning, runningAbstract}
-use Rattle.overload.specs.Rows.{Row, rowAt, operandCount, judgeAtomic, judgeLoad, alone, judgeBy}
+use Rattle.overload.specs.Rows.{Row, rowAt, operandCount, judgeAtomic, judgeLoad, judgeLength, alone, judgeBy}
 use Rattle.overload.proofs.Marks.{judge-kept}
-use Rattle.overload.specs.Rows.Ruling.{byRow}
+use Rattle.overload.specs.Rows.Ruling.{byRow, arrayLength}
 use Rattle.overload.proofs.Counts.{count-few}
 use Rattle.overload.specs.inner.Code.{operand, codeOf, judgeKept}
 use Rattle.overload.proofs.Operands.{and-left, allFormed, codesOf, judge-types}
 use Rattle.names.specs.Names.{Rule, loading, updating, exchanging, uniformLoading}
-use Rattle.names.specs.Names.Rule.{ruling, storing, bitcast, arrayLength, ldexp, barrier}
+use Rattle.names.specs.Names.Rule.{ruling, storing, bitcast, barrier}
 use Rattle.names.specs.Names.Named.{rule, unknown}
 use Rattle.names.specs.inner.Table.{numbered}
-use Rattle.names.proofs.Rules.{numbered-row, numbered-bitcast, numbered-length, numbered-ldexp, numbered-load, numbered-update, numbered-store, numbered-compare, numbered-uniform, numbered-barrier}
+use Rattle.names.proofs.Rules.{numbered-row, numbered-bitcast, numbered-length, numbered-load, numbered-update, numbered-store, numbered-compare, numbered-uniform, numbered-barrier}
 use Rattle.answer.specs.Answer.{accept, refuse, markedBy, Accepted, WithoutValue}
 use Rattle.answer.specs.declared.Reason.{Reason}
 use Rattle.answer.specs.declared.Typed.{Typed}
@@ -31,16 +31,16 @@ use Rattle.table.specs.Denote.{typeAt}
 use Rattle.table.specs.Placing.{Outcome, Gave, GaveMarked, turnedDown}
 use Rattle.answer.specs.declared.Answer.{Answer}
 use Rattle.answer.specs.declared.TypeNo.{TypeNo}
-use Rattle.answer.specs.declared.Reason.the-variants.{Unsound, NoSuchType, Reference, Unknown, Template, Operands, NoOverload, RunningAbstract}
+use Rattle.answer.specs.declared.Reason.the-variants.{Unsound, NoSuchType, Reference, Unknown, Template, Operands, RunningAbstract}
 use Rattle.table.proofs.KindLaws.{split}
-use Rattle.table.proofs.TypeLaws.{type-scalar}
 use Rattle.table.proofs.FormedLaws.{formed-at}
 use Rattle.table.proofs.PlacingLaws.{standing-outcome}
 use Rattle.table.proofs.Giving.{gave, gave-marked}
 use Rattle.ruled.specs.Call.{operandTy, operandTys, anyReference, judgedOutcome, withoutValue, silentOutcome}
-use Rattle.call_ty.specs.Calls.{firstIn, wideNumeric, templateRight, operandsBy, operandsOf, ldexpTakes, judgeLdexp, givenBy, givenOutcome, byRule, runsBy, callOutcome, allUnder, numbers, marksOf, types, typeBuiltinFn}
-use Rattle.call_ty.specs.inner.Codes.{Under, numericCode, ldexpCodes}
-use Rattle.call_ty.proofs.Parts.{numeric-by, ldexp-by}
+use Rattle.call_ty.specs.Calls.{firstIn, wideNumeric, templateRight, operandsBy, operandsOf, givenBy, givenOutcome, byRule, runsBy, callOutcome, allUnder, numbers, marksOf, types, typeBuiltinFn}
+use Rattle.call_ty.specs.Calls.Given.{judgment}
+use Rattle.call_ty.specs.inner.Codes.{Under, numericCode}
+use Rattle.call_ty.proofs.Parts.{numeric-by}
 use Rattle.call_ty.proofs.Lists.{type-in}
 
 -- what the two makers of an accepted answer give
@@ -66,12 +66,11 @@ unfolding templateRight numbered
 no-list k ts h =
     split (ltb k 100) (λ a. rw a) (λ a.
     split (eqb k 101) (λ b. rw (a, ne-eqb k 100 h, b)) (λ b.
-    split (eqb k 102) (λ d. rw (a, ne-eqb k 100 h, b, d)) (λ d.
-    split (eqb k 104) (λ e. rw (a, ne-eqb k 100 h, b, d, e)) (λ e.
-    split (eqb k 105) (λ f. rw (a, ne-eqb k 100 h, b, d, e, f)) (λ f.
-    split (eqb k 106) (λ g. rw (a, ne-eqb k 100 h, b, d, e, f, g)) (λ g.
-    split (eqb k 107) (λ i. rw (a, ne-eqb k 100 h, b, d, e, f, g, i)) (λ i.
-    split (eqb k 108) (λ j. rw (a, ne-eqb k 100 h, b, d, e, f, g, i, j)) (λ j. rw (a, ne-eqb k 100 h, b, d, e, f, g, i, j)))))))))
+    split (eqb k 104) (λ e. rw (a, ne-eqb k 100 h, b, e)) (λ e.
+    split (eqb k 105) (λ f. rw (a, ne-eqb k 100 h, b, e, f)) (λ f.
+    split (eqb k 106) (λ g. rw (a, ne-eqb k 100 h, b, e, f, g)) (λ g.
+    split (eqb k 107) (λ i. rw (a, ne-eqb k 100 h, b, e, f, g, i)) (λ i.
+    split (eqb k 108) (λ j. rw (a, ne-eqb k 100 h, b, e, f, g, i, j)) (λ j. rw (a, ne-eqb k 100 h, b, e, f, g, i, j))))))))
 
 module _ (w : List ℕ) (k : ℕ) (ts : List ℕ) where
   pub template-none : k ≢ 100 → eqb (length ts) 0 ≡ templateRight (numbered k) (types w ts)
@@ -97,25 +96,9 @@ module _ (w : List ℕ) (k : ℕ) (ts : List ℕ) where
         sym (length-map ts (typeAt w))
         ∙ eqb-true (length (types w ts)) 1 (and-left (eqb (length (types w ts)) 1) (wideNumeric (firstIn (types w ts))) (rw (numbered-bitcast k h) at o))
 
--- THE CRATE RULES
+-- A RULED NAME, AND `bitcast`
 
 module _ (place : ℕ) (w : List ℕ) (n : ℕ) (s : Sound w n) where
-  pub ldexp-taken : (a b : ℕ) → a < n → b < n → (x y : ℕ) → x ≡ codeOf (typeAt w a) → y ≡ codeOf (typeAt w b) → ldexpCodes x y ≡ true
-      → record { answer = accept a n; words = w } ≡ judgedOutcome place w n (judgeLdexp (typeAt w a) (typeAt w b))
-  unfolding judgedOutcome judgeLdexp
-  ldexp-taken a b l m x y d e h =
-      let k : ldexpTakes (typeAt w a) (typeAt w b) ≡ true =
-      ldexp-by (typeAt w a) (typeAt w b) (formed-at w n s a l) (formed-at w n s b m) ∙ (λ i. ldexpCodes (sym d i) (sym e i)) ∙ h in
-      sym (standing-outcome place w n s a (typeAt w a) l refl) ∙ sym (rw k)
-
-  pub ldexp-not : (a b : ℕ) → a < n → b < n → (x y : ℕ) → x ≡ codeOf (typeAt w a) → y ≡ codeOf (typeAt w b) → ldexpCodes x y ≡ false
-      → turnedDown NoOverload place w n ≡ judgedOutcome place w n (judgeLdexp (typeAt w a) (typeAt w b))
-  unfolding judgedOutcome judgeLdexp
-  ldexp-not a b l m x y d e h =
-      let k : ldexpTakes (typeAt w a) (typeAt w b) ≡ false =
-      ldexp-by (typeAt w a) (typeAt w b) (formed-at w n s a l) (formed-at w n s b m) ∙ (λ i. ldexpCodes (sym d i) (sym e i)) ∙ h in
-      sym (rw k)
-
   module _ (k : ℕ) (tplt args : List ℕ) (ms : List Bool) where
     -- a ruled name, by the numbers of its operands
     pub rule-row : k < 100 → (us : List Ty) → allFormed us ≡ true → runningAbstract us ms ≡ false → (running : Bool) → running ≡ anyRunning ms → (row : ℕ) → row ≡ k → (codes : List ℕ) → codes ≡ codesOf us
@@ -136,18 +119,6 @@ module _ (place : ℕ) (w : List ℕ) (n : ℕ) (s : Sound w n) where
         let l : 0 < length tplt = omega arith in
         sym (standing-outcome place w n s (getD tplt 0 0) (firstIn (types w tplt)) (u 0 l) (sym (type-in w tplt 0 l))) ∙ given-as bitcast (numbered-bitcast k h)
 
-    pub rule-length : k ≡ 101 → record { answer = accept u32 n; words = w } ≡ givenOutcome place w n (givenBy (numbered k) (types w tplt) (types w args) ms)
-    unfolding givenOutcome givenBy judgedOutcome
-    rule-length h =
-        let l = s .low in
-        sym (standing-outcome place w n s u32 (scalar u32) (omega arith) (type-scalar w u32 (omega arith))) ∙ given-as arrayLength (numbered-length k h)
-
-    pub rule-ldexp : k ≡ 102 → length args ≡ 2
-        → judgedOutcome place w n (judgeLdexp (typeAt w (getD args 0 0)) (typeAt w (getD args 1 0))) ≡ givenOutcome place w n (givenBy (numbered k) (types w tplt) (types w args) ms)
-    unfolding givenOutcome givenBy
-    rule-ldexp h o =
-        (λ i. judgedOutcome place w n (judgeLdexp (sym (type-in w args 0 (omega arith)) i) (sym (type-in w args 1 (omega arith)) i))) ∙ given-as ldexp (numbered-ldexp k h)
-
 -- CALLS ON MEMORY, by the first operand a and the others, vs
 
 module _ (place : ℕ) (w : List ℕ) (n : ℕ) (k : ℕ) (ts us : List Ty) (ms : List Bool) where
@@ -159,9 +130,20 @@ module _ (place : ℕ) (w : List ℕ) (n : ℕ) (k : ℕ) (ts us : List Ty) (ms 
   rule-barrier e = as-given barrier e
 
   module _ (a : Ty) (vs : List Ty) (is : a ∷ vs ≡ us) where
-    pub rule-uniform : vs ≡ [] → k ≡ 108 → judgedOutcome place w n (judgeLoad a) ≡ givenOutcome place w n (givenBy (numbered k) ts us ms)
-    unfolding givenOutcome givenBy judgeBy alone
-    rule-uniform e h = ap (λ (l : List Ty). judgedOutcome place w n (alone judgeLoad l)) ((λ i. a ∷ sym e i) ∙ is) ∙ as-given uniformLoading (numbered-uniform k h)
+    -- of one operand
+    module _ (e : vs ≡ []) where
+      rule-alone : (j : Ty → Judged) (r : Rule) → givenBy r ts us ms ≡ judgment (alone j us) → numbered k ≡ r → judgedOutcome place w n (j a) ≡ givenOutcome place w n (givenBy (numbered k) ts us ms)
+      unfolding givenOutcome alone
+      rule-alone j r g h =
+          ap (λ (l : List Ty). judgedOutcome place w n (alone j l)) ((λ i. a ∷ sym e i) ∙ is) ∙ ap (givenOutcome place w n) (sym g) ∙ as-given r h
+
+      pub rule-uniform : k ≡ 108 → judgedOutcome place w n (judgeLoad a) ≡ givenOutcome place w n (givenBy (numbered k) ts us ms)
+      unfolding givenBy judgeBy
+      rule-uniform h = rule-alone judgeLoad uniformLoading refl (numbered-uniform k h)
+
+      pub rule-length : k ≡ 101 → judgedOutcome place w n (judgeLength a) ≡ givenOutcome place w n (givenBy (numbered k) ts us ms)
+      unfolding givenBy judgeBy
+      rule-length h = rule-alone judgeLength (ruling arrayLength) refl (numbered-length k h)
 
     module _ (j : ℕ) where
       pub rule-compare : j ≡ 2 → k ≡ 107 → judgedOutcome place w n (judgeAtomic j exchange (a ∷ vs)) ≡ givenOutcome place w n (givenBy (numbered k) ts us ms)
@@ -196,13 +178,9 @@ module _ (k : ℕ) where
   count-row h = ap operandsOf (sym (numbered-row k h))
 
   pub count-one : 100 ≤ k → k ≤ 101 → 1 ≡ operandsOf (numbered k)
-  unfolding operandsOf
+  unfolding operandsOf operandsBy
   count-one l h =
       split (eqb k 100) (λ e. ap operandsOf (sym (numbered-bitcast k (eqb-true k 100 e)))) (λ e. let q = eqb-false k 100 e in ap operandsOf (sym (numbered-length k (omega arith))))
-
-  pub count-ldexp : k ≡ 102 → 2 ≡ operandsOf (numbered k)
-  unfolding operandsOf
-  count-ldexp h = ap operandsOf (sym (numbered-ldexp k h))
 
   pub count-load : k ≡ 104 → 1 ≡ operandsOf (numbered k)
   unfolding operandsOf operandsBy
@@ -224,22 +202,22 @@ module _ (k : ℕ) where
   unfolding operandsOf operandsBy
   count-uniform h = ap operandsOf (sym (numbered-uniform k h))
 
-  pub count-none : 103 ≤ k → k ≢ 104 → k ≢ 105 → k ≢ 106 → k ≢ 107 → k ≢ 108 → 0 ≡ operandsOf (numbered k)
+  pub count-none : 102 ≤ k → k ≢ 104 → k ≢ 105 → k ≢ 106 → k ≢ 107 → k ≢ 108 → 0 ≡ operandsOf (numbered k)
   unfolding operandsOf
-  count-none l a b c d e = ap operandsOf (sym (numbered-barrier k (omega arith) (λ q. omega arith) (λ q. omega arith) (λ q. omega arith) a b c d e))
+  count-none l a b c d e = ap operandsOf (sym (numbered-barrier k (omega arith) (λ q. omega arith) (λ q. omega arith) a b c d e))
 
   -- a barrier, or above the last
-  pub barrier-by : 103 ≤ k → (eqb k 103 || ltb 108 k) ≡ true → numbered k ≡ barrier
+  pub barrier-by : 102 ≤ k → (leb k 103 || ltb 108 k) ≡ true → numbered k ≡ barrier
   barrier-by l h =
-      split (eqb k 103)
-      (λ b. let e = eqb-true k 103 b in numbered-barrier k (omega arith) (λ q. omega arith) (λ q. omega arith) (λ q. omega arith) (λ q. omega arith) (λ q. omega arith) (λ q. omega arith) (λ q. omega arith) (λ q. omega arith))
-      (λ b. let e = ltb-true 108 k (sym (ap (λ (x : Bool). x || ltb 108 k) b) ∙ h) in numbered-barrier k (omega arith) (λ q. omega arith) (λ q. omega arith) (λ q. omega arith) (λ q. omega arith) (λ q. omega arith) (λ q. omega arith) (λ q. omega arith) (λ q. omega arith))
+      split (leb k 103)
+      (λ b. let e = leb-true k 103 b in numbered-barrier k (omega arith) (λ q. omega arith) (λ q. omega arith) (λ q. omega arith) (λ q. omega arith) (λ q. omega arith) (λ q. omega arith) (λ q. omega arith))
+      (λ b. let e = ltb-true 108 k (sym (ap (λ (x : Bool). x || ltb 108 k) b) ∙ h) in numbered-barrier k (omega arith) (λ q. omega arith) (λ q. omega arith) (λ q. omega arith) (λ q. omega arith) (λ q. omega arith) (λ q. omega arith) (λ q. omega arith))
 
   -- neither
-  pub memory-by : 103 ≤ k → (eqb k 103 || ltb 108 k) ≡ false → (104 ≤ k) × (k ≤ 108)
-  memory-by l h =
-      split (eqb k 103) (λ b. absurd (let z : true ≡ false = sym (ap (λ (x : Bool). x || ltb 108 k) b) ∙ h in let q : _≡_ {A = ℕ} 0 1 = cc in omega arith))
-      (λ b. let d = eqb-false k 103 b in let e = ltb-false 108 k (sym (ap (λ (x : Bool). x || ltb 108 k) b) ∙ h) in (omega arith, omega arith))
+  pub memory-by : (leb k 103 || ltb 108 k) ≡ false → (104 ≤ k) × (k ≤ 108)
+  memory-by h =
+      split (leb k 103) (λ b. absurd (let z : true ≡ false = sym (ap (λ (x : Bool). x || ltb 108 k) b) ∙ h in let q : _≡_ {A = ℕ} 0 1 = cc in omega arith))
+      (λ b. let d = leb-false k 103 b in let e = ltb-false 108 k (sym (ap (λ (x : Bool). x || ltb 108 k) b) ∙ h) in (omega arith, omega arith))
 
   -- one at least
   pub memory-counted : 104 ≤ k → k ≤ 108 → 1 ≤ operandsOf (numbered k)
@@ -257,14 +235,13 @@ module _ (k : ℕ) where
       split (ltb k 100) (λ a. let e = count-row (ltb-true k 100 a) in let f = count-few k in omega (arith, e, f)) (λ a.
       let l = ltb-false k 100 a in
       split (leb k 101) (λ b. let e = count-one l (leb-true k 101 b) in omega (arith, e)) (λ b.
-      split (eqb k 102) (λ d. let e = count-ldexp (eqb-true k 102 d) in omega (arith, e)) (λ d.
       split (eqb k 104) (λ f. let e = count-load (eqb-true k 104 f) in omega (arith, e)) (λ f.
       split (eqb k 105) (λ g. let e = count-update (eqb-true k 105 g) in omega (arith, e)) (λ g.
       split (eqb k 106) (λ h. let e = count-store (eqb-true k 106 h) in omega (arith, e)) (λ h.
       split (eqb k 107) (λ i. let e = count-compare (eqb-true k 107 i) in omega (arith, e)) (λ i.
       split (eqb k 108) (λ j. let e = count-uniform (eqb-true k 108 j) in omega (arith, e)) (λ j.
-      let m = leb-false k 101 b in let o = eqb-false k 102 d in
-      let e = count-none (omega arith) (eqb-false k 104 f) (eqb-false k 105 g) (eqb-false k 106 h) (eqb-false k 107 i) (eqb-false k 108 j) in omega (arith, e)))))))))
+      let m = leb-false k 101 b in
+      let e = count-none (omega arith) (eqb-false k 104 f) (eqb-false k 105 g) (eqb-false k 106 h) (eqb-false k 107 i) (eqb-false k 108 j) in omega (arith, e))))))))
 
 -- A CALL BY ITS RULE
 

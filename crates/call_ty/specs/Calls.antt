@@ -1,20 +1,20 @@
 -- The builtins of documents 01 and 02, by their names, and what a call of one does in a profile, on operands with marks. Assumes nothing.
 use Prim.Native.Nat.{ℕ, suc}
-use mathlib.Core.Bool.{Bool, true, false, _&&_, _||_, not, cond}
+use mathlib.Core.Bool.{Bool, true, false, _&&_, _||_, cond}
 use mathlib.Core.List.{List, [], _∷_, map}
 use lib.Dec.{eqb, ltb}
 use lib.ListN.{length, getD}
 use Rattle.held.specs.Held.{numberOf, markOf}
-use Rattle.conv.specs.Types.{Ty, bool, abstractInt, i32, u32, isFloat, isAbstract}
+use Rattle.conv.specs.Types.{Ty, bool, abstractInt, i32, u32, isFloat}
 use Rattle.conv.specs.Types.Ty.{scalar}
 use Rattle.conv.specs.Rank.{tagOf, componentOf}
 use Rattle.overload.specs.Overload.{Judged, or}
-use Rattle.overload.specs.Overload.Judged.{gives, noneFits}
+use Rattle.overload.specs.Overload.Judged.{gives}
 use Rattle.overload.specs.Marks.{anyRunning, runningAbstract}
 use Rattle.overload.specs.Rows.{Ruling, operandCount, judgeBy}
-use Rattle.overload.specs.Rows.Ruling.{byRow, address, indirection, onAtomic, comparing, uniformLoad}
+use Rattle.overload.specs.Rows.Ruling.{byRow, address, indirection, onAtomic, comparing, uniformLoad, arrayLength}
 use Rattle.names.specs.Names.{Rule, Named, ruleOf}
-use Rattle.names.specs.Names.Rule.{ruling, storing, bitcast, arrayLength, ldexp, barrier}
+use Rattle.names.specs.Names.Rule.{ruling, storing, bitcast, barrier}
 use Rattle.names.specs.Names.Named.{rule, unknown}
 use Rattle.table.specs.Table.{soundb}
 use Rattle.table.specs.Denote.{typeAt}
@@ -37,12 +37,9 @@ isNumeric s = isFloat s || eqb s abstractInt || eqb s i32 || eqb s u32
 unfoldable pub wideNumeric : Ty → Bool
 wideNumeric t = (isScalar t || isVector t) && isNumeric (componentOf t)
 
--- the first and the second of a list
+-- the first of a list
 abbrev pub firstIn : List Ty → Ty
 firstIn ts = getD ts 0 (scalar bool)
-
-abbrev pub secondIn : List Ty → Ty
-secondIn ts = getD ts 1 (scalar bool)
 
 -- THE TEMPLATE LIST: "`bitcast` with one template type, numeric scalar or vector (else 5)"; no other builtin wants one
 
@@ -53,8 +50,6 @@ unfoldable pub templateRight : Rule → List Ty → Bool
 templateRight (ruling r) ts = noList ts
 templateRight storing ts = noList ts
 templateRight bitcast ts = eqb (length ts) 1 && wideNumeric (firstIn ts)
-templateRight arrayLength ts = noList ts
-templateRight ldexp ts = noList ts
 templateRight barrier ts = noList ts
 
 -- HOW MANY OPERANDS a rule wants: as many as its overloads have parameters. atomicStore takes a pointer and one value
@@ -66,42 +61,27 @@ operandsBy indirection = 1
 operandsBy (onAtomic k) = suc k
 operandsBy comparing = 3
 operandsBy uniformLoad = 1
+operandsBy arrayLength = 1
 
 unfoldable pub operandsOf : Rule → ℕ
 operandsOf (ruling r) = operandsBy r
 operandsOf storing = operandsBy (onAtomic 1)
 operandsOf bitcast = 1
-operandsOf arrayLength = 1
-operandsOf ldexp = 2
 operandsOf barrier = 0
 
 -- THE RULES, on operands of which none is a reference, and none both running and abstract
-
--- "`ldexp`: a float with AbstractInt or i32, or a float vector with such a vector of any width, both concrete or both abstract"
-unfoldable pub ldexpTakes : Ty → Ty → Bool
-ldexpTakes t u =
-    ((isScalar t && isScalar u) || (isVector t && isVector u))
-    && isFloat (componentOf t)
-    && (eqb (componentOf u) abstractInt || eqb (componentOf u) i32)
-    && ((not (isAbstract (componentOf t)) && not (isAbstract (componentOf u))) || (isAbstract (componentOf t) && isAbstract (componentOf u)))
-
--- ".. gives the first type"; else 8
-unfoldable pub judgeLdexp : Ty → Ty → Judged
-judgeLdexp t u = cond (ldexpTakes t u) (gives t) noneFits
 
 -- what a rule gives: a judgment; no value, where one is accepted; or no value at all
 pub data Given : Type 0 where
   judgment silently : Judged → Given
   nothing : Given
 
--- a ruled name by its overloads; document 02, K5: "atomicStore has no value"; `bitcast` gives its template type; "`arrayLength`, one operand, gives u32"; "storageBarrier, textureBarrier,
--- workgroupBarrier: no operand, no value". Only overloads look at the operands' marks, ms
+-- a ruled name by its overloads; document 02, K5: "atomicStore has no value"; `bitcast` gives its template type; "storageBarrier, textureBarrier, workgroupBarrier: no operand,
+-- no value". Only overloads look at the operands' marks, ms
 unfoldable pub givenBy : Rule → List Ty → List Ty → List Bool → Given
 givenBy (ruling r) ts us ms = judgment (judgeBy r us ms)
 givenBy storing ts us ms = silently (judgeBy (onAtomic 1) us ms)
 givenBy bitcast ts us ms = judgment (gives (firstIn ts))
-givenBy arrayLength ts us ms = judgment (gives (scalar u32))
-givenBy ldexp ts us ms = judgment (judgeLdexp (firstIn us) (secondIn us))
 givenBy barrier ts us ms = nothing
 
 -- 8, 13, 9 or the type's number; where there is no value the table stays as it is

@@ -14,16 +14,14 @@ ghost use mathlib.Core.List.{List};
 ghost use Prim.Native.Nat.{_<_, _≤_};
 ghost use lib.ListN.{length};
 ghost use Rattle.names.specs.inner.Table.{numbered, nameTable};
-ghost use Rattle.conv.specs.Types.{Ty, isFloat, isAbstract};
+ghost use Rattle.conv.specs.Types.{Ty, isFloat};
 ghost use Rattle.table.specs.Table.{Sound};
-ghost use Rattle.table.specs.Denote.{typeAt};
 ghost use Rattle.table.specs.Placing.{Gave, GaveMarked};
 ghost use Rattle.answer.specs.Answer.{refuse, markedBy};
 ghost use Rattle.held.specs.Held.{numberOf};
 ghost use Rattle.overload.specs.Marks.{anyRunning, runningAbstract};
-ghost use Rattle.ruled.specs.Call.{judgedOutcome};
-ghost use Rattle.call_ty.specs.Calls.{templateRight, operandsOf, judgeLdexp, givenBy, givenOutcome, callOutcome, allUnder, numbers, marksOf, types, typeBuiltinFn, builtinRuns};
-ghost use Rattle.call_ty.specs.inner.Codes.{byNumber, Under, numbersIf, Loaded, numericCode, ldexpCodes};
+ghost use Rattle.call_ty.specs.Calls.{templateRight, operandsOf, givenBy, givenOutcome, callOutcome, allUnder, numbers, marksOf, types, typeBuiltinFn, builtinRuns};
+ghost use Rattle.call_ty.specs.inner.Codes.{byNumber, Under, numbersIf, Loaded, numericCode};
 
 // The most operands of a rule.
 const MOST: usize = 4;
@@ -46,12 +44,6 @@ fn is_float(s: u8) -> bool
     (s == ABSTRACT_FLOAT) | (s == F32) | (s == F16)
 }
 
-fn is_abstract(s: u8) -> bool
-    ensures { λ r. ⌜ r ≡ isAbstract s ⌝ }
-{
-    (s == ABSTRACT_INT) | (s == ABSTRACT_FLOAT)
-}
-
 // The number of a numeric scalar or vector.
 fn numeric_code(x: u8) -> bool
     ensures { λ r. ⌜ r ≡ numericCode x ⌝ }
@@ -60,22 +52,9 @@ fn numeric_code(x: u8) -> bool
     (x < PLAINS) & (is_float(s) | (s == ABSTRACT_INT) | (s == I32) | (s == U32))
 }
 
-// The numbers of two operands that `ldexp` takes.
-fn ldexp_codes(x: u8, y: u8) -> bool
-    ensures { λ r. ⌜ r ≡ ldexpCodes x y ⌝ }
-{
-    let s = x % SCALARS;
-    let t = y % SCALARS;
-    let scalars = (x < SCALARS) & (y < SCALARS);
-    let vectors = ((SCALARS <= x) & (x < PLAINS)) & ((SCALARS <= y) & (y < PLAINS));
-    let abstracts = is_abstract(s) & is_abstract(t);
-    let concretes = !is_abstract(s) & !is_abstract(t);
-    (scalars | vectors) & is_float(s) & ((t == ABSTRACT_INT) | (t == I32)) & (concretes | abstracts)
-}
-
 // How many operands a call on memory wants; a barrier wants none.
 fn memory_operands(rule: u8) -> usize
-    requires { ⌜ 103 ≤ rule ⌝ }
+    requires { ⌜ 102 ≤ rule ⌝ }
     ensures { λ r. ⌜ r ≡ operandsOf (numbered rule) ⌝ }
 {
     if rule == names::RULE_ATOMIC_LOAD {
@@ -105,9 +84,6 @@ fn operands_of(rule: u8) -> usize
     }
     if rule <= names::RULE_ARRAY_LENGTH {
         return 1;
-    }
-    if rule == names::RULE_LDEXP {
-        return 2;
     }
     memory_operands(rule)
 }
@@ -196,25 +172,15 @@ fn load(words: &[u32], n: usize, args: &[u32], codes: &mut [u8]) -> bool
     true
 }
 
-// `ldexp` on two loaded operands.
-fn ldexp_at(words: &[u32], n: usize, place: Place, a: usize, b: usize) -> Answer
-    requires { ⌜ Sound (now words) n × (a < n) × (b < n) ⌝ }
-    ensures { λ r. ⌜ Gave (judgedOutcome (place .0) (now (words .entry)) n (judgeLdexp (typeAt (now (words .entry)) a) (typeAt (now (words .entry)) b))) r (now (words .entry)) ⌝ }
-{
-    let x = ruled::code_at(words, n, a);
-    let y = ruled::code_at(words, n, b);
-    if ldexp_codes(x, y) {
-        return table::accepted(TypeNo(a), n);
-    }
-    table::refused(Reason::NoOverload, place, n)
-}
-
 // A call on memory on loaded operands, of which the first is the pointer; or a barrier.
 fn memory_rule(words: &mut [u32], n: usize, place: Place, rule: u8, args: &[u32]) -> Answer
-    requires { ⌜ Sound (now words) n × Under n (numbers (now args)) × (103 ≤ rule) × (length (now args) ≡ operandsOf (numbered rule)) ⌝ }
+    requires { ⌜ Sound (now words) n × Under n (numbers (now args)) × (101 ≤ rule) × (length (now args) ≡ operandsOf (numbered rule)) ⌝ }
     ensures { λ r. ⌜ ((ts : List Ty) → Gave (givenOutcome (place .0) (now (words .entry)) n (givenBy (numbered rule) ts (types (now (words .entry)) (numbers (now (args .entry)))) (marksOf (now (args .entry))))) r (now (words .exit))) ⌝ }
 {
-    if (rule == names::RULE_BARRIER) | (names::RULE_UNIFORM_LOAD < rule) {
+    if rule == names::RULE_ARRAY_LENGTH {
+        return memory::array_length(words, n, place, args[0]);
+    }
+    if (rule <= names::RULE_BARRIER) | (names::RULE_UNIFORM_LOAD < rule) {
         return table::no_value(n);
     }
     let a = args[0];
@@ -228,26 +194,6 @@ fn memory_rule(words: &mut [u32], n: usize, place: Place, rule: u8, args: &[u32]
         return memory::storing(words, n, place, a, &args[1..]);
     }
     memory::on_atomic(words, n, place, a, &args[1..])
-}
-
-// A crate rule on loaded operands: each of its types stands in the table already.
-fn crate_rule(words: &[u32], n: usize, place: Place, rule: u8, tplt: &[u32], args: &[u32]) -> Answer
-    requires { ⌜ Sound (now words) n × Under n (now tplt) × Under n (numbers (now args)) × (100 ≤ rule) × (rule ≤ 102) × (templateRight (numbered rule) (types (now words) (now tplt)) ≡ true) × (length (now args) ≡ operandsOf (numbered rule)) ⌝ }
-    ensures { λ r. ⌜ Gave (givenOutcome (place .0) (now (words .entry)) n (givenBy (numbered rule) (types (now (words .entry)) (now (tplt .entry))) (types (now (words .entry)) (numbers (now (args .entry)))) (marksOf (now (args .entry))))) r (now (words .entry)) ⌝ }
-{
-    if rule == names::RULE_BITCAST {
-        return table::accepted(TypeNo(cast::word(tplt[0])), n);
-    }
-    if rule == names::RULE_ARRAY_LENGTH {
-        return table::accepted(TypeNo(table::U32), n);
-    }
-    ldexp_at(
-        words,
-        n,
-        place,
-        held::number(args[0]).0,
-        held::number(args[1]).0,
-    )
 }
 
 // A call of a builtin by its rule: 5, 7, 3, 14, then the rule itself.
@@ -280,10 +226,10 @@ fn by_rule(
         let running = any_running(args);
         return ruled::judge_codes(words, n, place, cast::wide(rule), running, &codes[0..k]);
     }
-    if names::RULE_LDEXP < rule {
-        return memory_rule(words, n, place, rule, args);
+    if rule == names::RULE_BITCAST {
+        return table::accepted(TypeNo(cast::word(tplt[0])), n);
     }
-    crate_rule(words, n, place, rule, tplt, args)
+    memory_rule(words, n, place, rule, args)
 }
 
 // A refusal at a place, which has no mark.

@@ -1,6 +1,6 @@
 -- `call_ty::by_rule` meets its contract: 5, 7, 3, 14 and then the rule, each way out a law of Ways. Assumes nothing.
 use Prim.Native.Nat.{ℕ}
-use mathlib.Core.Path.{_≡_, sym, _∙_}
+use mathlib.Core.Path.{_≡_, sym, _∙_, ap}
 use mathlib.Core.Bool.{false}
 use mathlib.Core.List.{List}
 use native.Mathlib.Omega.{arith}
@@ -9,10 +9,11 @@ use borrow.Author.Tests.{not-true, not-false}
 use borrow.Author.Needs.{needs}
 use Rattle.held.specs.Held.{numberOf}
 use Rattle.names.specs.inner.Table.{numbered}
+use Rattle.answer.specs.Answer.{accept}
 use Rattle.table.specs.Denote.{typeAt}
 use Rattle.ruled.proofs.Outcomes.{gave-as, gave-refused}
 use Rattle.call_ty.specs.Calls.{numbers, marksOf, types}
-use Rattle.call_ty.proofs.Ways.{by-template, by-count, by-reference, by-clash, by-call, rule-row, at-most}
+use Rattle.call_ty.proofs.Ways.{gave-accepted, template-some, by-template, by-count, by-reference, by-clash, by-call, rule-row, rule-bitcast, at-most}
 use Rattle.call_ty.proofs.Lists.{types-formed, codes-front}
 use Rattle.call_ty.proofs.by_rule.Statement.{statement}
 use Rattle.call_ty.proofs.by_rule.Tie as tie
@@ -138,17 +139,46 @@ returns-5 c =
     (counted (a .args .now) w ∙ c .before .before .before .before .before .before .before .before .before .before .before .before .before .before .before .before .before .if2 .left ∙ c .before .before .before .before .before .before .before .before .before .before .before .before .before .before .before .before .before .before .operands-of .ensures) (not-true _ (sym (c .before .before .before .before .before .before .before .before .before .before .before .before .before .before .load .ensures .reply) ∙ r)) d)
     (c .before .before .judge-codes .ensures)
 
-memory-rule-requires : tie.Need-memory-rule-requires
-memory-rule-requires c κs =
+shared-slice-read-word : tie.Need-shared-slice-read-word
+shared-slice-read-word c =
     let s = c .before .before .before .before .before .before .before .before .before .before .before .before .before .before .before .before .before .before .before in
-    let k = c .before .if6 .taken in
-    (s .pre .0, s .pre .2, omega arith, c .before .before .before .before .before .before .before .before .before .before .before .if2 .left ∙ c .before .before .before .before .before .before .before .before .before .before .before .before .operands-of .ensures)
+    let k = template-some (s .args .words .now) (s .args .rule) (s .args .tplt .now) (c .before .if6 .taken) (sym (c .before .before .before .before .before .before .before .before .before .before .before .before .before .before .template-right .ensures) ∙ not-false _ (c .before .before .before .before .before .before .before .before .before .before .before .before .before .if1 .left)) in
+    omega arith
+
+word-requires : tie.Need-word-requires
+word-requires c κs = search needs
+
+accepted-requires : tie.Need-accepted-requires
+accepted-requires c κs = search needs
 
 same-length-6 : tie.Need-same-length-6
 same-length-6 c = search needs
 
 returns-6 : tie.Need-returns-6
 returns-6 c =
+    let s = c .before .before .before .before .before .before .before .before .before .before .before .before .before .before .before .before .before .before .before .before .before in
+    let a = s .args in
+    let w = a .words .now in
+    let t = sym (c .before .before .before .before .before .before .before .before .before .before .before .before .before .before .before .before .template-right .ensures) ∙ not-false _ (c .before .before .before .before .before .before .before .before .before .before .before .before .before .before .before .if1 .left) in
+    gave-as
+    (ap (λ (k : ℕ). record { answer = accept k (a .n); words = w }) (c .before .word .ensures)
+    ∙ rule-bitcast (a .place .0) w (a .n) (s .pre .0) (a .rule) (a .tplt .now) (numbers (a .args .now)) (marksOf (a .args .now)) (c .before .before .before .if6 .taken) (s .pre .1) (template-some w (a .rule) (a .tplt .now) (c .before .before .before .if6 .taken) t)
+    ∙ by-call (a .place .0) w (a .n) (numbered (a .rule)) false (types w (a .tplt .now)) (types w (numbers (a .args .now))) (marksOf (a .args .now)) t
+    (counted (a .args .now) w ∙ c .before .before .before .before .before .before .before .before .before .before .before .before .before .if2 .left ∙ c .before .before .before .before .before .before .before .before .before .before .before .before .before .before .operands-of .ensures) (not-true _ (sym (c .before .before .before .before .before .before .before .before .before .before .load .ensures .reply) ∙ not-false _ (c .before .before .before .before .before .before .before .before .if3 .left))) (sym (c .before .before .before .before .before .before .any-clashes .ensures) ∙ c .before .before .before .before .before .if4 .left))
+    (gave-accepted _ w (a .n) (c .accepted .ensures))
+
+memory-rule-requires : tie.Need-memory-rule-requires
+memory-rule-requires c κs =
+    let s = c .before .before .before .before .before .before .before .before .before .before .before .before .before .before .before .before .before .before .before in
+    let k = c .before .if6 .left in
+    let l = c .before .before .if5 .left in
+    (s .pre .0, s .pre .2, omega arith, c .before .before .before .before .before .before .before .before .before .before .before .if2 .left ∙ c .before .before .before .before .before .before .before .before .before .before .before .before .operands-of .ensures)
+
+same-length-7 : tie.Need-same-length-7
+same-length-7 c = search needs
+
+returns-7 : tie.Need-returns-7
+returns-7 c =
     let s = c .before .before .before .before .before .before .before .before .before .before .before .before .before .before .before .before .before .before .before .before .before .before in
     let a = s .args in
     let w = a .words .now in
@@ -157,23 +187,5 @@ returns-6 c =
     (counted (a .args .now) w ∙ c .before .before .before .before .before .before .before .before .before .before .before .before .before .before .if2 .left ∙ c .before .before .before .before .before .before .before .before .before .before .before .before .before .before .before .operands-of .ensures) (not-true _ (sym (c .before .before .before .before .before .before .before .before .before .before .before .load .ensures .reply) ∙ not-false _ (c .before .before .before .before .before .before .before .before .before .if3 .left))) (sym (c .before .before .before .before .before .before .before .any-clashes .ensures) ∙ c .before .before .before .before .before .before .if4 .left))
     (c .before .before .memory-rule .ensures (types w (a .tplt .now)))
 
-crate-rule-requires : tie.Need-crate-rule-requires
-crate-rule-requires c κs =
-    let s = c .before .before .before .before .before .before .before .before .before .before .before .before .before .before .before .before .before .before .before in
-    (s .pre .0, s .pre .1, s .pre .2, c .before .before .if5 .left, c .before .if6 .left, sym (c .before .before .before .before .before .before .before .before .before .before .before .before .before .before .template-right .ensures) ∙ not-false _ (c .before .before .before .before .before .before .before .before .before .before .before .before .before .if1 .left), c .before .before .before .before .before .before .before .before .before .before .before .if2 .left ∙ c .before .before .before .before .before .before .before .before .before .before .before .before .operands-of .ensures)
-
-same-length-7 : tie.Need-same-length-7
-same-length-7 c = search needs
-
-returns-7 : tie.Need-returns-7
-returns-7 c =
-    let s = c .before .before .before .before .before .before .before .before .before .before .before .before .before .before .before .before .before .before .before .before in
-    let a = s .args in
-    let w = a .words .now in
-    gave-as
-    (by-call (a .place .0) w (a .n) (numbered (a .rule)) false (types w (a .tplt .now)) (types w (numbers (a .args .now))) (marksOf (a .args .now)) (sym (c .before .before .before .before .before .before .before .before .before .before .before .before .before .before .before .template-right .ensures) ∙ not-false _ (c .before .before .before .before .before .before .before .before .before .before .before .before .before .before .if1 .left))
-    (counted (a .args .now) w ∙ c .before .before .before .before .before .before .before .before .before .before .before .before .if2 .left ∙ c .before .before .before .before .before .before .before .before .before .before .before .before .before .operands-of .ensures) (not-true _ (sym (c .before .before .before .before .before .before .before .before .before .load .ensures .reply) ∙ not-false _ (c .before .before .before .before .before .before .before .if3 .left))) (sym (c .before .before .before .before .before .any-clashes .ensures) ∙ c .before .before .before .before .if4 .left))
-    (c .crate-rule .ensures)
-
 pub by-rule-spec : {M : Type 1} → statement M
-by-rule-spec = tie.close (tie.spec template-right-requires refused-requires same-length returns operands-of-requires refused-requires-2 same-length-2 returns-2 slice-aggregate-load load-requires refused-requires-3 same-length-3 returns-3 any-clashes-requires refused-requires-4 same-length-4 returns-4 any-running-requires wide-requires sub-judge-codes part-judge-codes-start part-judge-codes-end judge-codes-requires same-length-5 returns-5 memory-rule-requires same-length-6 returns-6 crate-rule-requires same-length-7 returns-7)
+by-rule-spec = tie.close (tie.spec template-right-requires refused-requires same-length returns operands-of-requires refused-requires-2 same-length-2 returns-2 slice-aggregate-load load-requires refused-requires-3 same-length-3 returns-3 any-clashes-requires refused-requires-4 same-length-4 returns-4 any-running-requires wide-requires sub-judge-codes part-judge-codes-start part-judge-codes-end judge-codes-requires same-length-5 returns-5 shared-slice-read-word word-requires accepted-requires same-length-6 returns-6 memory-rule-requires same-length-7 returns-7)

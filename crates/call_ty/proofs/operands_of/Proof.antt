@@ -3,7 +3,7 @@ use mathlib.Core.Path.{_∙_, ap}
 use Prim.Native.Nat.{ℕ}
 use borrow.Author.Needs.{needs}
 use Rattle.overload.specs.Rows.{rowAt, operandCount}
-use Rattle.call_ty.proofs.Ways.{count-row, count-one, count-ldexp}
+use Rattle.call_ty.proofs.Ways.{count-row, count-one}
 use Rattle.call_ty.proofs.operands_of.Statement.{statement}
 use Rattle.call_ty.proofs.operands_of.Tie as tie
 
@@ -19,14 +19,11 @@ returns c = c .operand-count .ensures ∙ ap (λ (k : ℕ). operandCount (rowAt 
 returns-2 : tie.Need-returns-2
 returns-2 c = count-one (c .before .before .args .rule) (c .before .if1 .left) (c .if2 .taken)
 
-returns-3 : tie.Need-returns-3
-returns-3 c = count-ldexp (c .before .before .before .args .rule) (c .if3 .taken)
-
 memory-operands-requires : tie.Need-memory-operands-requires
 memory-operands-requires c κs = search needs
 
-returns-4 : tie.Need-returns-4
-returns-4 c = c .memory-operands .ensures
+returns-3 : tie.Need-returns-3
+returns-3 c = c .memory-operands .ensures
 
 pub operands-of-spec : {M : Type 1} → statement M
-operands-of-spec = tie.close (tie.spec wide-requires operand-count-requires returns returns-2 returns-3 memory-operands-requires returns-4)
+operands-of-spec = tie.close (tie.spec wide-requires operand-count-requires returns returns-2 memory-operands-requires returns-3)

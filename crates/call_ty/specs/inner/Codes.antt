@@ -2,12 +2,12 @@
 -- Assumes nothing.
 use Prim.Native.Nat.{ℕ, _%_, _<_}
 use mathlib.Core.Path.{_≡_}
-use mathlib.Core.Bool.{Bool, true, false, _&&_, _||_, not}
+use mathlib.Core.Bool.{Bool, true, false, _&&_, not}
 use mathlib.Core.List.{List, map}
-use lib.Dec.{eqb, ltb, leb}
+use lib.Dec.{ltb}
 use lib.ListN.{length, getD, take}
 use Rattle.held.specs.Held.{numberOf}
-use Rattle.conv.specs.Types.{Ty, abstractInt, i32, isFloat, isAbstract}
+use Rattle.conv.specs.Types.{Ty}
 use Rattle.overload.specs.inner.Code.{codeOf}
 use Rattle.ruled.specs.Call.{anyReference}
 use Rattle.names.specs.Names.Named.{rule}
@@ -36,11 +36,3 @@ pub record Loaded (us : List Ty) (r : Bool) (codes : List ℕ) : Type 0 where
 -- a numeric scalar or vector, by its number
 abbrev pub numericCode : ℕ → Bool
 numericCode x = ltb x 28 && isNumeric (x % 7)
-
--- operands that `ldexp` takes, by their numbers
-abbrev pub ldexpCodes : ℕ → ℕ → Bool
-ldexpCodes x y =
-    ((ltb x 7 && ltb y 7) || ((leb 7 x && ltb x 28) && (leb 7 y && ltb y 28)))
-    && isFloat (x % 7)
-    && (eqb (y % 7) abstractInt || eqb (y % 7) i32)
-    && ((not (isAbstract (x % 7)) && not (isAbstract (y % 7))) || (isAbstract (x % 7) && isAbstract (y % 7)))
