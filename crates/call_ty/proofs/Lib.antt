@@ -8,6 +8,7 @@ pub mod Demand1
 pub mod Demand2
 pub mod Demand3
 pub mod Sixteen
+pub mod ByTheBook
 pub mod OneReply
 pub mod Growing
 pub mod Early

@@ -16,6 +16,7 @@ pub mod Results
 pub mod Operands
 pub mod Memory
 pub mod Rulings
+pub mod Scaling
 pub mod Sets
 pub mod Lines
 pub mod Slots
