@@ -37,9 +37,12 @@ isNumeric s = isFloat s || eqb s abstractInt || eqb s i32 || eqb s u32
 unfoldable pub wideNumeric : Ty → Bool
 wideNumeric t = (isScalar t || isVector t) && isNumeric (componentOf t)
 
--- the first of a list
+-- the first and the second of a list
 abbrev pub firstIn : List Ty → Ty
 firstIn ts = getD ts 0 (scalar bool)
+
+abbrev pub secondIn : List Ty → Ty
+secondIn ts = getD ts 1 (scalar bool)
 
 -- THE TEMPLATE LIST: "`bitcast` with one template type, numeric scalar or vector (else 5)"; no other builtin wants one
 
