@@ -18,6 +18,7 @@ enum {
     ARRAY_F32,
     REF_F32,
     PTR_F32,
+    PTR_ARRAY,
     TYPES
 };
 
@@ -36,6 +37,7 @@ static void start_types(void) {
     entry(RUNTIME, 0, 0, F32);
     entry(REF, 4, 0, F32);
     entry(PTR, 4, 0, F32);
+    entry(PTR, 4, 0, ARRAY_F32);
 }
 
 static int is_abstract(uint32_t type) {
@@ -110,8 +112,9 @@ static void abstract_at_any_depth(void) {
     HOLDS(is(call1("arrayLength", RUNNING(ARRAY_OF_ARRAY)), 14, NONE, 0, TYPES));
     HOLDS(is(call1("arrayLength", RUNNING(FREXP_ABSTRACT)), 14, NONE, 0, TYPES));
     HOLDS(is(call1("arrayLength", RUNNING(MODF_ABSTRACT)), 14, NONE, 0, TYPES));
-    HOLDS(runs(call1("arrayLength", ARRAY_ABSTRACT), U32, TYPES));
-    HOLDS(runs(call1("arrayLength", FREXP_ABSTRACT), U32, TYPES));
+    HOLDS(is(call1("arrayLength", ARRAY_ABSTRACT), 8, NONE, 0, TYPES));
+    HOLDS(is(bitcast(U32, ARRAY_ABSTRACT), 0, U32, 0, TYPES));
+    HOLDS(is(bitcast(U32, FREXP_ABSTRACT), 0, U32, 0, TYPES));
     HOLDS(is(bitcast(U32, RUNNING(ABSTRACT_INT)), 14, NONE, 0, TYPES));
     HOLDS(is(bitcast(U32, ABSTRACT_INT), 0, U32, 0, TYPES));
     HOLDS(is(call2("ldexp", ABSTRACT_FLOAT, RUNNING(ABSTRACT_INT)), 14, NONE, 0, TYPES));
@@ -162,8 +165,8 @@ static void results(void) {
         about = "";
     }
     HOLDS(is(call1("quantizeToF16", F32), 0, F32, 0, TYPES));
-    HOLDS(runs(call1("arrayLength", ARRAY_F32), U32, TYPES));
-    HOLDS(runs(call1("arrayLength", RUNNING(ARRAY_F32)), U32, TYPES));
+    HOLDS(runs(call1("arrayLength", PTR_ARRAY), U32, TYPES));
+    HOLDS(runs(call1("arrayLength", RUNNING(PTR_ARRAY)), U32, TYPES));
     HOLDS(is(call1("sqrt", F32), 0, F32, 0, TYPES));
     HOLDS(runs(call1("sqrt", RUNNING(F32)), F32, TYPES));
     HOLDS(runs(call2("max", RUNNING(F32), ABSTRACT_INT), F32, TYPES));
@@ -307,9 +310,12 @@ static void sheets(void) {
     /* An array of AbstractInt to arrayLength: 14 where it is running. 1 << arrayLength is i32 in version 2, for the length is running, and AbstractInt in version 1. */
     start();
     HOLDS(is(SHEET(2, 0, 24, 9, 6, 9, 0, 0, 0, 4, 0, 1, 1, ARRAY_LENGTH), 14, NONE, 13, 8));
-    HOLDS(runs(SHEET(2, 0, 24, 9, 6, 9, 0, 0, 0, 4, 0, 1, 0, ARRAY_LENGTH), U32, 8));
-    HOLDS(runs(SHEET(2, 0, 31, 3, 1, 1, 0, 9, 6, 9, 0, 0, 0, 4, 0, 1, 0, ARRAY_LENGTH, 2, 3, LEFT), I32, 8));
-    HOLDS(is(SHEET(1, 0, 29, 2, 1, 1, 8, 6, 9, 0, 0, 0, 4, 0, 1, ARRAY_LENGTH, 2, 3, LEFT), 0, ABSTRACT_INT, 0, 8));
+    HOLDS(is(SHEET(2, 0, 24, 9, 6, 9, 0, 0, 0, 4, 0, 1, 0, ARRAY_LENGTH), 8, NONE, 13, 8));
+    start();
+    entry(RUNTIME, 0, 0, F32);
+    entry(PTR, 4, 0, 7);
+    HOLDS(runs(SHEET(2, 0, 25, 3, 1, 1, 0, 3, 1, 8, 0, ARRAY_LENGTH, 2, 3, LEFT), I32, 9));
+    HOLDS(is(SHEET(1, 0, 23, 2, 1, 1, 2, 1, 8, ARRAY_LENGTH, 2, 3, LEFT), 0, ABSTRACT_INT, 0, 9));
     /* The name of a call is found in either version. */
     static const uint8_t bytes[] = {2, 0, 11, 3, 1, 5, 1, 6, 4, 1, 's', 'q', 'r', 't'};
     swartabelk_part n = swartabelk_call_name(bytes, sizeof bytes, 7);

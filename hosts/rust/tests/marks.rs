@@ -22,9 +22,11 @@ const ARRAY_OF_ARRAY: u32 = 14;
 const MODF_ABSTRACT: u32 = 15;
 const REF_F32: u32 = 16;
 const PTR_F32: u32 = 17;
+const ARRAY_F32: u32 = 18;
+const PTR_ARRAY: u32 = 19;
 
 /// What those after the scalars are.
-const ENTRIES: [[u32; 4]; 11] = [
+const ENTRIES: [[u32; 4]; 13] = [
     [7, 3, 0, ABSTRACT_INT],
     [7, 3, 0, I32],
     [7, 3, 0, F32],
@@ -36,10 +38,12 @@ const ENTRIES: [[u32; 4]; 11] = [
     [15, 0, 0, ABSTRACT_FLOAT],
     [13, 4, 0, F32],
     [12, 4, 0, F32],
+    [10, 0, 0, F32],
+    [12, 4, 0, ARRAY_F32],
 ];
 
 /// How many entries the table has.
-const TYPES: u32 = 18;
+const TYPES: u32 = 20;
 
 /// Abstract at any depth.
 const ABSTRACT: [u32; 7] = [
@@ -191,7 +195,7 @@ fn a_running_operand_that_is_abstract() {
     let length = |a| builtin("arrayLength", &[a]);
     for number in ABSTRACT {
         assert_eq!(length(running(number)), refused(Reason::RunningAbstract));
-        assert_eq!(length(known(number)), runs(U32));
+        assert_eq!(length(known(number)), refused(Reason::NoOverload));
         let cast = bitcast(U32, running(number));
         assert_eq!(cast, refused(Reason::RunningAbstract));
         assert_eq!(bitcast(U32, known(number)), is(U32));
@@ -410,12 +414,12 @@ fn version_1_keeps_no_mark() {
     assert_eq!(
         run(
             2,
-            &[&[3, 1, 1, 0, 3, 1, PTR_F32 as u8, 0], &shifted[..]].concat()
+            &[&[3, 1, 1, 0, 3, 1, PTR_ARRAY as u8, 0], &shifted[..]].concat()
         ),
         runs(I32)
     );
     assert_eq!(
-        run(1, &[&[2, 1, 1, 2, 1, PTR_F32 as u8], &shifted[..]].concat()),
+        run(1, &[&[2, 1, 1, 2, 1, PTR_ARRAY as u8], &shifted[..]].concat()),
         is(ABSTRACT_INT)
     );
     let slope = b"\x06\x04\x01dpdx";
