@@ -27,7 +27,7 @@ pub struct Class {
 
 /// Every class.
 #[rustfmt::skip]
-pub const CLASSES: [Class; 37] = [
+pub const CLASSES: [Class; 41] = [
     Class {
         name: "not-any-vector", smallest: "!vec2<i32>",
         standard: "refused", rust: "vec2 i32: any vector", ours: "refused 8", holds: holds::not_any_vector,
@@ -180,6 +180,22 @@ pub const CLASSES: [Class; 37] = [
     Class {
         name: "uniform-load-atomic", smallest: "workgroupUniformLoad(ptr<workgroup,atomic<i32>,read_write>)",
         standard: "i32", rust: "atomic i32: the element, unloaded", ours: "i32", holds: holds::uniform_load_atomic,
+    },
+    Class {
+        name: "ldexp-mixed", smallest: "ldexp(f32, AbstractInt)",
+        standard: "f32", rust: "refused: it asks that both operands are abstract, or neither, before any conversion", ours: "f32", holds: holds::ldexp_mixed,
+    },
+    Class {
+        name: "ldexp-abstract-int", smallest: "ldexp(AbstractInt, i32)",
+        standard: "f32", rust: "refused: it asks the first operand for a float, and AbstractInt is none", ours: "f32", holds: holds::ldexp_abstract_int,
+    },
+    Class {
+        name: "ldexp-width", smallest: "ldexp(vec2<f32>, vec3<i32>)",
+        standard: "refused", rust: "vec2 f32: it does not compare the widths", ours: "refused 8", holds: holds::ldexp_width,
+    },
+    Class {
+        name: "array-length-any", smallest: "arrayLength(i32)",
+        standard: "refused", rust: "u32: any operand", ours: "refused 8", holds: holds::array_length_any,
     },
 ];
 

@@ -1,5 +1,6 @@
-//! Document 01, and of document 02 the subgroup and quad calls, the marks of operands and the calls on memory, read as plainly as can be: every overload of every row is
-//! listed, and a call is judged by a search through them all; workgroupUniformLoad, which has too many, by its rule. A call is one of profile 1, which has every name.
+//! Document 01, and of document 02 the subgroup and quad calls, the marks of operands, the calls on memory, ldexp and arrayLength, read as plainly as can be: every overload
+//! of every row is listed, and a call is judged by a search through them all; workgroupUniformLoad and arrayLength, which have too many, each by its rule. A call
+//! is one of profile 1, which has every name.
 //!
 //! It shares no line with the crate's files, with their stand-ins or with Swartabelk. It is slow, and a third opinion.
 
@@ -237,6 +238,7 @@ impl Standard {
         }
         match name {
             "workgroupUniformLoad" => uniform_load(case),
+            "arrayLength" => array_length(case),
             "atomicStore" => match resolve(overloads, case) {
                 Answer::Type(_) => Answer::NoValue,
                 refused => refused,
@@ -266,11 +268,28 @@ fn uniform_load(case: &Case) -> Answer {
     }
 }
 
-/// "Crate rules, 6", after the template list was judged.
+/// Document 02: "takes only a pointer in space storage, with read or read_write access, to an array without count".
+fn array_length(case: &Case) -> Answer {
+    let [operand] = case.operands else {
+        return Answer::Refused(refusal::OPERANDS);
+    };
+    if let Some(refused) = offended(case) {
+        return refused;
+    }
+    match operand {
+        WType::Pointer(Space::Storage, elem, Access::Read | Access::ReadWrite)
+            if matches!(**elem, WType::Array(_, None)) =>
+        {
+            Answer::Type(scalar(U32))
+        }
+        _ => Answer::Refused(refusal::NONE_FITS),
+    }
+}
+
+/// The crate rules that are left, those of bitcast and of the barriers, after the template list was judged.
 fn crate_rule(name: &str, case: &Case) -> Answer {
     let wanted = match name {
-        "bitcast" | "arrayLength" => 1,
-        "ldexp" => 2,
+        "bitcast" => 1,
         _ => 0,
     };
     if case.operands.len() != wanted {
@@ -279,24 +298,9 @@ fn crate_rule(name: &str, case: &Case) -> Answer {
     if let Some(refused) = offended(case) {
         return refused;
     }
-    match (name, case.template, case.operands) {
-        ("bitcast", [Argument::Type(ty)], _) => Answer::Type(ty.clone()),
-        ("arrayLength", _, _) => Answer::Type(scalar(U32)),
-        ("ldexp", _, [a, b]) => ldexp(a, b),
+    match (name, case.template) {
+        ("bitcast", [Argument::Type(ty)]) => Answer::Type(ty.clone()),
         _ => Answer::NoValue,
-    }
-}
-
-/// "a float with AbstractInt or i32, or a float vector with such a vector of any width, both concrete or both abstract".
-fn ldexp(a: &WType, b: &WType) -> Answer {
-    let (Some((m, float)), Some((n, int))) = (a.as_wide(), b.as_wide()) else {
-        return Answer::Refused(refusal::NONE_FITS);
-    };
-    let alike = (m == 1) == (n == 1) && float.is_abstract() == int.is_abstract();
-    if alike && float.is_float() && matches!(int, AbstractInt | I32) {
-        Answer::Type(a.clone())
-    } else {
-        Answer::Refused(refusal::NONE_FITS)
     }
 }
 
@@ -468,14 +472,37 @@ mod tests {
     }
 
     #[test]
-    fn names_are_sorted_and_all_but_seven_are_listed() {
+    fn ldexp_and_array_length() {
+        let call = |name, operands, answer| check(Operation::Call(name), operands, answer);
+        call("ldexp", &["f32", "AbstractInt"], "f32");
+        call("ldexp", &["f16", "i32"], "f16");
+        call("ldexp", &["AbstractFloat", "i32"], "f32");
+        call("ldexp", &["AbstractInt", "AbstractInt"], "AbstractFloat");
+        call("ldexp", &["vec3<AbstractInt>", "vec3<i32>"], "vec3<f32>");
+        call("ldexp", &["vec2<f32>", "vec3<i32>"], "refused 8");
+        call("ldexp", &["vec2<f32>", "i32"], "refused 8");
+        call("ldexp", &["f32", "u32"], "refused 8");
+        call("ldexp", &["f32"], "refused 7");
+        let length = |operand: &str, answer: &str| {
+            check(Operation::Call("arrayLength"), &[operand], answer);
+        };
+        length("ptr<storage,array<f32>,read>", "u32");
+        length("ptr<storage,array<atomic<i32>>,read_write>", "u32");
+        length("ptr<storage,array<f32>,write>", "refused 8");
+        length("ptr<storage,array<f32,4>,read>", "refused 8");
+        length("ptr<workgroup,array<f32>,read_write>", "refused 8");
+        length("f32", "refused 8");
+    }
+
+    #[test]
+    fn names_are_sorted_and_all_but_six_are_listed() {
         for list in [&NAMES[..], &MEMORY_NAMES, &SUBGROUP_NAMES] {
             assert!(list.is_sorted_by(|a, b| a.as_bytes() < b.as_bytes()));
         }
         assert!(SUBGROUP_NAMES.iter().all(|name| !in_base(name)));
         assert!(MEMORY_NAMES.iter().all(|name| in_base(name)));
         let ruled_names = names().filter(|name| !ruled(name).is_empty());
-        assert_eq!(ruled_names.count(), 88 + 11 + 25);
+        assert_eq!(ruled_names.count(), 89 + 11 + 25);
     }
 
     #[test]

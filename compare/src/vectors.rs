@@ -10,14 +10,15 @@ use crate::types::WType;
 use std::collections::{BTreeSet, HashMap};
 
 /// Crate rules, which no compiler was asked for.
-const NOT_RULED: [&str; 6] = [
-    "arrayLength",
+const NOT_RULED: [&str; 4] = [
     "bitcast",
-    "ldexp",
     "storageBarrier",
     "textureBarrier",
     "workgroupBarrier",
 ];
+
+/// Ruled since document 02: of these the compiler was asked for a sample alone, as `check_listed` reads it.
+const SAMPLED: [&str; 2] = ["arrayLength", "ldexp"];
 
 /// The rows of the files.
 fn rows(files: &[String]) -> Vec<[String; 3]> {
@@ -59,7 +60,8 @@ pub fn check(files: &[String]) -> bool {
     for (op, sign) in BINARY.into_iter().enumerate() {
         held.two(Operation::Binary(op), sign, &types);
     }
-    for name in NAMES.into_iter().filter(|name| !NOT_RULED.contains(name)) {
+    let asked = |name: &&str| !NOT_RULED.contains(name) && !SAMPLED.contains(name);
+    for name in NAMES.into_iter().filter(asked) {
         match name {
             name if TWO.contains(&name) => held.two(Operation::Call(name), name, &types),
             name if THREE.contains(&name) || name == "insertBits" => {}

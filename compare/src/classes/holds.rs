@@ -470,3 +470,60 @@ pub fn uniform_load_atomic(seen: &Seen) -> bool {
         _ => false,
     }
 }
+
+/// A call of ldexp: width and component of both operands.
+fn scaled(seen: &Seen) -> Option<[(u8, Scalar); 2]> {
+    match seen.case.operation {
+        Call("ldexp") => two_wide(seen.case.operands),
+        _ => None,
+    }
+}
+
+pub fn ldexp_mixed(seen: &Seen) -> bool {
+    match scaled(seen) {
+        Some([(m, of @ (F32 | F16)), (n, AbstractInt)]) => {
+            m == n && seen.rust.is_refused() && gave(seen.ours, WType::wide(m, of))
+        }
+        Some([(m, AbstractFloat), (n, I32)]) => {
+            m == n && seen.rust.is_refused() && gave(seen.ours, WType::wide(m, F32))
+        }
+        _ => false,
+    }
+}
+
+pub fn ldexp_abstract_int(seen: &Seen) -> bool {
+    match scaled(seen) {
+        Some([(m, AbstractInt), (n, second @ (AbstractInt | I32))]) => {
+            let given = if second == I32 { F32 } else { AbstractFloat };
+            m == n && seen.rust.is_refused() && gave(seen.ours, WType::wide(m, given))
+        }
+        _ => false,
+    }
+}
+
+pub fn ldexp_width(seen: &Seen) -> bool {
+    match scaled(seen) {
+        Some([(m @ 2.., of), (n @ 2.., second)]) => {
+            let alike = of.is_float() && of.is_abstract() == second.is_abstract();
+            (m != n && alike && matches!(second, AbstractInt | I32))
+                && gave(seen.rust, WType::wide(m, of))
+                && unfit(seen.ours)
+        }
+        _ => false,
+    }
+}
+
+pub fn array_length_any(seen: &Seen) -> bool {
+    match (seen.case.operation, seen.case.operands) {
+        (Call("arrayLength"), [operand]) => {
+            let taken = match operand {
+                Pointer(Space::Storage, elem, Access::Read | Access::ReadWrite) => {
+                    matches!(**elem, Array(_, None))
+                }
+                _ => false,
+            };
+            !taken && gave(seen.rust, WType::Scalar(U32)) && unfit(seen.ours)
+        }
+        _ => false,
+    }
+}

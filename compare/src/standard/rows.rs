@@ -195,6 +195,13 @@ pub fn ruled(name: &str) -> Vec<Overload> {
             };
             wide(&[I32, U32]).into_iter().map(one).collect()
         }
+        "ldexp" => {
+            let one = |(width, of, ty): (u8, Scalar, WType)| {
+                let second = if of.is_abstract() { AbstractInt } else { I32 };
+                overload(&[ty.clone(), WType::wide(width, second)], ty)
+            };
+            wide(&FLOATS).into_iter().map(one).collect()
+        }
         "length" => {
             let one = |(_, of, ty): (u8, Scalar, WType)| overload(&[ty], scalar(of));
             wide(&FLOATS).into_iter().map(one).collect()
