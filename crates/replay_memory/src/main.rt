@@ -208,9 +208,19 @@ fn after_row(words: &mut [u32], s: &[u8], line: &[u8], c: u8, state: State) -> S
     }
 }
 
+// Writes how many of the rows agreed.
+fn write_counts(what: &[u8], agreed: u64, rows: u64) {
+    io::write_all(1, what);
+    io::write_all(1, b": ");
+    io::print_decimal(1, agreed);
+    io::write_all(1, b" of ");
+    io::print_decimal(1, rows);
+    io::write_all(1, b" agreed\n");
+}
+
 // At a title.
 fn at_title(line: &[u8], state: State) -> State {
-    vectors::write_counts(line, state.agreed, state.rows);
+    write_counts(line, state.agreed, state.rows);
     State {
         from: state.from,
         to: state.to,

@@ -282,13 +282,3 @@ pub fn line_end(s: &[u8], at: usize) -> usize
     }
     end
 }
-
-// Writes how many of the rows agreed.
-pub fn write_counts(what: &[u8], agreed: u64, rows: u64) {
-    io::write_all(1, what);
-    io::write_all(1, b": ");
-    io::print_decimal(1, agreed);
-    io::write_all(1, b" of ");
-    io::print_decimal(1, rows);
-    io::write_all(1, b" agreed\n");
-}
