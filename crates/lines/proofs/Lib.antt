@@ -1,4 +1,3 @@
-pub mod Lengths
 pub mod Refusing
 pub mod Valued
 pub mod Long

@@ -4,9 +4,7 @@ use answer::Refusal;
 use answer::TypeNo;
 use sheet::type_sheet;
 ghost use mathlib.Core.Path.{_≡_};
-ghost use mathlib.Core.List.{_++_};
 ghost use Prim.Native.Nat.{_+_, _*_, _<_, _≤_};
-ghost use lib.ListN.{length};
 ghost use Rattle.table.specs.Table.{Sound};
 ghost use Rattle.text.specs.Text.{decimal, Put, far};
 ghost use Rattle.lines.specs.Lines.{typeLine, refusedLine, firstLine, linesOf, linesRoom, start, report, Spellable};
@@ -20,28 +18,6 @@ const NO_ROOM: u8 = 9;
 // The words of a table that has room for 256 entries.
 const WORDS: usize = 1024;
 
-// The bytes of a text from a place on.
-fn put_text(out: &mut [u8], at: usize, text: &[u8]) -> usize
-    requires { ⌜ at + length (now text) < far * 4 ⌝ }
-    ensures { λ r. ⌜ Put (now (out .entry)) at (now (text .entry)) r (now (out .exit)) ⌝ }
-{
-    let mut j = 0;
-    while j < text.len() {
-        text::put_byte(out, at + j, text[j]);
-        j += 1;
-    }
-    at + j
-}
-
-// A text, then a number.
-fn put_after(out: &mut [u8], at: usize, text: &[u8], n: usize) -> usize
-    requires { ⌜ at + length (now text) < far * 2 ⌝ }
-    ensures { λ r. ⌜ Put (now (out .entry)) at (now (text .entry) ++ decimal n) r (now (out .exit)) ⌝ }
-{
-    let a = put_text(out, at, text);
-    text::put_number(out, a, n)
-}
-
 // The first line of a type.
 fn type_line(words: &[u32], used: usize, t: TypeNo, out: &mut [u8]) -> usize
     requires { ⌜ Sound (now words) used × (t .0 < used) ⌝ }
@@ -49,7 +25,7 @@ fn type_line(words: &[u32], used: usize, t: TypeNo, out: &mut [u8]) -> usize
     ensures { λ r. ⌜ r + 64 ≤ linesRoom ⌝ }
 {
     let i = t.0;
-    let a = put_after(out, 0, b"type ", i);
+    let a = text::put_after(out, 0, b"type ", i);
     let b = text::put_byte(out, a, b' ');
     spell::spell_type(words, used, i, out, b)
 }
@@ -62,12 +38,12 @@ fn refused_line(r: Refusal, out: &mut [u8]) -> usize
     let why = r.reason;
     let place = r.place;
     let number = answer::reason_no(why);
-    let a = put_after(out, 0, b"refused ", cast::wide(number));
-    let b = put_after(out, a, b" at ", place.0);
+    let a = text::put_after(out, 0, b"refused ", cast::wide(number));
+    let b = text::put_after(out, a, b" at ", place.0);
     if number != NO_ROOM {
         return b;
     }
-    put_after(out, b, b" lacking ", cast::word(answer::lacking_of(why)))
+    text::put_after(out, b, b" lacking ", cast::word(answer::lacking_of(why)))
 }
 
 fn first_line(words: &[u32], a: Answer, out: &mut [u8]) -> usize
@@ -77,7 +53,7 @@ fn first_line(words: &[u32], a: Answer, out: &mut [u8]) -> usize
 {
     match a {
         Answer::Value(t, used) => type_line(words, used, t, out),
-        Answer::NoValue(_) => put_text(out, 0, b"none"),
+        Answer::NoValue(_) => text::put_text(out, 0, b"none"),
         Answer::Refused(r) => refused_line(r, out),
     }
 }
@@ -90,12 +66,12 @@ pub fn write(words: &[u32], a: Answer, out: &mut [u8]) -> usize
 {
     let end = first_line(words, a, out);
     let next = text::put_byte(out, end, b'\n');
-    let last = put_after(out, next, b"entries ", answer::used_of(a));
+    let last = text::put_after(out, next, b"entries ", answer::used_of(a));
     text::put_byte(out, last, b'\n')
 }
 
 // The words of a table of the seven scalars.
-fn scalars() -> [u32; 1024]
+pub fn scalars() -> [u32; 1024]
     ensures { λ r. ⌜ r ≡ start ⌝ }
 {
     let mut words = [0; WORDS];

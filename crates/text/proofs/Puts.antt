@@ -1,6 +1,6 @@
 -- Putting one text after another. Assumes nothing.
 use Prim.Native.Nat.{ℕ, suc, _+_, _≤_, _<_}
-use mathlib.Core.Path.{_≡_, refl, sym, _∙_, ap}
+use mathlib.Core.Path.{_≡_, refl, sym, _∙_, ap, subst}
 use mathlib.Core.List.{List, [], _∷_, _++_}
 use native.Mathlib.Numerals.{add-one}
 use native.Mathlib.Nat.{add-zero, zero-add, add-suc, suc-add}
@@ -45,3 +45,7 @@ over-room s d h = sets-eq s d 0 (omega arith) ∙ ap (λ (k : ℕ). s ++ drop k 
 pub over-none : (s : List ℕ) (at : ℕ) → sets [] at s ≡ []
 over-none [] at = refl
 over-none (b ∷ s) at = over-none s (suc at)
+
+-- the same text, written otherwise
+pub put-as : {d v : List ℕ} {at r : ℕ} {s t : List ℕ} → s ≡ t → Put d at s r v → Put d at t r v
+put-as {d} {v} {at} {r} {s} {t} e p = subst (λ (x : List ℕ). Put d at x r v) e p

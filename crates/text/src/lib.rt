@@ -1,8 +1,9 @@
 // Bytes put into a lent output. What stands past its end is not written, but counted: so a text's length is known from an output of none.
 // And the number that a text is.
 ghost use mathlib.Core.Path.{_≡_};
-ghost use mathlib.Core.List.{[], _∷_};
-ghost use Prim.Native.Nat.{_*_, _<_};
+ghost use mathlib.Core.List.{[], _∷_, _++_};
+ghost use Prim.Native.Nat.{_+_, _*_, _<_};
+ghost use lib.ListN.{length};
 ghost use Rattle.text.specs.Text.{decimal, numberIn, Put, far};
 
 // The byte of the digit 0.
@@ -31,6 +32,19 @@ pub fn put_byte(out: &mut [u8], at: usize, b: u8) -> usize
     at + 1
 }
 
+// The bytes of a text from a place on.
+pub fn put_text(out: &mut [u8], at: usize, text: &[u8]) -> usize
+    requires { ⌜ at + length (now text) < far * 4 ⌝ }
+    ensures { λ r. ⌜ Put (now (out .entry)) at (now (text .entry)) r (now (out .exit)) ⌝ }
+{
+    let mut j = 0;
+    while j < text.len() {
+        put_byte(out, at + j, text[j]);
+        j += 1;
+    }
+    at + j
+}
+
 // n in decimal.
 pub fn put_number(out: &mut [u8], at: usize, n: usize) -> usize
     requires { ⌜ at < far * 2 ⌝ }
@@ -42,6 +56,15 @@ pub fn put_number(out: &mut [u8], at: usize, n: usize) -> usize
     }
     let next = put_number(out, at, n / 10);
     put_byte(out, next, last)
+}
+
+// A text, then a number.
+pub fn put_after(out: &mut [u8], at: usize, text: &[u8], n: usize) -> usize
+    requires { ⌜ at + length (now text) < far * 2 ⌝ }
+    ensures { λ r. ⌜ Put (now (out .entry)) at (now (text .entry) ++ decimal n) r (now (out .exit)) ⌝ }
+{
+    let a = put_text(out, at, text);
+    put_number(out, a, n)
 }
 
 // The number that a text is: one or more digits, zeros in front allowed. It is NO_NUMBER for any other text, and for a number that has more than 32 bits.

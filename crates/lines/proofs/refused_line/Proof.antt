@@ -2,7 +2,7 @@
 use mathlib.Core.Path.{sym, _∙_}
 use native.Mathlib.Omega.{arith}
 use Rattle.lines.proofs.Refusing.{refused-short, refused-lacking}
-use Rattle.lines.proofs.Lengths.{after-near}
+use Rattle.text.proofs.Lengths.{after-near}
 use Rattle.text.proofs.Puts.{put-put}
 use Rattle.text.specs.Text.{ascii}
 use borrow.Author.Needs.{needs}

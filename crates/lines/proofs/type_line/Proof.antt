@@ -4,7 +4,7 @@ use Rattle.text.specs.Text.{ascii}
 use Rattle.text.proofs.Puts.{put-put}
 use Rattle.spell.proofs.Short.{type-slim}
 use Rattle.lines.specs.Lines.{typeLine}
-use Rattle.lines.proofs.Lengths.{after-near}
+use Rattle.text.proofs.Lengths.{after-near}
 use borrow.Author.Needs.{needs}
 use Rattle.lines.proofs.type_line.Statement.{statement}
 use Rattle.lines.proofs.type_line.Tie as tie

@@ -4,7 +4,7 @@ use borrow.Author.Needs.{needs}
 use Rattle.text.specs.Text.{ascii}
 use Rattle.text.proofs.Puts.{put-put}
 use Rattle.lines.specs.Lines.{secondLine, linesOf}
-use Rattle.lines.proofs.Lengths.{after-near}
+use Rattle.text.proofs.Lengths.{after-near}
 use Rattle.lines.proofs.write.Statement.{statement}
 use Rattle.lines.proofs.write.Tie as tie
 

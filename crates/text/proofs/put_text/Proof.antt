@@ -1,12 +1,12 @@
--- `lines::put_text` meets its contract. The loop's invariant: the first j bytes of the text stand there. Assumes nothing.
+-- `text::put_text` meets its contract. The loop's invariant: the first j bytes of the text stand there. Assumes nothing.
 use Prim.Native.Nat.{_≤_, _-_}
 use mathlib.Core.Path.{_≡_, refl, _∙_, ap}
 use native.Mathlib.Omega.{arith}
 use lib.ListN.{length, take}
 use lib.Seq.{sets, length-sets, take-all}
 use Rattle.text.proofs.Puts.{put-more}
-use Rattle.lines.proofs.put_text.Statement.{statement}
-use Rattle.lines.proofs.put_text.Tie as tie
+use Rattle.text.proofs.put_text.Statement.{statement}
+use Rattle.text.proofs.put_text.Tie as tie
 
 abbrev Inv-loop : tie.InvT-loop
 Inv-loop out₀ at text j₀ out j = (j ≤ length text) × (out ≡ sets out₀ at (take j text))

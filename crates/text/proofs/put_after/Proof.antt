@@ -1,8 +1,8 @@
--- `lines::put_after` meets its contract: the number is put after the text. Assumes nothing.
+-- `text::put_after` meets its contract: the number is put after the text. Assumes nothing.
 use Rattle.text.proofs.Puts.{put-put}
 use borrow.Author.Needs.{needs}
-use Rattle.lines.proofs.put_after.Statement.{statement}
-use Rattle.lines.proofs.put_after.Tie as tie
+use Rattle.text.proofs.put_after.Statement.{statement}
+use Rattle.text.proofs.put_after.Tie as tie
 
 put-text-requires : tie.Need-put-text-requires
 put-text-requires c κs = search needs
