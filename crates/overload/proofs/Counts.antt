@@ -41,16 +41,18 @@ alike-at k [] h i l = absurd (not-suc-le-zero l)
 alike-at k (f ∷ fs) h zero l = eqb→eq (length (f .params)) k (both-left _ _ h)
 alike-at k (f ∷ fs) h (suc i) l = alike-at k fs (both-right (eqb (length (f .params)) k) _ h) i (le-of-suc-le-suc l)
 
+-- of a family of a row
+pub family-count : (row k : ℕ) → k < length (rowAt row .families) → length (getD (rowAt row .families) k noFamily .params) ≡ operandCount (rowAt row)
+unfolding countTest
+family-count row k h = alike-at (operandCount (rowAt row)) (rowAt row .families) (both-left _ _ (count-tests row)) k h
+
 -- THE LAW
 pub one-count : (row : ℕ) (o : Overload) → ofRow (rowAt row) o → length (o .params) ≡ operandCount (rowAt row)
-unfolding countTest
 one-count row o m =
     let r = listed-of (rowAt row .families) o m in
     let f = getD (rowAt row .families) (r .0) noFamily in
     let q = of-family f o (r .2) in
-    ap (λ (p : Overload). length (p .params)) (q .is)
-    ∙ length-map (f .params) (patternTy (q .z) (q .t) (q .i))
-    ∙ alike-at (operandCount (rowAt row)) (rowAt row .families) (both-left _ _ (count-tests row)) (r .0) (r .1)
+    ap (λ (p : Overload). length (p .params)) (q .is) ∙ length-map (f .params) (patternTy (q .z) (q .t) (q .i)) ∙ family-count row (r .0) (r .1)
 
 -- of a row that is known by its number
 pub known-count : (r : Row) → Known (byRow r) → (o : Overload) → ofRow r o → length (o .params) ≡ operandCount r

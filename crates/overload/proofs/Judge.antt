@@ -15,7 +15,7 @@ use Rattle.overload.proofs.Preference.{or-cases, or-left, or-right, one
 
 -- the test of one overload
 
-same-tys : (ps qs : List Ty) → T (sameTys ps qs) → ps ≡ qs
+pub same-tys : (ps qs : List Ty) → T (sameTys ps qs) → ps ≡ qs
 unfolding sameTys
 same-tys [] [] h = refl
 same-tys [] (q ∷ qs) h = absurd h
@@ -27,13 +27,13 @@ unfolding sameTys
 self-tys [] = tt
 self-tys (p ∷ ps) = both-pair _ _ (self-ty p) (self-tys ps)
 
-same-overload : (p o : Overload) → T (sameOverload p o) → p ≡ o
+pub same-overload : (p o : Overload) → T (sameOverload p o) → p ≡ o
 same-overload p o h =
     let a = same-tys (p .params) (o .params) (both-left _ _ h) in
     let b = same-ty (p .result) (o .result) (both-right (sameTys (p .params) (o .params)) _ h) in
     λ i. record { params = a i; result = b i }
 
-self-overload : (o : Overload) → T (sameOverload o o)
+pub self-overload : (o : Overload) → T (sameOverload o o)
 self-overload o = both-pair _ _ (self-tys (o .params)) (self-ty (o .result))
 
 not-not : (b : Bool) → (T b → ⊥) → T (not b)

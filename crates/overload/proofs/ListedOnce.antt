@@ -9,11 +9,11 @@ use Rattle.overload.proofs.Families.{every, every-at}
 use Rattle.overload.specs.Rows as rows
 use Rattle.overload.specs.Rows.{Row, noRow, overloadsOf, rowAt, rows}
 
-pub stands : Overload → List Overload → Bool
+unfoldable pub stands : Overload → List Overload → Bool
 stands o [] = false
 stands o (p ∷ ps) = or (sameOverload o p) (stands o ps)
 
-pub once : List Overload → Bool
+unfoldable pub once : List Overload → Bool
 once [] = true
 once (o ∷ os) = both (not (stands o os)) (once os)
 

@@ -364,7 +364,7 @@ all-dropped (p ∷ ps) (t ∷ ts) (m ∷ ms) f u a r =
     (or-cases (abstractTy p) _ a)
 
 module _ (ts : List Ty) (ms : List Bool) (u : runningAbstract ts ms ≡ false) (o : Overload) (f : T (fits (o .params) ts)) where
-  to-kept : T (remains ms o) → T (kept (anyRunning ms) o)
+  pub to-kept : T (remains ms o) → T (kept (anyRunning ms) o)
   unfolding or
   to-kept h = go (anyRunning ms) refl (anyAbstract (o .params)) refl
     where
@@ -374,7 +374,7 @@ module _ (ts : List Ty) (ms : List Bool) (u : runningAbstract ts ms ≡ false) (
       go true er true ea =
           absurd (T-not (dropped (o .params) ms) h (all-dropped (o .params) ts ms f (λ q. subst T u q) (subst T (sym ea) tt) (subst T (sym er) tt)))
 
-  from-kept : T (kept (anyRunning ms) o) → T (remains ms o)
+  pub from-kept : T (kept (anyRunning ms) o) → T (remains ms o)
   from-kept h =
       refuted (dropped (o .params) ms)
       (λ d.

@@ -178,7 +178,7 @@ unfoldable pub AllMade : List Ty → Type 0
 AllMade [] = Unit {0}
 AllMade (p ∷ ps) = Made p × AllMade ps
 
-rank-alike : (x p : Ty) → formed x ≡ true → Made p → conversionRank x p ≡ conversionRank (operand (codeOf x)) p
+pub rank-alike : (x p : Ty) → formed x ≡ true → Made p → conversionRank x p ≡ conversionRank (operand (codeOf x)) p
 rank-alike x p f m =
     subst (λ (q : Ty). conversionRank x q ≡ conversionRank (operand (codeOf x)) q) (sym (m .4)) (code-alike x f (m .0) (m .1) (m .2) (m .3))
 
@@ -199,7 +199,7 @@ params-of row o m =
     subst (λ (p : Overload). AllMade (p .params)) (sym (q .is))
     (patterns-made (f .set) (q .z) (q .t) (q .i) (f .params) (g .fair (q .z) (q .inSizes) .sized) (g .set (q .t) (q .inSet)) (g .second (q .i) (q .inSecond)) (g .small))
 
-fits-by : (ps ts : List Ty) → AllMade ps → allFormed ts ≡ true → fits ps ts ≡ fits ps (map operand (codesOf ts))
+pub fits-by : (ps ts : List Ty) → AllMade ps → allFormed ts ≡ true → fits ps ts ≡ fits ps (map operand (codesOf ts))
 unfolding fits allFormed AllMade
 fits-by [] [] m f = refl
 fits-by [] (x ∷ xs) m f = refl
@@ -207,7 +207,7 @@ fits-by (p ∷ ps) [] m f = refl
 fits-by (p ∷ ps) (x ∷ xs) m f =
     ap₂ (λ (r : ℕ) (b : Bool). both (ltb r none) b) (rank-alike x p (and-left _ _ f) (m .0)) (fits-by ps xs (m .1) (and-right (formed x) _ f))
 
-no-more-by : (ts ps qs : List Ty) → AllMade ps → AllMade qs → allFormed ts ≡ true → noMore ts ps qs ≡ noMore (map operand (codesOf ts)) ps qs
+pub no-more-by : (ts ps qs : List Ty) → AllMade ps → AllMade qs → allFormed ts ≡ true → noMore ts ps qs ≡ noMore (map operand (codesOf ts)) ps qs
 unfolding noMore allFormed AllMade
 no-more-by [] ps qs m n f = refl
 no-more-by (x ∷ xs) [] qs m n f = refl
@@ -215,7 +215,7 @@ no-more-by (x ∷ xs) (p ∷ ps) [] m n f = refl
 no-more-by (x ∷ xs) (p ∷ ps) (q ∷ qs) m n f =
     (λ i. both (leb (rank-alike x p (and-left _ _ f) (m .0) i) (rank-alike x q (and-left _ _ f) (n .0) i)) (no-more-by xs ps qs (m .1) (n .1) (and-right (formed x) _ f) i))
 
-less-by : (ts ps qs : List Ty) → AllMade ps → AllMade qs → allFormed ts ≡ true → less ts ps qs ≡ less (map operand (codesOf ts)) ps qs
+pub less-by : (ts ps qs : List Ty) → AllMade ps → AllMade qs → allFormed ts ≡ true → less ts ps qs ≡ less (map operand (codesOf ts)) ps qs
 unfolding less allFormed AllMade
 less-by [] ps qs m n f = refl
 less-by (x ∷ xs) [] qs m n f = refl
