@@ -36,7 +36,7 @@ ghost use Rattle.memory.specs.inner.Component.{Below, atomicComponent};
 const NO_COMPONENT: usize = table::BOOL;
 
 // The component of the atomic to which the type at t points, where calls on atomics take such a pointer.
-fn pointed(words: &[u32], n: usize, t: usize) -> usize
+pub fn pointed(words: &[u32], n: usize, t: usize) -> usize
     requires { ⌜ Sound (now words) n × (t < n) ⌝ }
     ensures { λ r. ⌜ r ≡ cond (takesAtomic (typeAt (now (words .entry)) t)) (atomicIn (typeAt (now (words .entry)) t)) bool ⌝ }
 {
@@ -53,7 +53,7 @@ fn pointed(words: &[u32], n: usize, t: usize) -> usize
 }
 
 // Whether an operand converts to the scalar s.
-fn value_fits(words: &[u32], n: usize, v: u32, s: u8) -> bool
+pub fn value_fits(words: &[u32], n: usize, v: u32, s: u8) -> bool
     requires { ⌜ Sound (now words) n × (numberOf v < n) × (s < 7) ⌝ }
     ensures { λ r. ⌜ r ≡ converts (operandTy (now (words .entry)) v) (scalar s) ⌝ }
 {

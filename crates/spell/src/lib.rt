@@ -69,7 +69,7 @@ fn text_byte(k: usize, j: usize) -> u8
 }
 
 // Text k from a place on.
-fn put_text(out: &mut [u8], at: usize, k: usize) -> usize
+pub fn put_text(out: &mut [u8], at: usize, k: usize) -> usize
     requires { ⌜ at < far * 2 ⌝ }
     ensures { λ r. ⌜ Put (now (out .entry)) at (textOf k) r (now (out .exit)) ⌝ }
 {

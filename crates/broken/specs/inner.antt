@@ -1,0 +1,2 @@
+-- What only inner functions promise.
+pub mod Alone
