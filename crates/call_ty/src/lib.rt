@@ -156,7 +156,7 @@ fn template_right(words: &[u32], n: usize, rule: u8, tplt: &[u32]) -> bool
 }
 
 // The numbers of the operands, in their order; and whether none of them is a reference.
-fn load(words: &[u32], n: usize, args: &[u32], codes: &mut [u8]) -> bool
+pub fn load(words: &[u32], n: usize, args: &[u32], codes: &mut [u8]) -> bool
     requires { ⌜ Sound (now words) n × Under n (numbers (now args)) × (length (now args) ≤ length (now codes)) ⌝ }
     ensures { λ r. ⌜ Loaded (types (now (words .entry)) (numbers (now (args .entry)))) r (now (codes .exit)) ⌝ }
 {
