@@ -26,7 +26,8 @@ const BINARY_OPS: usize = 18;
 
 const BINARY_ROW: [u8; 18] = [3, 3, 4, 4, 5, 6, 6, 7, 7, 8, 8, 8, 8, 9, 9, 10, 11, 11];
 
-fn row_byte(op: usize) -> u8
+// The row of a binary operator.
+pub fn row_byte(op: usize) -> u8
     requires { ⌜ op < 18 ⌝ }
     ensures { λ r. ⌜ r ≡ binaryRow op .number ⌝ }
 {

@@ -1,0 +1,5 @@
+pub mod Rules
+pub mod Judging
+pub mod Asking
+pub mod Texts
+pub mod OneReply

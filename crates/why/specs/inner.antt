@@ -1,0 +1,2 @@
+-- What only the functions for the crates above promise.
+pub mod Asks
