@@ -35,7 +35,7 @@
 extern "C" {
 #endif
 
-#define SWARTABELK_VERSION 5
+#define SWARTABELK_VERSION 6
 
 /* The type of a reply that has no value or is a refusal. */
 #define SWARTABELK_NO_VALUE 0xFFFFFFFFu
@@ -69,7 +69,7 @@ extern "C" {
  *    9  the result is absent, and the slice or 256 leaves too little room: the reply's `lacking` tells how much
  *   10  a sheet's header, framing, kind or payload length
  *   11  the stack is short, a 65th value, or a wrong end
- *   12  the spelling is longer than the output
+ *   12  the spelling, or the text that tells why, is longer than the output
  *   13  overloads fit, and none is preferred: never given
  *   14  an operand that is known only when running and is abstract at any depth
  *
@@ -88,7 +88,7 @@ typedef struct {
     uint32_t refusal, type, mark, place, used, lacking;
 } swartabelk_reply;
 
-/* The reply of a spelling. length: the bytes that the spelling has, 0 where it is refused. place: 0. used: the one that was given. */
+/* The reply of a spelling, and of a text that tells why. length: the bytes that it has, 0 where it is refused. place: 0. used: the one that was given. */
 typedef struct {
     uint32_t refusal, length, place, used;
 } swartabelk_spelled;
@@ -143,6 +143,30 @@ swartabelk_reply swartabelk_sheet(uint32_t *words, size_t words_len, uint32_t us
 
 /* Writes the spelling of a type to the front of `out`. Later bytes stay unchanged, and all of them where it is refused. */
 swartabelk_spelled swartabelk_spell(const uint32_t *words, size_t words_len, uint32_t used, uint32_t type, uint8_t *out, size_t out_len);
+
+/* Why a call is accepted, or refused with 8: writes a text to the front of `out`, lines of ASCII each ended by a newline. The table is only read; a and b are operands.
+ *
+ * Refused with 8, where the overloads are listed: a line for each overload, in the order of the listing, with the first operand that does not convert, counted from 1:
+ *
+ *    (vec2<f32>, f32): operand 1 is bool
+ *
+ * Refused with 8 by unary & and *, arrayLength, workgroupUniformLoad or a call on atomics: one line of the first operand that breaks the rule:
+ *
+ *    operand 1 is f32, wanted is a pointer
+ *
+ * Accepted, where the overloads are listed: the chosen one with the rank of each conversion, then each fitting one that was left out for a running operand:
+ *
+ *    (i32, i32, bool): chosen, ranks 3 3 0
+ *    (AbstractInt, AbstractInt, bool): dropped, operand 1 is abstract and operand 3 is running
+ *
+ * Any other accepted call has no line: length 0. In each of these cases the refusal is 0. A call that is refused with any other number, 9 too, hands that number on, and
+ * nothing is written. Then 12: where the text is longer than `out`, nothing is written either.
+ *
+ * A text has at most 249 lines of at most 32,768 bytes. */
+swartabelk_spelled swartabelk_why_unary(const uint32_t *words, size_t words_len, uint32_t used, uint32_t op, uint32_t a, uint8_t *out, size_t out_len);
+swartabelk_spelled swartabelk_why_binary(const uint32_t *words, size_t words_len, uint32_t used, uint32_t op, uint32_t a, uint32_t b, uint8_t *out, size_t out_len);
+swartabelk_spelled swartabelk_why_call(const uint32_t *words, size_t words_len, uint32_t used, uint32_t profile, const uint8_t *name, size_t name_len,
+                                       const uint32_t *tplt, size_t tplt_len, const uint32_t *args, size_t args_len, uint8_t *out, size_t out_len);
 
 /* The name of the call whose item begins at a place of the sheet; the part { 0, 0 } where no well-framed call begins there. */
 swartabelk_part swartabelk_call_name(const uint8_t *sheet, size_t sheet_len, size_t place);

@@ -5,3 +5,4 @@ pub mod Sheets
 pub mod Short
 pub mod OneReply
 pub mod Sixteen
+pub mod Why

@@ -20,7 +20,7 @@ use Rattle.ops_ty.specs.Ops.{typeUnaryOp, typeBinaryOp, unaryRuns, binaryRuns}
 use Rattle.call_ty.specs.Calls.{typeBuiltinFn, builtinRuns}
 use Rattle.tplt.specs.Templates.{templateOutcome}
 use Rattle.sheet.specs.Machine.{typeSheet, sheetRuns}
-use Rattle.swartabelk.specs.Reply.{noValue, markBit, replyTo, replyOf, Replied, checkAnswer, SpelledOut, partOf}
+use Rattle.swartabelk.specs.Reply.{noValue, markBit, replyTo, replyOf, Replied, checkAnswer, SpelledOut, ToldOut, partOf}
 use Rattle.swartabelk.specs.inner.Code.{Fits}
 use Rattle.swartabelk.specs.declared.Reply.{Reply}
 use Rattle.swartabelk.specs.declared.SpelledReply.{SpelledReply}
@@ -55,6 +55,9 @@ module _ (w : List ℕ) (n : ℕ) (r q : Reply) where
 
 pub spell-one : (w : List ℕ) (n t : ℕ) (out : List ℕ) (r q : SpelledReply) (v u : List ℕ) → SpelledOut w n t out r v → SpelledOut w n t out q u → (r ≡ q) × (v ≡ u)
 spell-one w n t out r q v u a b = (a .reply ∙ sym (b .reply), a .bytes ∙ sym (b .bytes))
+
+pub why-one : (n : ℕ) (a : Answer) (ps : List (List ℕ)) (out : List ℕ) (r q : SpelledReply) (v u : List ℕ) → ToldOut n a ps out r v → ToldOut n a ps out q u → (r ≡ q) × (v ≡ u)
+why-one n a ps out r q v u x y = (x .reply ∙ sym (y .reply), x .bytes ∙ sym (y .bytes))
 
 pub call-name-one : (s : List ℕ) (place : ℕ) (r q : NamePart) → r ≡ partOf (namePart s place) → q ≡ partOf (namePart s place) → r ≡ q
 call-name-one s place r q a b = a ∙ sym b

@@ -14,6 +14,8 @@ use Rattle.answer.specs.declared.Answer.the-variants.{NoValue}
 use Rattle.spell.specs.declared.Spelled.{Spelled}
 use Rattle.spell.specs.declared.Spelled.the-variants.{Length, Refused}
 use Rattle.spell.specs.Reply.{spellReply, spellBytes}
+use Rattle.reasons.specs.Reasons.{together}
+use Rattle.why.specs.Why.{whyReply, whyBytes}
 use Rattle.frame.specs.declared.Part.{Part}
 use Rattle.swartabelk.specs.declared.Reply.{Reply}
 use Rattle.swartabelk.specs.declared.SpelledReply.{SpelledReply}
@@ -59,6 +61,11 @@ spelledOf n (Refused r) = record { refusal = reasonNo (r .reason); length = 0; p
 pub record SpelledOut (w : List ℕ) (n t : ℕ) (out : List ℕ) (r : SpelledReply) (after : List ℕ) : Type 0 where
   pub reply : r ≡ spelledOf n (spellReply w n (record { 0 = t }) out)
   pub bytes : after ≡ spellBytes w n (record { 0 = t }) out
+
+-- a text that tells why, of a call that answers a and whose text has these pieces: the reply in the same numbers, and every byte of the output afterwards
+pub record ToldOut (n : ℕ) (a : Answer) (ps : List (List ℕ)) (out : List ℕ) (r : SpelledReply) (after : List ℕ) : Type 0 where
+  pub reply : r ≡ spelledOf n (whyReply n a (together ps) out)
+  pub bytes : after ≡ whyBytes (together ps) out
 
 -- the part of the sheet that a call shows as its name
 abbrev pub partOf : Part → NamePart

@@ -18,7 +18,8 @@ ghost use Rattle.ops_ty.specs.Ops.{typeUnaryOp, typeBinaryOp, unaryRuns, binary
 ghost use Rattle.call_ty.specs.Calls.{typeBuiltinFn, builtinRuns};
 ghost use Rattle.tplt.specs.Templates.{templateOutcome};
 ghost use Rattle.sheet.specs.Machine.{typeSheet, sheetRuns};
-ghost use Rattle.swartabelk.specs.Reply.{markBit, tell, replyOf, Replied, checkAnswer, spelledOf, SpelledOut, partOf};
+ghost use Rattle.why.specs.Why.{unaryPieces, binaryPieces, callPieces};
+ghost use Rattle.swartabelk.specs.Reply.{markBit, tell, replyOf, Replied, checkAnswer, spelledOf, SpelledOut, ToldOut, partOf};
 ghost use Rattle.swartabelk.specs.inner.Code.{Fits, SpelledFits};
 
 // The type of a reply that has no value, or is a refusal.
@@ -255,6 +256,59 @@ pub extern "C" fn swartabelk_spell(
     let n = cast::word(used);
     let t = TypeNo(cast::word(ty));
     let s = spell::spell(words, n, t, out);
+    spelled_of(used, s)
+}
+
+// Why a unary operator on the operand a is accepted, or refused with 8, into `out`.
+#[no_mangle]
+pub extern "C" fn swartabelk_why_unary(
+    words: &[u32],
+    used: u32,
+    op: u32,
+    a: u32,
+    out: &mut [u8],
+) -> SpelledReply
+    ensures { λ r. ⌜ ToldOut used (typeUnaryOp (now (words .entry)) used op a .answer) (unaryPieces (now (words .entry)) used op a) (now (out .entry)) r (now (out .exit)) ⌝ }
+{
+    let n = cast::word(used);
+    let o = cast::word(op);
+    let s = why::why_unary(words, n, o, a, out);
+    spelled_of(used, s)
+}
+
+// Why a binary operator on the operands a and b is accepted, or refused with 8, into `out`.
+#[no_mangle]
+pub extern "C" fn swartabelk_why_binary(
+    words: &[u32],
+    used: u32,
+    op: u32,
+    a: u32,
+    b: u32,
+    out: &mut [u8],
+) -> SpelledReply
+    ensures { λ r. ⌜ ToldOut used (typeBinaryOp (now (words .entry)) used op a b .answer) (binaryPieces (now (words .entry)) used op a b) (now (out .entry)) r (now (out .exit)) ⌝ }
+{
+    let n = cast::word(used);
+    let o = cast::word(op);
+    let s = why::why_binary(words, n, o, a, b, out);
+    spelled_of(used, s)
+}
+
+// Why a call of a builtin is accepted, or refused with 8, into `out`.
+#[no_mangle]
+pub extern "C" fn swartabelk_why_call(
+    words: &[u32],
+    used: u32,
+    profile: u32,
+    name: &[u8],
+    tplt: &[u32],
+    args: &[u32],
+    out: &mut [u8],
+) -> SpelledReply
+    ensures { λ r. ⌜ ToldOut used (typeBuiltinFn profile (now (words .entry)) used (now (name .entry)) (now (tplt .entry)) (now (args .entry)) .answer) (callPieces profile (now (words .entry)) used (now (name .entry)) (now (tplt .entry)) (now (args .entry))) (now (out .entry)) r (now (out .exit)) ⌝ }
+{
+    let n = cast::word(used);
+    let s = why::why_call(words, n, profile, name, tplt, args, out);
     spelled_of(used, s)
 }
 
