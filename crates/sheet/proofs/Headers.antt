@@ -19,7 +19,7 @@ use Rattle.step.specs.Effect.{State, Effect, goes, silent, ends, stops, bytesOf
 use Rattle.sheet.specs.Machine.{Turned, more, done, after, turnOf, onward, runItems, endMark, onwardMark, runsItems, begun}
 
 module _ (profile : ℕ) (s t : List ℕ) (a : Alike s t) where
-  name-alike : (name : Part) → headerSize ≤ name .start .0 → bytesOf s name ≡ bytesOf t name
+  pub name-alike : (name : Part) → headerSize ≤ name .start .0 → bytesOf s name ≡ bytesOf t name
   name-alike name h = ap (take (name .length)) (alike-from a (name .start .0) h)
 
   effect-alike : (at place : ℕ) (st : State) → effectOf profile place st s (itemAt s at .item) ≡ effectOf profile place st t (itemAt s at .item)
@@ -46,7 +46,7 @@ module _ (profile : ℕ) (s t : List ℕ) (a : Alike s t) where
   after-alike place next (ends st) = rw (a .long)
   after-alike place next (stops r w) = refl
 
-  turn-alike : (at : ℕ) (st : State) → turnOf profile s (itemAt s at) st ≡ turnOf profile t (itemAt s at) st
+  pub turn-alike : (at : ℕ) (st : State) → turnOf profile s (itemAt s at) st ≡ turnOf profile t (itemAt s at) st
   unfolding turnOf
   turn-alike at st =
       let x = itemAt s at in

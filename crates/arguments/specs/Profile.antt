@@ -1,4 +1,4 @@
--- The profile that the program is started with. Assumes nothing.
+-- The profile that a program is started with. Assumes nothing.
 use Prim.Native.Nat.{ℕ}
 use mathlib.Core.Bool.{cond}
 use mathlib.Core.List.{List}

@@ -1,9 +1,9 @@
--- `typesheet::profile_of` meets its contract: a case for each answer. Assumes nothing.
+-- `arguments::profile_of` meets its contract: a case for each answer. Assumes nothing.
 use native.Mathlib.Omega.{arith}
 use borrow.Author.Needs.{needs}
 use borrow.Author.Tests.{lt-ltb, le-ltb}
-use Rattle.typesheet.proofs.profile_of.Statement.{statement}
-use Rattle.typesheet.proofs.profile_of.Tie as tie
+use Rattle.arguments.proofs.profile_of.Statement.{statement}
+use Rattle.arguments.proofs.profile_of.Tie as tie
 
 returns : tie.Need-returns
 returns c = rw (lt-ltb (c .before .before .args .words) 2 (omega arith))

@@ -1,0 +1,6 @@
+pub mod Finding
+pub mod Headers
+pub mod Queried
+pub mod Telling
+pub mod OneReply
+pub mod Faithful

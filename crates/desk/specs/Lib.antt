@@ -1,0 +1,3 @@
+pub mod Told
+pub mod Desk
+pub mod inner

@@ -1,0 +1,2 @@
+-- What only the inner functions promise.
+pub mod Code
