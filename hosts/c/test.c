@@ -363,6 +363,7 @@ int main(void) {
     rooms();
     marks();
     memory();
+    reasons();
     spellings();
     names();
     printf("%u of %u replies as documents 01 and 02 have them\n", held - failed, held);

@@ -168,6 +168,13 @@ mod side {
         linked::call(table, BASE, name, &[], numbers).refusal == 0
     }
 
+    /// How long the text is that tells why of a binary operator.
+    pub fn why(table: &Table, op: u32, numbers: &[u32], out: &mut [u8]) -> u32 {
+        let spelled = linked::why_binary(table, op, numbers[0], numbers[1], out);
+        assert_eq!(spelled.refusal, 0);
+        spelled.length
+    }
+
     #[inline(never)]
     pub fn sheet(table: &mut Table, profile: u32, sheet: &[u8]) -> (u32, u32) {
         let reply = linked::sheet(table, profile, sheet);
@@ -189,6 +196,10 @@ mod side {
 
     pub fn knows(_: &mut Table, _: &str, _: &[u32]) -> bool {
         false
+    }
+
+    pub fn why(_: &Table, _: u32, _: &[u32], _: &mut [u8]) -> u32 {
+        0
     }
 
     pub fn sheet(_: &mut Table, _: u32, _: &[u8]) -> (u32, u32) {
@@ -370,6 +381,24 @@ fn hard() {
     }
 }
 
+/// The longest listing of scalars: the 249 overloads of `*` at bool and bool. The crate says that it refuses, and no more.
+fn told() {
+    head("told why, ns a call");
+    let bool = WType::Scalar(compare::types::Scalar::Bool);
+    let operands = [to_rust(&bool), to_rust(&bool)];
+    let (table, _, _) = table_with(&[], 7);
+    let number = table.number(&bool);
+    let mut out = vec![0u8; 16384];
+    let mut rust = || {
+        black_box(rust_call(Operation::Binary(4), black_box(&operands)));
+    };
+    let mut ours = || {
+        black_box(side::why(&table, 4, &[number, number], &mut out));
+    };
+    let ours: Option<&mut dyn FnMut()> = if side::IS { Some(&mut ours) } else { None };
+    line("`bool * bool`, 249 lines", 7, 1.0, both(&mut rust, ours));
+}
+
 /// Types one sheet on one side and writes its result, so that a counter of instructions sees nothing else in the function of that side.
 fn count(words: &[String]) -> Option<()> {
     let [which, pattern, items, entries] = words else {
@@ -411,6 +440,7 @@ fn main() {
     sheets();
     searches();
     hard();
+    told();
     println!(
         "
 Instructions, which do not depend on what else the machine does:

@@ -90,6 +90,16 @@ unsafe extern "C" {
         out: *mut u8,
         out_len: usize,
     ) -> Spelled;
+    pub fn swartabelk_why_binary(
+        words: *const u32,
+        words_len: usize,
+        used: u32,
+        op: u32,
+        a: u32,
+        b: u32,
+        out: *mut u8,
+        out_len: usize,
+    ) -> Spelled;
 }
 
 pub fn enter(table: &mut Table, [kind, p, q, elem]: [u32; 4]) -> Reply {
@@ -162,6 +172,13 @@ pub fn spell(table: &Table, number: u32) -> Result<String, u32> {
         0 => Ok(String::from_utf8_lossy(&out[..spelled.length as usize]).into_owned()),
         refusal => Err(refusal),
     }
+}
+
+/// Why a binary operator is accepted or refused, by the library.
+pub fn why_binary(table: &Table, op: u32, a: u32, b: u32, out: &mut [u8]) -> Spelled {
+    let (words, len) = (table.words.as_ptr(), table.words.len());
+    // SAFETY: the words are lent for reading and the output for writing, each with its length.
+    unsafe { swartabelk_why_binary(words, len, table.used, op, a, b, out.as_mut_ptr(), out.len()) }
 }
 
 /// A case asked over a table that holds its types and nothing else beside the scalars. A call is one of profile 1, held to what the other profiles reply.
