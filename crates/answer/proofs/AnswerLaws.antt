@@ -6,7 +6,7 @@ use mathlib.Core.List.{List, [], _∷_}
 use lib.Dec.{eqb}
 use Rattle.answer.specs.Answer.{reasonNo, lackingOf, Numbers, numbersOf}
 use Rattle.answer.specs.declared.Reason.{Reason}
-use Rattle.answer.specs.declared.Reason.the-variants.{Unsound, NoSuchType, Reference, Unknown, Template, Count, Operands, NoOverload, NoRoom, Framing, Stack, TooLong, NonePreferred, RunningAbstract}
+use Rattle.answer.specs.declared.Reason.the-variants.{Unsound, NoSuchType, Reference, Unknown, Template, Count, Operands, NoOverload, NoRoom, Framing, Stack, TooLong, RunningAbstract}
 use Rattle.answer.specs.declared.Answer.{Answer}
 use Rattle.answer.specs.declared.Answer.the-variants.{Value, NoValue, Refused}
 
@@ -24,8 +24,7 @@ reasonOf k lacking =
     (cond (eqb k 9) (NoRoom lacking)
     (cond (eqb k 10) Framing
     (cond (eqb k 11) Stack
-    (cond (eqb k 12) TooLong
-    (cond (eqb k 13) NonePreferred RunningAbstract))))))))))))
+    (cond (eqb k 12) TooLong RunningAbstract)))))))))))
 
 reason-back : (r : Reason) → reasonOf (reasonNo r) (lackingOf r) ≡ r
 unfolding reasonOf
@@ -41,7 +40,6 @@ reason-back (NoRoom k) = refl
 reason-back Framing = refl
 reason-back Stack = refl
 reason-back TooLong = refl
-reason-back NonePreferred = refl
 reason-back RunningAbstract = refl
 
 -- no refusal has number 0
@@ -58,7 +56,6 @@ reason-some (NoRoom k) = refl
 reason-some Framing = refl
 reason-some Stack = refl
 reason-some TooLong = refl
-reason-some NonePreferred = refl
 reason-some RunningAbstract = refl
 
 -- two reasons have two numbers, or lack another count

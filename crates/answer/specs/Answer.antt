@@ -6,7 +6,7 @@ use mathlib.Core.List.{List, [], _∷_}
 use Rattle.answer.specs.declared.TypeNo.{TypeNo}
 use Rattle.answer.specs.declared.Place.{Place}
 use Rattle.answer.specs.declared.Reason.{Reason}
-use Rattle.answer.specs.declared.Reason.the-variants.{Unsound, NoSuchType, Reference, Unknown, Template, Count, Operands, NoOverload, NoRoom, Framing, Stack, TooLong, NonePreferred, RunningAbstract}
+use Rattle.answer.specs.declared.Reason.the-variants.{Unsound, NoSuchType, Reference, Unknown, Template, Count, Operands, NoOverload, NoRoom, Framing, Stack, TooLong, RunningAbstract}
 use Rattle.answer.specs.declared.Answer.{Answer}
 use Rattle.answer.specs.declared.Answer.the-variants.{Value, NoValue, Refused}
 use Rattle.answer.specs.declared.Typed.{Typed}
@@ -15,7 +15,7 @@ use Rattle.answer.specs.declared.Typed.{Typed}
 -- unknown operator or name; template list or entry wrong, missing, or not wanted; array count; wrong operand count;
 -- no overload fits, or crate rule not met; result absent, and the slice or 256 leaves too little room;
 -- sheet header, framing, kind or payload length; stack short, a 65th value, or wrong end; spelling longer than the output;
--- overloads fit, none preferred to every other; a running operand abstract at any depth
+-- a running operand abstract at any depth
 abbrev pub reasonNo : Reason → ℕ
 reasonNo Unsound = 1
 reasonNo NoSuchType = 2
@@ -29,7 +29,6 @@ reasonNo (NoRoom k) = 9
 reasonNo Framing = 10
 reasonNo Stack = 11
 reasonNo TooLong = 12
-reasonNo NonePreferred = 13
 reasonNo RunningAbstract = 14
 
 -- "Refusal 9 should carry how many entries lack"; "Other replies carry 0"
@@ -46,7 +45,6 @@ lackingOf (NoRoom k) = k
 lackingOf Framing = 0
 lackingOf Stack = 0
 lackingOf TooLong = 0
-lackingOf NonePreferred = 0
 lackingOf RunningAbstract = 0
 
 -- an answer in the documents' numbers: the refusal's number, 0 for none; the type's number, or nothing; the place; the used count; how many entries lack

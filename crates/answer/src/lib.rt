@@ -8,7 +8,7 @@ pub struct TypeNo(pub usize);
 // An offset in a sheet.
 pub struct Place(pub usize);
 
-// Why a call is refused, in the order of the refusal numbers 1 to 14. For want of room: how many entries lack.
+// Why a call is refused, in the order of the refusal numbers. For want of room: how many entries lack.
 pub enum Reason {
     Unsound,
     NoSuchType,
@@ -22,7 +22,6 @@ pub enum Reason {
     Framing,
     Stack,
     TooLong,
-    NonePreferred,
     RunningAbstract,
 }
 
@@ -85,7 +84,6 @@ pub fn reason_no(r: Reason) -> u8
         Reason::Framing => 10,
         Reason::Stack => 11,
         Reason::TooLong => 12,
-        Reason::NonePreferred => 13,
         Reason::RunningAbstract => 14,
     }
 }
@@ -107,7 +105,6 @@ pub fn lacking_of(r: Reason) -> u32
         Reason::Framing => 0,
         Reason::Stack => 0,
         Reason::TooLong => 0,
-        Reason::NonePreferred => 0,
         Reason::RunningAbstract => 0,
     }
 }

@@ -106,7 +106,7 @@ module _ (place : ℕ) (w : List ℕ) (n : ℕ) (s : Sound w n) where
     unfolding givenOutcome givenBy judgeBy
     rule-row h us f c running a row q codes e =
         (λ i. judgedOutcome place w n (judgeKept (a i) (rowAt (q i)) (map operand (e i))))
-        ∙ ap (judgedOutcome place w n) (judge-types us f k (anyRunning ms) ∙ judge-kept (rowAt k) us ms c)
+        ∙ ap (judgedOutcome place w n) (judge-types us f k (anyRunning ms) ∙ judge-kept k us ms c)
         ∙ ap (λ (r : Rule). givenOutcome place w n (givenBy r (types w tplt) us ms)) (sym (numbered-row k h))
 
     given-as : (r : Rule) → numbered k ≡ r → givenOutcome place w n (givenBy r (types w tplt) (types w args) ms) ≡ givenOutcome place w n (givenBy (numbered k) (types w tplt) (types w args) ms)

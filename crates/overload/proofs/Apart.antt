@@ -14,11 +14,10 @@ use Rattle.conv.specs.Types.{Ty}
 use Rattle.conv.specs.Rank.{both, Shape, rankOf, formOf, shapeOf, componentOf, sameShape, converts}
 use Rattle.conv.proofs.Finite.{both-left, both-right, both-pair, all, below}
 use Rattle.conv.proofs.Made.{same-shape-self}
-use Rattle.overload.specs.Overload.{Overload, or, fits, listed, Preferred, Resolved, Judged}
-use Rattle.overload.specs.Overload.Judged.{gives, noneFits, nonePreferred}
+use Rattle.overload.specs.Overload.{Overload, or, fits, listed, Preferred}
 use Rattle.overload.specs.Rows.{Size, Component, Pattern, Family, Row, formAt, componentAt, patternTy, overload, ofFamily, rows, noRow, overloadsOf, ofRow, rowAt}
 use Rattle.overload.specs.inner.Code.{member, reaches, noFamily}
-use Rattle.overload.proofs.Preference.{Sized, Beats, fine, allFine, or-cases, or-left, or-right, form-small, from-small}
+use Rattle.overload.proofs.Preference.{Settled, Sized, fine, allFine, or-cases, or-left, or-right, form-small, from-small}
 use Rattle.overload.proofs.Families.{Good, good-in, every, every-at, every-in}
 use Rattle.overload.proofs.Fitting.{shape-of-fit, component-of-fit}
 use Rattle.overload.proofs.Listing.{Of, of-family, listed-of, to-listed}
@@ -203,15 +202,10 @@ module _ (row : ℕ) (xs : List Ty) (test : Overload → Bool) where
   -- by a test that goes by T in each family
   module _ (flag : ℕ → Bool) (law : (k : ℕ) → ByT test (familyAt row k) (flag k)) where
     -- where an overload that passes fits one is preferred
-    pub some-preferred : (p : Overload) → passing test (ofRow (rowAt row)) p → T (fits (p .params) xs) → (o : Overload) × Preferred (passing test (ofRow (rowAt row))) xs o
+    pub some-preferred : Settled (passing test (ofRow (rowAt row))) xs
     some-preferred p m h =
         let r = listed-of (rowAt row .families) p (m .0) in
         let k = r .0 in
         let f = familyAt row k in
         let q = family-preferred (narrow (flag k) f) (narrow-good (flag k) f (good-in row k)) xs p (to-narrow test f (flag k) (law k) p (r .2, m .1)) h in
         (q .0, row-of-family k (r .1) (q .0) (narrow-preferred test f (flag k) (law k) xs (q .0) (q .1)))
-
-    -- REFUSAL 13 IS NEVER GIVEN
-    pub row-never : Resolved (passing test (ofRow (rowAt row))) xs nonePreferred → ⊥
-    unfolding Resolved
-    row-never q = let o = some-preferred (q .0 .0) (q .0 .1) (q .0 .2) in q .1 (o .0) (o .1)

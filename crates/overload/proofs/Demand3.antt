@@ -18,7 +18,7 @@ use Rattle.conv.proofs.Finite.{both-left, both-right, both-pair, all, below}
 use Rattle.conv.proofs.Ranks.{order}
 use Rattle.conv.proofs.Made.{same-shape-self}
 use Rattle.overload.specs.Overload.{Overload, or, fits, listed, Preferred, Resolved}
-use Rattle.overload.specs.Overload.Judged.{gives, noneFits, nonePreferred}
+use Rattle.overload.specs.Overload.Judged.{gives, noneFits}
 use Rattle.overload.specs.Rows.{Size, Component, Pattern, Family, Row, formAt, componentAt, patternTy, overload, ofFamily, rows, noRow, overloadsOf, ofRow, rowAt}
 use Rattle.overload.specs.Rows.Component.{ofT, ofI, expT, just}
 use Rattle.overload.specs.inner.Code as code

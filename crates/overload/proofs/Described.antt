@@ -14,8 +14,9 @@ use Rattle.conv.specs.Rank.Shape.{one, vector, matrix, other}
 use Rattle.conv.proofs.Finite.{both-left, both-right}
 use Rattle.conv.proofs.Made.{same-ty, self-rank}
 use Rattle.overload.specs.Overload.{Overload, fits, Preferred, Resolved}
-use Rattle.overload.specs.Overload.Judged.{gives, noneFits, nonePreferred}
+use Rattle.overload.specs.Overload.Judged.{gives, noneFits}
 use Rattle.overload.specs.Rows.{addressOf, indirectionOf, judgeAddress, judgeIndirection}
+use Rattle.overload.proofs.Preference.{Settled}
 
 -- what converts to a type that is no scalar, vector or matrix is that type
 
@@ -80,11 +81,11 @@ module _ (set : Overload → Type 0) (takes : Ty → Type 0) (more : Ty → List
   unfolding Resolved fits
   described-none p m h = let q = each p m in subst (λ (o : Overload). T (fits (o .params) [])) (q .3) h
 
-  -- so 13 is never given
-  pub described-never : (ts : List Ty) → Resolved set ts nonePreferred → ⊥
+  -- so wherever one fits one is preferred
+  pub described-settled : (ts : List Ty) → Settled set ts
   unfolding Resolved
-  described-never [] q = described-none (q .0 .0) (q .0 .1) (q .0 .2)
-  described-never (x ∷ xs) q = let t = taken x xs (q .0 .0) (q .0 .1) (q .0 .2) in q .1 (record { params = x ∷ more x; result = out x }) (own x xs (t .0) (t .1))
+  described-settled [] p m h = absurd (described-none p m h)
+  described-settled (x ∷ xs) p m h = let t = taken x xs p m h in (record { params = x ∷ more x; result = out x }, own x xs (t .0) (t .1))
 
 -- a rule for one operand has no further parameter
 abbrev pub nothingMore : Ty → List Ty
@@ -139,8 +140,8 @@ address-gives x k = described addressOf Lendable nothingMore pointerTo each-addr
 address-none : (x : Ty) → (Lendable x → ⊥) → Resolved addressOf (x ∷ []) noneFits
 address-none x h = undescribed addressOf Lendable nothingMore pointerTo each-address all-address x [] (λ k f. h k)
 
-pub address-never : (ts : List Ty) → Resolved addressOf ts nonePreferred → ⊥
-address-never = described-never addressOf Lendable nothingMore pointerTo each-address all-address
+pub address-settled : (ts : List Ty) → Settled addressOf ts
+address-settled = described-settled addressOf Lendable nothingMore pointerTo each-address all-address
 
 indirection-gives : (x : Ty) → Pointer x → Resolved indirectionOf (x ∷ []) (gives (referenceTo x))
 unfolding fits
@@ -149,8 +150,8 @@ indirection-gives x k = described indirectionOf Pointer nothingMore referenceTo 
 indirection-none : (x : Ty) → (Pointer x → ⊥) → Resolved indirectionOf (x ∷ []) noneFits
 indirection-none x h = undescribed indirectionOf Pointer nothingMore referenceTo each-indirection all-indirection x [] (λ k f. h k)
 
-pub indirection-never : (ts : List Ty) → Resolved indirectionOf ts nonePreferred → ⊥
-indirection-never = described-never indirectionOf Pointer nothingMore referenceTo each-indirection all-indirection
+pub indirection-settled : (ts : List Ty) → Settled indirectionOf ts
+indirection-settled = described-settled indirectionOf Pointer nothingMore referenceTo each-indirection all-indirection
 
 -- THE RULES AS FUNCTIONS meet demand 3
 

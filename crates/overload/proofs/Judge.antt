@@ -1,5 +1,7 @@
--- DEMAND 3 over any list of overloads: the function `judge` gives the judgment that `Resolved` describes, and no other judgment meets it.
--- Assumes nothing.
+-- DEMAND 3 over any list of overloads: what the function `judge` gives is the preferred overload's result; wherever one that fits is preferred it gives the judgment that
+-- `Resolved` describes; and no other judgment meets that. Assumes nothing.
+use Prim.Native.Nat.{ℕ}
+use native.Mathlib.Omega.{arith}
 use mathlib.Core.Path.{_≡_, refl, sym, _∙_, ap, subst}
 use mathlib.Core.Logic.{_⊎_, inl, inr, ⊎-elim}
 use mathlib.Core.Bool.{Bool, true, false, not, cond}
@@ -9,9 +11,9 @@ use Rattle.conv.specs.Types.{Ty}
 use Rattle.conv.specs.Rank.{both, sameTy}
 use Rattle.conv.proofs.Finite.{both-left, both-right, both-pair}
 use Rattle.conv.proofs.Made.{same-ty, self-ty}
-use Rattle.overload.specs.Overload.{Overload, fits, noMore, less, or, listed, Preferred, Judged, Resolved, sameTys, sameOverload, yields, allYield, isPreferred, anyFits, chosen, judge}
+use Rattle.overload.specs.Overload.{Overload, fits, noMore, less, or, listed, Preferred, Judged, Resolved, sameTys, sameOverload, yields, allYield, isPreferred, chosen, judge}
 use Rattle.overload.specs.Overload.Judged.{gives, noneFits}
-use Rattle.overload.proofs.Preference.{or-cases, or-left, or-right, one-judgment}
+use Rattle.overload.proofs.Preference.{or-cases, or-left, or-right, one-judgment, Settled, settled-by}
 
 -- the test of one overload
 
@@ -35,6 +37,12 @@ same-overload p o h =
 
 pub self-overload : (o : Overload) → T (sameOverload o o)
 self-overload o = both-pair _ _ (self-tys (o .params)) (self-ty (o .result))
+
+clash : {R : Ty} → noneFits ≡ gives R → ⊥
+clash e = let z : _≡_ {A = ℕ} 0 1 = cc in omega arith
+
+inner : {R Q : Ty} → gives R ≡ gives Q → R ≡ Q
+inner e = cc
 
 not-not : (b : Bool) → (T b → ⊥) → T (not b)
 not-not true h = absurd (h tt)
@@ -79,44 +87,42 @@ module _ (os : List Overload) (xs : List Ty) where
       go p m true e = or-right (not (fits (p .params) xs)) _ (beaten p (q .over p m (rw e tt)))
       go p m false e = or-left (not (fits (p .params) xs)) _ (rw e tt)
 
-  any-at : (ps : List Overload) → T (anyFits ps xs) → (p : Overload) × List·Memᴰ p ps × T (fits (p .params) xs)
-  unfolding anyFits
-  any-at [] h = absurd h
-  any-at (p ∷ ps) h =
-      ⊎-elim (λ a. (p, List·Memᴰ·head refl, a)) (λ b. let r = any-at ps b in (r .0, List·Memᴰ·tail (r .1), r .2)) (or-cases (fits (p .params) xs) (anyFits ps xs) h)
-
-  at-any : (ps : List Overload) (p : Overload) → List·Memᴰ p ps → T (fits (p .params) xs) → T (anyFits ps xs)
-  unfolding anyFits
-  at-any [] p m h = absurd (List·Memᴰ·not-nil m)
-  at-any (q ∷ qs) p m h =
-      ⊎-elim (λ e. or-left _ _ (subst (λ (r : Overload). T (fits (r .params) xs)) e h)) (λ n. or-right (fits (q .params) xs) _ (at-any qs p n h)) (List·Memᴰ·cases-cons m)
-
   -- what is chosen from a part of the list
-  chosen-is : T (anyFits os xs) → (rest : List Overload) → ((o : Overload) → List·Memᴰ o rest → List·Memᴰ o os)
-      → ((o : Overload) → List·Memᴰ o os → T (isPreferred os xs o) → List·Memᴰ o rest) → Resolved (listed os) xs (chosen os xs rest)
+  chosen-gives : (rest : List Overload) → ((o : Overload) → List·Memᴰ o rest → List·Memᴰ o os) → (R : Ty) → chosen os xs rest ≡ gives R → Resolved (listed os) xs (gives R)
   unfolding Resolved chosen
-  chosen-is a [] sub sup = (any-at os a, λ o q. List·Memᴰ·not-nil (sup o (q .among) (of-preferred o q)))
-  chosen-is a (o ∷ rest) sub sup = go (isPreferred os xs o) refl (chosen-is a rest (λ p m. sub p (List·Memᴰ·tail m)))
+  chosen-gives [] sub R e = absurd (clash e)
+  chosen-gives (o ∷ rest) sub R e = go (isPreferred os xs o) refl e (λ k. chosen-gives rest (λ p m. sub p (List·Memᴰ·tail m)) R k)
     where
-      go : (b : Bool) → isPreferred os xs o ≡ b → (((p : Overload) → List·Memᴰ p os → T (isPreferred os xs p) → List·Memᴰ p rest) → Resolved (listed os) xs (chosen os xs rest))
-          → Resolved (listed os) xs (cond b (gives (o .result)) (chosen os xs rest))
-      go true e ih = (o, preferred-of o (sub o (List·Memᴰ·head refl)) (rw e tt), refl)
-      go false e ih =
-          ih (λ p m h. ⊎-elim (λ q. absurd (subst T (ap (isPreferred os xs) q ∙ e) h)) (λ n. n) (List·Memᴰ·cases-cons (sup p m h)))
+      go : (b : Bool) → isPreferred os xs o ≡ b → cond b (gives (o .result)) (chosen os xs rest) ≡ gives R → (chosen os xs rest ≡ gives R → Resolved (listed os) xs (gives R)) → Resolved (listed os) xs (gives R)
+      go true q k ih = (o, preferred-of o (sub o (List·Memᴰ·head refl)) (rw q tt), sym (inner k))
+      go false q k ih = ih k
 
-  nothing-fits : anyFits os xs ≡ false → Resolved (listed os) xs noneFits
-  unfolding Resolved
-  nothing-fits e p m h = subst T e (at-any os p m h)
+  chosen-none : (rest : List Overload) → chosen os xs rest ≡ noneFits → (o : Overload) → List·Memᴰ o rest → T (isPreferred os xs o) → ⊥
+  unfolding chosen
+  chosen-none [] e o m h = List·Memᴰ·not-nil m
+  chosen-none (p ∷ rest) e o m h = go (isPreferred os xs p) refl e (λ k n. chosen-none rest k o n h)
+    where
+      go : (b : Bool) → isPreferred os xs p ≡ b → cond b (gives (p .result)) (chosen os xs rest) ≡ noneFits → (chosen os xs rest ≡ noneFits → List·Memᴰ o rest → ⊥) → ⊥
+      go true q k ih = clash (sym k)
+      go false q k ih = ⊎-elim (λ d. subst T (ap (isPreferred os xs) d ∙ q) h) (λ n. ih k n) (List·Memᴰ·cases-cons m)
+
+  -- what is given is the preferred overload's, of any list
+  pub judge-gives : (R : Ty) → judge os xs ≡ gives R → Resolved (listed os) xs (gives R)
+  unfolding judge
+  judge-gives R e = chosen-gives os (λ p m. m) R e
+
+  judge-none : Settled (listed os) xs → judge os xs ≡ noneFits → Resolved (listed os) xs noneFits
+  unfolding Resolved judge
+  judge-none s e p m h = let q = s p m h in chosen-none os e (q .0) (q .1 .among) (of-preferred (q .0) (q .1))
 
   -- THE LAW
-  pub judge-resolved : Resolved (listed os) xs (judge os xs)
-  unfolding judge
-  judge-resolved = go (anyFits os xs) refl
+  pub judge-resolved : Settled (listed os) xs → Resolved (listed os) xs (judge os xs)
+  judge-resolved s = go (judge os xs) refl
     where
-      go : (b : Bool) → anyFits os xs ≡ b → Resolved (listed os) xs (cond b (chosen os xs os) noneFits)
-      go true e = chosen-is (rw e tt) os (λ p m. m) (λ p m h. m)
-      go false e = nothing-fits e
+      go : (j : Judged) → judge os xs ≡ j → Resolved (listed os) xs j
+      go (gives R) e = judge-gives R e
+      go noneFits e = judge-none s e
 
   -- the only judgment that meets demand 3
   pub judge-is : (r : Judged) → Resolved (listed os) xs r → r ≡ judge os xs
-  judge-is r q = one-judgment (listed os) xs r (judge os xs) q judge-resolved
+  judge-is r q = one-judgment (listed os) xs r (judge os xs) q (judge-resolved (settled-by (listed os) xs r q))

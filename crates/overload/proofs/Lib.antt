@@ -15,6 +15,8 @@ pub mod Described
 pub mod Results
 pub mod Operands
 pub mod Memory
+pub mod Staying
+pub mod OnePreferred
 pub mod Rulings
 pub mod Scaling
 pub mod Sets

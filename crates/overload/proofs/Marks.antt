@@ -17,17 +17,16 @@ use Rattle.conv.specs.Rank.Shape.{one, vector, matrix, other}
 use Rattle.conv.proofs.Finite.{both-left, both-right, both-pair, implies, modus, below, below₂}
 use Rattle.conv.proofs.Ranks.{rank-to}
 use Rattle.conv.proofs.Made.{same-ty}
-use Rattle.overload.specs.Overload.{Overload, or, fits, listed, Preferred, Judged, Resolved, judge}
-use Rattle.overload.specs.Overload.Judged.{nonePreferred}
+use Rattle.overload.specs.Overload.{Overload, or, fits, listed, Judged, Resolved, judge}
 use Rattle.overload.specs.Marks.{anyRunning, anyAbstract, dropped, remains, passing, sifted, remaining, remainingIn, runningAbstract}
 use Rattle.overload.specs.Rows.{Size, Component, Pattern, Family, Row, formAt, componentAt, patternTy, overload, ofFamily, rows, noRow, rowAt, overloadsOf, ofRow, judgeRow}
 use Rattle.overload.specs.Rows.Component.{ofT, ofI, expT, just}
 use Rattle.overload.specs.inner.Code.{member, reaches, noFamily, familyOf, families, kept, judgeKept, leftT}
-use Rattle.overload.proofs.Preference.{Sized, fine, allFine, some, or-cases, or-left, or-right, same-resolved, slot-cost, pick-test, pick-rank, from-small}
+use Rattle.overload.proofs.Preference.{Sized, fine, allFine, some, or-cases, or-left, or-right, Settled, same-resolved, same-settled, slot-cost, pick-test, pick-rank, from-small}
 use Rattle.overload.proofs.Families.{Good, good-in, every, every-at, every-in, every-member, joined-every}
 use Rattle.overload.proofs.Listing.{Of, of-family, to-family, listed-of, to-listed}
 use Rattle.overload.proofs.Sieve.{ByT, to-sifted, of-sifted, all-sifted}
-use Rattle.overload.proofs.Apart.{familyAt, row-never, some-preferred}
+use Rattle.overload.proofs.Apart.{familyAt, some-preferred}
 use Rattle.overload.proofs.Judge.{judge-resolved, judge-is}
 
 -- WHERE A PARAMETER IS ABSTRACT
@@ -223,9 +222,10 @@ kept-in running row k = kept-T (familyAt row k) (marked-in row k) running
 -- the judgment that the engine gives is the one over what it looks at
 
 module _ (g : Overload → Bool) (os : List Overload) (ts : List Ty) where
-  pub sifted-resolved : Resolved (passing g (listed os)) ts (judge (sifted g os) ts)
-  sifted-resolved =
-      same-resolved (listed (sifted g os)) (passing g (listed os)) ts (λ p f m. of-sifted g os p m) (λ p f m. to-sifted g os p m) (judge (sifted g os) ts) (judge-resolved (sifted g os) ts)
+  pub sifted-resolved : Settled (passing g (listed os)) ts → Resolved (passing g (listed os)) ts (judge (sifted g os) ts)
+  sifted-resolved s =
+      same-resolved (listed (sifted g os)) (passing g (listed os)) ts (λ p f m. of-sifted g os p m) (λ p f m. to-sifted g os p m) (judge (sifted g os) ts)
+      (judge-resolved (sifted g os) ts (same-settled (passing g (listed os)) (listed (sifted g os)) ts (λ p f m. to-sifted g os p m) (λ p f m. of-sifted g os p m) s))
 
   pub sifted-is : (j : Judged) → Resolved (passing g (listed os)) ts j → j ≡ judge (sifted g os) ts
   sifted-is j q =
@@ -233,7 +233,7 @@ module _ (g : Overload → Bool) (os : List Overload) (ts : List Ty) where
       (same-resolved (passing g (listed os)) (listed (sifted g os)) ts (λ p f m. to-sifted g os p m) (λ p f m. of-sifted g os p m) j q)
 
 pub kept-resolved : (row : ℕ) (running : Bool) (ts : List Ty) → Resolved (passing (kept running) (ofRow (rowAt row))) ts (judgeKept running (rowAt row) ts)
-kept-resolved row running ts = sifted-resolved (kept running) (overloadsOf (rowAt row)) ts
+kept-resolved row running ts = sifted-resolved (kept running) (overloadsOf (rowAt row)) ts (some-preferred row ts (kept running) (λ k. running) (kept-in running row))
 
 pub kept-is : (row : ℕ) (running : Bool) (ts : List Ty) (j : Judged) → Resolved (passing (kept running) (ofRow (rowAt row))) ts j → j ≡ judgeKept running (rowAt row) ts
 kept-is row running ts j q = sifted-is (kept running) (overloadsOf (rowAt row)) ts j q
@@ -247,11 +247,8 @@ module _ (row : ℕ) (ms : List Bool) (ts : List Ty) where
   unfolding flag
   law k = remains-T (familyAt row k) (marked-in row k) ms
 
-  pub left-preferred : (p : Overload) → remaining ms (ofRow (rowAt row)) p → T (fits (p .params) ts) → (o : Overload) × Preferred (remaining ms (ofRow (rowAt row))) ts o
-  left-preferred p m h = some-preferred row ts (remains ms) flag law p m h
-
-  pub left-never : Resolved (remaining ms (ofRow (rowAt row))) ts nonePreferred → ⊥
-  left-never q = row-never row ts (remains ms) flag law q
+  pub left-preferred : Settled (remaining ms (ofRow (rowAt row))) ts
+  left-preferred = some-preferred row ts (remains ms) flag law
 
 -- WHAT K3 DROPS
 
@@ -382,12 +379,12 @@ module _ (ts : List Ty) (ms : List Bool) (u : runningAbstract ts ms ≡ false) (
       (or-cases (not (anyRunning ms)) _ h))
 
 -- so the engine's judgment is the one by the marks
-pub judge-kept : (r : Row) (ts : List Ty) (ms : List Bool) → runningAbstract ts ms ≡ false → judgeKept (anyRunning ms) r ts ≡ judgeRow r ts ms
-judge-kept r ts ms u =
-    sifted-is (remains ms) (overloadsOf r) ts (judgeKept (anyRunning ms) r ts)
-    (same-resolved (passing (kept (anyRunning ms)) (ofRow r)) (remaining ms (ofRow r)) ts (λ p f m. (m .0, from-kept ts ms u p f (m .1))) (λ p f m. (m .0, to-kept ts ms u p f (m .1)))
-    (judgeKept (anyRunning ms) r ts)
-    (sifted-resolved (kept (anyRunning ms)) (overloadsOf r) ts))
+pub judge-kept : (row : ℕ) (ts : List Ty) (ms : List Bool) → runningAbstract ts ms ≡ false → judgeKept (anyRunning ms) (rowAt row) ts ≡ judgeRow (rowAt row) ts ms
+judge-kept row ts ms u =
+    sifted-is (remains ms) (overloadsOf (rowAt row)) ts (judgeKept (anyRunning ms) (rowAt row) ts)
+    (same-resolved (passing (kept (anyRunning ms)) (ofRow (rowAt row))) (remaining ms (ofRow (rowAt row))) ts (λ p f m. (m .0, from-kept ts ms u p f (m .1))) (λ p f m. (m .0, to-kept ts ms u p f (m .1)))
+    (judgeKept (anyRunning ms) (rowAt row) ts)
+    (kept-resolved row (anyRunning ms) ts))
 
 -- K3 NEVER EMPTIES the fitting overloads: beside an overload at an abstract T stands the one at i32 or f32, which takes all that it takes and is never dropped
 

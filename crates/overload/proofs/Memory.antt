@@ -14,12 +14,13 @@ use Rattle.conv.specs.Rank.{both, Shape, shapeOf, componentOf, tagOf, isPointer
 use Rattle.conv.specs.Rank.Shape.{other}
 use Rattle.conv.proofs.Made.{remake, remade}
 use Rattle.overload.specs.Overload.{Overload, or, fits, Judged, Resolved}
-use Rattle.overload.specs.Overload.Judged.{gives, noneFits, nonePreferred}
+use Rattle.overload.specs.Overload.Judged.{gives, noneFits}
 use Rattle.overload.specs.Marks.{anyAbstract}
 use Rattle.overload.specs.Rows.{toAtomic, values, atomicOf, isAtomic, loadable, loaded, uniformLoadOf, toRuntime, arrayLengthOf, takesAtomic, atomicIn, judgeAtomic, takesLoad, judgeLoad, takesLength, judgeLength}
 use Rattle.overload.proofs.Operands.{and-left, and-right, allFormed}
 use Rattle.overload.proofs.Results.{T-true}
-use Rattle.overload.proofs.Described.{described, undescribed, described-none, described-never, nothingMore}
+use Rattle.overload.proofs.Preference.{Settled}
+use Rattle.overload.proofs.Described.{described, undescribed, described-none, described-settled, nothingMore}
 
 clash : {P : Type 0} {b : Bool} → b ≡ true → b ≡ false → P
 clash p q = absurd (let z : _≡_ {A = ℕ} 0 1 = cc in omega arith)
@@ -158,8 +159,8 @@ module _ (k : ℕ) (out : ℕ → Ty) where
   judge-atomic [] f = described-none (atomicOf k out) Counter further given each-atomic all-atomic
   judge-atomic (x ∷ xs) f = judge-first x xs (and-left (formed x) _ f) (takesAtomic x) (fits (further x) xs) refl refl
 
-  pub atomic-never : (ts : List Ty) → Resolved (atomicOf k out) ts nonePreferred → ⊥
-  atomic-never = described-never (atomicOf k out) Counter further given each-atomic all-atomic
+  pub atomic-settled : (ts : List Ty) → Settled (atomicOf k out) ts
+  atomic-settled = described-settled (atomicOf k out) Counter further given each-atomic all-atomic
 
   -- what it gives is a type that there is
   module _ (good : (s : ℕ) → formed (atomic s) ≡ true → formed (out s) ≡ true) where
@@ -239,8 +240,8 @@ pub judge-load : (x : Ty) → formed x ≡ true → Resolved uniformLoadOf (x �
 unfolding judgeLoad
 judge-load x f = tested uniformLoadOf Shared takesLoad loadedBy each-load all-load to-shared of-shared x f (takesLoad x) refl
 
-pub load-never : (ts : List Ty) → Resolved uniformLoadOf ts nonePreferred → ⊥
-load-never = described-never uniformLoadOf Shared nothingMore loadedBy each-load all-load
+pub load-settled : (ts : List Ty) → Settled uniformLoadOf ts
+load-settled = described-settled uniformLoadOf Shared nothingMore loadedBy each-load all-load
 
 -- what it loads is a type that there is
 loaded-formed : (t : Ty) (b : Bool) → isAtomic t ≡ b → formed t ≡ true → formed (cond b (scalar (firstOf t)) t) ≡ true
@@ -302,8 +303,8 @@ pub judge-length : (x : Ty) → formed x ≡ true → Resolved arrayLengthOf (x 
 unfolding judgeLength
 judge-length x f = tested arrayLengthOf Unsized takesLength lengthBy each-length all-length to-unsized of-unsized x f (takesLength x) refl
 
-pub length-never : (ts : List Ty) → Resolved arrayLengthOf ts nonePreferred → ⊥
-length-never = described-never arrayLengthOf Unsized nothingMore lengthBy each-length all-length
+pub length-settled : (ts : List Ty) → Settled arrayLengthOf ts
+length-settled = described-settled arrayLengthOf Unsized nothingMore lengthBy each-length all-length
 
 -- u32 is a type that there is
 pub length-formed : (x : Ty) → formed x ≡ true → (R : Ty) → judgeLength x ≡ gives R → formed R ≡ true

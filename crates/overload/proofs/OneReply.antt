@@ -1,5 +1,4 @@
--- No second answer meets the promise of `operand_count` or of `resolve`: where a row gives a type its number is the one that stands for it, and 8 and 13 are told apart.
--- Assumes nothing.
+-- No second answer meets the promise of `operand_count` or of `resolve`: where a row gives a type its number is the one that stands for it. Assumes nothing.
 use Prim.Native.Nat.{ℕ, _/_, _%_, _<_, _≤_}
 use native.Mathlib.Omega.{arith}
 use mathlib.Core.Path.{_≡_, refl, sym, _∙_, ap, subst}
@@ -19,7 +18,7 @@ use Rattle.overload.specs.inner.Code.{shapeOfNo, shapeNo, operand, codeO
 use Rattle.overload.specs.declared.Out.{Out}
 use Rattle.overload.specs.declared.Out.the-variants.{Plain, Frexp, Modf}
 use Rattle.overload.specs.declared.Resolution.{Resolution}
-use Rattle.overload.specs.declared.Resolution.the-variants.{Gives, NoneFits, NonePreferred}
+use Rattle.overload.specs.declared.Resolution.the-variants.{Gives, NoneFits}
 use Rattle.overload.proofs.Operands.{code-of, and-left}
 use Rattle.overload.proofs.Resolving.{shape-numbers, beyond}
 use Rattle.overload.proofs.Results.{gives-formed}
@@ -112,13 +111,8 @@ resolve-one row running xs (Gives a) (Gives b) p q =
     let g = gives-formed row (kept running) (map operand xs) (outOf b) (sym q) in
     ap Gives (out-one a b (f .0) (f .1) (g .0) (g .1) (gives-one (p ∙ sym q)))
 resolve-one row running xs (Gives a) NoneFits p q = absurd (let e = p ∙ sym q in let z : _≡_ {A = ℕ} 0 1 = cc in omega arith)
-resolve-one row running xs (Gives a) NonePreferred p q = absurd (let e = p ∙ sym q in let z : _≡_ {A = ℕ} 0 1 = cc in omega arith)
 resolve-one row running xs NoneFits (Gives b) p q = absurd (let e = p ∙ sym q in let z : _≡_ {A = ℕ} 0 1 = cc in omega arith)
 resolve-one row running xs NoneFits NoneFits p q = refl
-resolve-one row running xs NoneFits NonePreferred p q = absurd (let e = p ∙ sym q in let z : _≡_ {A = ℕ} 0 1 = cc in omega arith)
-resolve-one row running xs NonePreferred (Gives b) p q = absurd (let e = p ∙ sym q in let z : _≡_ {A = ℕ} 0 1 = cc in omega arith)
-resolve-one row running xs NonePreferred NoneFits p q = absurd (let e = p ∙ sym q in let z : _≡_ {A = ℕ} 0 1 = cc in omega arith)
-resolve-one row running xs NonePreferred NonePreferred p q = refl
 
 pub operand-count-one : (row r s : ℕ) → r ≡ operandCount (rowAt row) → s ≡ operandCount (rowAt row) → r ≡ s
 operand-count-one row r s p q = p ∙ sym q

@@ -15,7 +15,7 @@ use Rattle.conv.specs.Rank.Shape.{vector, matrix, other}
 use Rattle.conv.proofs.Finite.{both-left, both-right}
 use Rattle.conv.proofs.Made.{made-rank, shape-made}
 use Rattle.overload.specs.Overload.{Overload, fits, noMore, less, or, Preferred, Judged, Resolved}
-use Rattle.overload.specs.Overload.Judged.{gives, noneFits, nonePreferred}
+use Rattle.overload.specs.Overload.Judged.{gives, noneFits}
 use Rattle.overload.specs.Marks.{passing}
 use Rattle.overload.specs.Rows.{Size, Pattern, formAt, componentAt, patternTy, overloadsOf, ofRow, rowAt}
 use Rattle.overload.specs.inner.Code.{shapeOfNo, shapeNo, operand, codeOf, kept, judgeKept}
@@ -23,8 +23,8 @@ use Rattle.overload.proofs.Preference.{Sized, fine, allFine, form-small
 use Rattle.overload.proofs.Slots.{by-shape}
 use Rattle.overload.proofs.Families.{good-in}
 use Rattle.overload.proofs.Listing.{listed-of, of-family}
-use Rattle.overload.proofs.Apart.{familyAt, row-never}
-use Rattle.overload.proofs.Marks.{kept-in, kept-resolved, kept-is}
+use Rattle.overload.proofs.Apart.{familyAt}
+use Rattle.overload.proofs.Marks.{kept-resolved, kept-is}
 
 -- THE NUMBER OF A TYPE
 
@@ -246,7 +246,6 @@ module _ (ts : List Ty) (f : allFormed ts ≡ true) (row : ℕ) (running : Bool)
   unfolding Resolved
   resolved-types (gives t) q = (q .0, preferred-types (q .0) (q .1), q .2)
   resolved-types noneFits q = λ p m h. q p m (subst T (fits-by (p .params) ts (params-of row p (m .0)) f) h)
-  resolved-types nonePreferred q = absurd (row-never row (map operand (codesOf ts)) (kept running) (λ k. running) (kept-in running row) q)
 
   -- so the definition judges the types as it judges the numbers
   pub judge-types : judgeKept running (rowAt row) (map operand (codesOf ts)) ≡ judgeKept running (rowAt row) ts

@@ -15,7 +15,7 @@ use Rattle.conv.proofs.Finite.{both-left, both-right, both-pair, implies, modus
 use Rattle.conv.proofs.Ranks.{rank-from, order, rises}
 use Rattle.conv.proofs.Made.{made-rank}
 use Rattle.overload.specs.Overload.{Overload, fits, noMore, less, or, Preferred, Judged, Resolved}
-use Rattle.overload.specs.Overload.Judged.{gives, noneFits, nonePreferred}
+use Rattle.overload.specs.Overload.Judged.{gives, noneFits}
 use Rattle.overload.specs.Rows.{Size, Form, Component, Pattern, formAt, componentAt, patternTy}
 use Rattle.overload.specs.Rows.Form.{sized, single, vecC, vecR, left, right, turned}
 use Rattle.overload.specs.Rows.Component.{ofT, ofI, expT, just}
@@ -67,13 +67,18 @@ module _ (set : Overload → Type 0) (xs : List Ty) where
   unfolding Resolved
   one-judgment (gives t) (gives u) a b = ap gives (a .2 ∙ ap (λ (o : Overload). o .result) (one-preferred (a .0) (b .0) (a .1) (b .1)) ∙ sym (b .2))
   one-judgment (gives t) noneFits a b = absurd (b (a .0) (a .1 .among) (a .1 .fitting))
-  one-judgment (gives t) nonePreferred a b = absurd (b .1 (a .0) (a .1))
   one-judgment noneFits (gives u) a b = absurd (a (b .0) (b .1 .among) (b .1 .fitting))
   one-judgment noneFits noneFits a b = refl
-  one-judgment noneFits nonePreferred a b = absurd (a (b .0 .0) (b .0 .1) (b .0 .2))
-  one-judgment nonePreferred (gives u) a b = absurd (a .1 (b .0) (b .1))
-  one-judgment nonePreferred noneFits a b = absurd (b (a .0 .0) (a .0 .1) (a .0 .2))
-  one-judgment nonePreferred nonePreferred a b = refl
+
+-- wherever an overload of the set fits one is preferred to every other that does
+abbrev pub Settled : (Overload → Type 0) → List Ty → Type 0
+Settled set xs = (p : Overload) → set p → T (fits (p .params) xs) → (o : Overload) × Preferred set xs o
+
+-- so it is where there is a judgment
+pub settled-by : (set : Overload → Type 0) (xs : List Ty) (r : Judged) → Resolved set xs r → Settled set xs
+unfolding Resolved
+settled-by set xs (gives t) q = λ p m h. (q .0, q .1)
+settled-by set xs noneFits q = λ p m h. absurd (q p m h)
 
 -- two sets that have the same fitting overloads have one judgment
 module _ (set other : Overload → Type 0) (xs : List Ty) (to : (p : Overload) → T (fits (p .params) xs) → set p → other p) (back : (p : Overload) → T (fits (p .params) xs) → other p → set p) where
@@ -85,8 +90,9 @@ module _ (set other : Overload → Type 0) (xs : List Ty) (to : (p : Overload) �
   unfolding Resolved
   same-resolved (gives t) q = (q .0, same-preferred set other xs to back (q .0) (q .1), q .2)
   same-resolved noneFits q = λ p m h. q p (back p h m) h
-  same-resolved nonePreferred q =
-      ((q .0 .0, to (q .0 .0) (q .0 .2) (q .0 .1), q .0 .2), λ o p. q .1 o (same-preferred other set xs back to o p))
+
+  pub same-settled : Settled set xs → Settled other xs
+  same-settled s = λ p m h. let q = s p (back p h m) h in (q .0, same-preferred set other xs to back (q .0) (q .1))
 
 -- ONE PARAMETER
 

@@ -14,7 +14,7 @@ use Rattle.overload.specs.Marks.{sifted}
 use Rattle.overload.specs.Overload.Judged.{gives}
 use Rattle.overload.specs.Rows.{Row, noRow, formAt, componentAt, wrapped, overSecond, atSizes, overSet, ofFamilies, overloadsOf, rowAt, rows}
 use Rattle.overload.proofs.Families.{every, every-at}
-use Rattle.overload.proofs.Judge.{judge-resolved}
+use Rattle.overload.proofs.Judge.{judge-gives}
 use Rattle.overload.proofs.Sieve.{of-sifted}
 
 -- a result type is no array without count, which stands for types of another shape
@@ -59,6 +59,6 @@ pub gives-formed : (row : ℕ) (g : Overload → Bool) (ts : List Ty) (R : Ty) �
 unfolding resultTest
 gives-formed row g ts R e =
     let os = sifted g (overloadsOf (rowAt row)) in
-    let q = resolved-result os ts R (subst (Resolved (listed os) ts) e (judge-resolved os ts)) in
+    let q = resolved-result os ts R (judge-gives os ts R e) in
     let t = result-at (overloadsOf (rowAt row)) (all-results row) (q .0) (of-sifted g (overloadsOf (rowAt row)) (q .0) (q .1) .0) in
     (ap formed (q .2) ∙ T-true (formed (q .0 .result)) (both-left _ _ t), subst (λ (r : Ty). T (not (isRuntime r))) (sym (q .2)) (both-right (formed (q .0 .result)) _ t))

@@ -1,29 +1,30 @@
--- DEMAND 3 for every ruling: its judgment is the one that its overloads have, a fitting overload is preferred to every other that fits, and what it gives is a type that
+-- DEMAND 3 for every ruling: its judgment is the one that its overloads have, since wherever one fits one is preferred (`OnePreferred.antt`), and what it gives is a type that
 -- there is. A row by the laws of rows, every other by those of described overloads. Assumes nothing.
 use Prim.Native.Nat.{ℕ, zero, suc, _<_}
 use mathlib.Core.Path.{_≡_, refl, sym, _∙_, ap, subst}
-use mathlib.Core.Bool.{Bool, true, false, _&&_, not, cond}
+use mathlib.Core.Bool.{Bool, true, false, _&&_, cond}
 use mathlib.Core.List.{List, [], _∷_, map}
 use lib.ListN.{length, getD}
 use native.Mathlib.Omega.{arith}
-use mathlib.Core.Logic.{_≢_, ⊎-elim}
-use lib.Dec.{T, T-not, eqb, leb, eqb→eq}
+use mathlib.Core.Logic.{_≢_}
+use lib.Dec.{T, eqb, leb, eqb→eq}
 use borrow.Author.Tests.{eqb-false, le-leb, leb-true, lt-ltb}
-use Rattle.conv.specs.Types.{Ty, formed, isValue, abstractTy, workgroup, storage, handle, readWrite}
+use Rattle.conv.specs.Types.{Ty, formed, workgroup, storage, handle, readWrite}
 use Rattle.conv.specs.Types.Ty.{scalar, vec, mat, array, runtime, atomic, ptr, ref, frexp, modf, exchange}
 use Rattle.conv.specs.Rank.{both, converts}
 use Rattle.conv.proofs.Finite.{both-right, below}
-use Rattle.overload.specs.Overload.{Overload, or, fits, Judged, Resolved}
-use Rattle.overload.specs.Marks.{anyAbstract, remains, remaining}
-use Rattle.overload.specs.Overload.Judged.{gives, noneFits, nonePreferred}
-use Rattle.overload.specs.Rows.{Row, rows, noRow, rowAt, overloadsOf, ofRow, addressOf, indirectionOf, atomicOf, uniformLoadOf, toRuntime, arrayLengthOf, Ruling, overloadsBy, judgeRow, judgeAddress, judgeIndirection, judgeLoad, judgeLength, alone, judgeBy, Known}
+use Rattle.overload.specs.Overload.{Overload, fits, Judged, Resolved}
+use Rattle.overload.specs.Marks.{remains, remaining}
+use Rattle.overload.specs.Overload.Judged.{gives, noneFits}
+use Rattle.overload.specs.Rows.{Row, rows, noRow, rowAt, overloadsOf, addressOf, indirectionOf, atomicOf, uniformLoadOf, toRuntime, arrayLengthOf, Ruling, overloadsBy, judgeRow, judgeAddress, judgeIndirection, judgeLoad, judgeLength, alone, judgeBy, Known}
 use Rattle.overload.specs.Rows.Ruling.{byRow, address, indirection, onAtomic, comparing, uniformLoad, arrayLength}
-use Rattle.overload.proofs.Preference.{or-cases, same-resolved}
-use Rattle.overload.proofs.Marks.{sifted-resolved, left-never, concrete-remains}
+use Rattle.overload.proofs.Marks.{sifted-resolved}
 use Rattle.overload.proofs.Operands.{allFormed, and-left, and-right}
-use Rattle.overload.proofs.Results.{T-true, gives-formed}
-use Rattle.overload.proofs.Described.{judge-address, judge-indirection, address-never, indirection-never}
-use Rattle.overload.proofs.Memory.{integer-small, exchange-formed, judge-atomic, atomic-never, atomic-formed, atomic-concrete, judge-load, load-never, load-formed, load-concrete, judge-length, length-never, length-formed, length-concrete}
+use Rattle.overload.proofs.Results.{gives-formed}
+use Rattle.overload.proofs.Described.{judge-address, judge-indirection}
+use Rattle.overload.proofs.Memory.{integer-small, exchange-formed, judge-atomic, atomic-formed, judge-load, load-formed, judge-length, length-formed}
+use Rattle.overload.proofs.Staying.{rest, ref-parts, ptr-parts, to-left, address-stays, indirection-stays, atomic-stays, load-stays, length-stays}
+use Rattle.overload.proofs.OnePreferred.{one-is-preferred}
 
 clash : {R : Ty} → noneFits ≡ gives R → ⊥
 clash e = let z : _≡_ {A = ℕ} 0 1 = cc in omega arith
@@ -79,33 +80,18 @@ swap : (a b rest : Bool) → (a && rest) ≡ true → b ≡ true → (b && rest)
 swap a true rest h e = and-right a rest h
 swap a false rest h e = absurd (subst T (sym e) tt)
 
-regroup : (a b c d f : Bool) → (a && b && c && d && f) ≡ (a && (b && c && d && f))
-regroup true b c d f = refl
-regroup false b c d f = refl
-
 module _ (space access : ℕ) (t : Ty) where
-  rest : Bool
-  rest = leb access readWrite && isValue t && not (abstractTy t) && formed t
-
-  ref-parts : formed (ref space access t) ≡ (leb space handle && rest)
-  unfolding formed rest
-  ref-parts = regroup (leb space handle) (leb access readWrite) (isValue t) (not (abstractTy t)) (formed t)
-
-  ptr-parts : formed (ptr space access t) ≡ (leb space storage && rest)
-  unfolding formed rest
-  ptr-parts = regroup (leb space storage) (leb access readWrite) (isValue t) (not (abstractTy t)) (formed t)
-
   pub pointer-formed : formed (ref space access t) ≡ true → space ≢ handle → formed (ptr space access t) ≡ true
   pointer-formed f h =
-      let g = sym ref-parts ∙ f in
-      let u = leb-true space handle (and-left (leb space handle) rest g) in
-      ptr-parts ∙ swap (leb space handle) (leb space storage) rest g (le-leb space storage (omega arith))
+      let g = sym (ref-parts space access t) ∙ f in
+      let u = leb-true space handle (and-left (leb space handle) (rest space access t) g) in
+      ptr-parts space access t ∙ swap (leb space handle) (leb space storage) (rest space access t) g (le-leb space storage (omega arith))
 
   pub reference-formed : formed (ptr space access t) ≡ true → formed (ref space access t) ≡ true
   reference-formed f =
-      let g = sym ptr-parts ∙ f in
-      let u = leb-true space storage (and-left (leb space storage) rest g) in
-      ref-parts ∙ swap (leb space storage) (leb space handle) rest g (le-leb space handle (omega arith))
+      let g = sym (ptr-parts space access t) ∙ f in
+      let u = leb-true space storage (and-left (leb space storage) (rest space access t) g) in
+      ref-parts space access t ∙ swap (leb space storage) (leb space handle) (rest space access t) g (le-leb space handle (omega arith))
 
 lent-formed : (space access : ℕ) (t : Ty) → formed (ref space access t) ≡ true → (b : Bool) → eqb space handle ≡ b
     → (R : Ty) → cond b noneFits (gives (ptr space access t)) ≡ gives R → formed R ≡ true
@@ -145,53 +131,6 @@ pub row-formed : (r : Row) → Known (byRow r) → (ts : List Ty) (ms : List Boo
 unfolding judgeBy Known
 row-formed r k ts ms R e = gives-formed (r .number) (remains ms) ts R (ap (λ (x : Row). judgeRow x ts ms) k ∙ e) .0
 
--- NO OVERLOAD OF A DESCRIBED RULE IS EVER DROPPED: a reference and a pointer are to types that are not abstract, and the component of an atomic is i32 or u32
-
-deep : (a b c d : Bool) → (a && b && c && d) ≡ true → c ≡ true
-deep a b c d h = and-right (a && b) c (and-left (a && b && c) d h)
-
-clear : (b : Bool) → not b ≡ true → T b → ⊥
-clear b e h = T-not b (subst T (sym e) tt) h
-
-lent-concrete : (space access : ℕ) (t : Ty) → T (formed (ref space access t)) → T (anyAbstract (ref space access t ∷ [])) → ⊥
-unfolding anyAbstract abstractTy or rest
-lent-concrete space access t f h =
-    let g = and-right (leb space handle) (rest space access t) (sym (ref-parts space access t) ∙ T-true (formed (ref space access t)) f) in
-    clear (abstractTy t) (deep (leb access readWrite) (isValue t) (not (abstractTy t)) (formed t) g) (⊎-elim (λ a. a) (λ a. absurd a) (or-cases (abstractTy t) false h))
-
-pointed-concrete : (space access : ℕ) (t : Ty) → T (formed (ptr space access t)) → T (anyAbstract (ptr space access t ∷ [])) → ⊥
-unfolding anyAbstract abstractTy or rest
-pointed-concrete space access t f h =
-    let g = and-right (leb space storage) (rest space access t) (sym (ptr-parts space access t) ∙ T-true (formed (ptr space access t)) f) in
-    clear (abstractTy t) (deep (leb access readWrite) (isValue t) (not (abstractTy t)) (formed t) g) (⊎-elim (λ a. a) (λ a. absurd a) (or-cases (abstractTy t) false h))
-
-module _ (ms : List Bool) where
-  abbrev Stays : (Overload → Type 0) → Type 0
-  Stays set = (o : Overload) → set o → T (remains ms o)
-
-  address-stays : Stays addressOf
-  address-stays o m = concrete-remains o ms (λ h. lent-concrete (m .0) (m .1) (m .2) (m .4) (subst (λ (p : Overload). T (anyAbstract (p .params))) (m .5) h))
-
-  indirection-stays : Stays indirectionOf
-  indirection-stays o m = concrete-remains o ms (λ h. pointed-concrete (m .0) (m .1) (m .2) (m .3) (subst (λ (p : Overload). T (anyAbstract (p .params))) (m .4) h))
-
-  atomic-stays : (k : ℕ) (out : ℕ → Ty) → Stays (atomicOf k out)
-  atomic-stays k out o m = concrete-remains o ms (atomic-concrete k out o m)
-
-  load-stays : Stays uniformLoadOf
-  load-stays o m = concrete-remains o ms (load-concrete o m)
-
-  length-stays : Stays arrayLengthOf
-  length-stays o m = concrete-remains o ms (length-concrete o m)
-
-  -- so a set of which nothing is dropped has the judgments that it had
-  module _ (set : Overload → Type 0) (stays : Stays set) (ts : List Ty) (j : Judged) where
-    to-left : Resolved set ts j → Resolved (remaining ms set) ts j
-    to-left q = same-resolved set (remaining ms set) ts (λ p f m. (m, stays p m)) (λ p f m. m .0) j q
-
-    of-left : Resolved (remaining ms set) ts j → Resolved set ts j
-    of-left q = same-resolved (remaining ms set) set ts (λ p f m. m .0) (λ p f m. (m, stays p m)) j q
-
 scalar-formed : (s : ℕ) → formed (atomic s) ≡ true → formed (scalar s) ≡ true
 unfolding formed
 scalar-formed s h = lt-ltb s 7 (integer-small s h)
@@ -200,26 +139,15 @@ scalar-formed s h = lt-ltb s 7 (integer-small s h)
 
 module _ (ts : List Ty) (f : allFormed ts ≡ true) (ms : List Bool) where
   -- the judgment is the one that the overloads have which remain
-  pub ruling-resolved : (r : Ruling) → Resolved (remaining ms (overloadsBy r)) ts (judgeBy r ts ms)
+  pub ruling-resolved : (r : Ruling) → Known r → Resolved (remaining ms (overloadsBy r)) ts (judgeBy r ts ms)
   unfolding overloadsBy judgeBy
-  ruling-resolved (byRow r) = sifted-resolved (remains ms) (overloadsOf r) ts
-  ruling-resolved address = to-left ms addressOf (address-stays ms) ts _ (alone-resolved addressOf address-one judgeAddress judge-address ts f)
-  ruling-resolved indirection = to-left ms indirectionOf (indirection-stays ms) ts _ (alone-resolved indirectionOf indirection-one judgeIndirection judge-indirection ts f)
-  ruling-resolved (onAtomic j) = to-left ms (atomicOf j scalar) (atomic-stays ms j scalar) ts _ (judge-atomic j scalar ts f)
-  ruling-resolved comparing = to-left ms (atomicOf 2 exchange) (atomic-stays ms 2 exchange) ts _ (judge-atomic 2 exchange ts f)
-  ruling-resolved uniformLoad = to-left ms uniformLoadOf (load-stays ms) ts _ (alone-resolved uniformLoadOf load-one judgeLoad judge-load ts f)
-  ruling-resolved arrayLength = to-left ms arrayLengthOf (length-stays ms) ts _ (alone-resolved arrayLengthOf length-one judgeLength judge-length ts f)
-
-  -- where an overload fits that remains one is preferred to every other that does: REFUSAL 13 IS NEVER GIVEN
-  pub ruling-never : (r : Ruling) → Known r → Resolved (remaining ms (overloadsBy r)) ts nonePreferred → ⊥
-  unfolding overloadsBy Known
-  ruling-never (byRow r) k q = left-never (r .number) ms ts (subst (λ (x : Row). Resolved (remaining ms (ofRow x)) ts nonePreferred) (sym k) q)
-  ruling-never address k q = address-never ts (of-left ms addressOf (address-stays ms) ts nonePreferred q)
-  ruling-never indirection k q = indirection-never ts (of-left ms indirectionOf (indirection-stays ms) ts nonePreferred q)
-  ruling-never (onAtomic j) k q = atomic-never j scalar ts (of-left ms (atomicOf j scalar) (atomic-stays ms j scalar) ts nonePreferred q)
-  ruling-never comparing k q = atomic-never 2 exchange ts (of-left ms (atomicOf 2 exchange) (atomic-stays ms 2 exchange) ts nonePreferred q)
-  ruling-never uniformLoad k q = load-never ts (of-left ms uniformLoadOf (load-stays ms) ts nonePreferred q)
-  ruling-never arrayLength k q = length-never ts (of-left ms arrayLengthOf (length-stays ms) ts nonePreferred q)
+  ruling-resolved (byRow r) k = sifted-resolved (remains ms) (overloadsOf r) ts (one-is-preferred (byRow r) k ms ts)
+  ruling-resolved address k = to-left ms addressOf (address-stays ms) ts _ (alone-resolved addressOf address-one judgeAddress judge-address ts f)
+  ruling-resolved indirection k = to-left ms indirectionOf (indirection-stays ms) ts _ (alone-resolved indirectionOf indirection-one judgeIndirection judge-indirection ts f)
+  ruling-resolved (onAtomic j) k = to-left ms (atomicOf j scalar) (atomic-stays ms j scalar) ts _ (judge-atomic j scalar ts f)
+  ruling-resolved comparing k = to-left ms (atomicOf 2 exchange) (atomic-stays ms 2 exchange) ts _ (judge-atomic 2 exchange ts f)
+  ruling-resolved uniformLoad k = to-left ms uniformLoadOf (load-stays ms) ts _ (alone-resolved uniformLoadOf load-one judgeLoad judge-load ts f)
+  ruling-resolved arrayLength k = to-left ms arrayLengthOf (length-stays ms) ts _ (alone-resolved arrayLengthOf length-one judgeLength judge-length ts f)
 
   -- what it gives is a type that there is
   pub ruling-formed : (r : Ruling) → Known r → (R : Ty) → judgeBy r ts ms ≡ gives R → formed R ≡ true

@@ -4,17 +4,18 @@ use Prim.Native.Nat.{ℕ}
 use mathlib.Core.Path.{_≡_, refl}
 use mathlib.Core.Bool.{Bool, true}
 use mathlib.Core.List.{List, [], _∷_, _++_, map}
+use lib.Dec.{T}
 use Rattle.conv.specs.Types.{Ty, abstractInt, abstractFloat, i32, f32, f16}
 use Rattle.conv.specs.Types.Ty.{scalar, vec}
 use Rattle.conv.specs.Rank.{made}
-use Rattle.overload.specs.Overload.{Overload, Resolved, judge}
-use Rattle.overload.specs.Overload.Judged.{nonePreferred}
+use Rattle.overload.specs.Overload.{Overload, fits, Preferred, Resolved, judge}
 use Rattle.overload.specs.Marks.{remaining, remainingIn}
 use Rattle.overload.specs.Rows as rows
 use Rattle.overload.specs.Rows.{scaling, overloadsOf, ofRow, rowAt, rows, overloadsBy, judgeBy, Known}
 use Rattle.overload.specs.Rows.Ruling.{byRow}
 use Rattle.overload.proofs.Operands.{allFormed}
-use Rattle.overload.proofs.Rulings.{ruling-resolved, ruling-never}
+use Rattle.overload.proofs.OnePreferred.{one-is-preferred}
+use Rattle.overload.proofs.Rulings.{ruling-resolved}
 
 -- T with its I, at the four widths
 abbrev pub choice : ℕ → ℕ → List Overload
@@ -33,8 +34,8 @@ scaling-known = refl
 module _ (ts : List Ty) (f : allFormed ts ≡ true) (ms : List Bool) where
   pub ldexp-resolved : Resolved (remaining ms (ofRow scaling)) ts (judge (remainingIn ms (overloadsOf scaling)) ts)
   unfolding overloadsBy judgeBy
-  ldexp-resolved = ruling-resolved ts f ms (byRow scaling)
+  ldexp-resolved = ruling-resolved ts f ms (byRow scaling) scaling-known
 
-  pub ldexp-never-13 : Resolved (remaining ms (ofRow scaling)) ts nonePreferred → ⊥
+  pub ldexp-preferred : (p : Overload) → remaining ms (ofRow scaling) p → T (fits (p .params) ts) → (o : Overload) × Preferred (remaining ms (ofRow scaling)) ts o
   unfolding overloadsBy
-  ldexp-never-13 = ruling-never ts f ms (byRow scaling) scaling-known
+  ldexp-preferred = one-is-preferred (byRow scaling) scaling-known ms ts

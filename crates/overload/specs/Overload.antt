@@ -47,18 +47,18 @@ pub record Preferred (set : Overload → Type 0) (xs : List Ty) (o : Overload) :
   pub over : (p : Overload) → set p → T (fits (p .params) xs)
       → (p ≡ o) ⊎ (T (noMore xs (o .params) (p .params)) × T (less xs (o .params) (p .params)))
 
--- how a call is judged: it gives a type; no overload fits (refusal 8); overloads fit and none is preferred (refusal 13)
+-- how a call is judged: it gives a type, or no overload fits (refusal 8)
 pub data Judged : Type 0 where
   gives : Ty → Judged
-  noneFits nonePreferred : Judged
+  noneFits : Judged
 
 -- DEMAND 3: the judgment of a set of overloads at operands
 unfoldable pub Resolved : (Overload → Type 0) → List Ty → Judged → Type 0
 Resolved set xs (gives t) = (o : Overload) × Preferred set xs o × (t ≡ o .result)
 Resolved set xs noneFits = (p : Overload) → set p → T (fits (p .params) xs) → ⊥
-Resolved set xs nonePreferred = ((p : Overload) × set p × T (fits (p .params) xs)) × ((o : Overload) → Preferred set xs o → ⊥)
 
--- THE JUDGMENT, as a function of a list of overloads and the operands: that of the preferred overload, by the same tests
+-- THE JUDGMENT, as a function of a list of overloads and the operands: that of the preferred overload, by the same tests; without one, that none fits. It is the one that
+-- `Resolved` describes wherever a fitting overload is preferred to every other, and of every row one is (`proofs/OnePreferred.antt`)
 
 -- one overload
 unfoldable pub sameTys : List Ty → List Ty → Bool
@@ -82,13 +82,9 @@ allYield xs o (p ∷ ps) = both (yields xs o p) (allYield xs o ps)
 unfoldable pub isPreferred : List Overload → List Ty → Overload → Bool
 isPreferred os xs o = both (fits (o .params) xs) (allYield xs o os)
 
-unfoldable pub anyFits : List Overload → List Ty → Bool
-anyFits [] xs = false
-anyFits (o ∷ os) xs = or (fits (o .params) xs) (anyFits os xs)
-
 unfoldable pub chosen : List Overload → List Ty → List Overload → Judged
-chosen os xs [] = nonePreferred
+chosen os xs [] = noneFits
 chosen os xs (o ∷ rest) = cond (isPreferred os xs o) (gives (o .result)) (chosen os xs rest)
 
 unfoldable pub judge : List Overload → List Ty → Judged
-judge os xs = cond (anyFits os xs) (chosen os xs os) noneFits
+judge os xs = chosen os xs os

@@ -62,11 +62,10 @@ pub enum Out {
     Modf(u8),
 }
 
-// How a call is judged: the preferred overload's result; no overload fits; overloads fit and none is preferred.
+// How a call is judged: the preferred overload's result, or no overload fits.
 pub enum Resolution {
     Gives(Out),
     NoneFits,
-    NonePreferred,
 }
 
 // What became of one family: the preferred overload's result, or none fits.

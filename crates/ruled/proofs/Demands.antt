@@ -1,32 +1,29 @@
 -- What every call that ends in a judgment keeps of demands 1, 2 and 3. Assumes nothing.
-use Prim.Native.Nat.{ℕ, _-_, _≤_}
+use Prim.Native.Nat.{ℕ, _-_}
 use mathlib.Core.Path.{_≡_, refl, sym, _∙_, ap, subst}
-use mathlib.Core.Logic.{_≢_}
-use mathlib.Core.Bool.{Bool, true, false, cond}
+use mathlib.Core.Bool.{Bool, true, false}
 use mathlib.Core.List.{List}
 use native.Mathlib.Omega.{arith}
 use lib.Dec.{T}
 use borrow.Author.Tests.{le-leb}
 use Rattle.conv.specs.Types.{Ty, formed}
 use Rattle.overload.specs.Overload.{Overload, fits, Preferred, Judged, Resolved}
-use Rattle.overload.specs.Overload.Judged.{gives, noneFits, nonePreferred}
+use Rattle.overload.specs.Overload.Judged.{gives, noneFits}
 use Rattle.overload.specs.Marks.{remaining, runningAbstract}
 use Rattle.overload.specs.Rows.{Ruling, overloadsBy, judgeBy, Known}
 use Rattle.overload.proofs.Operands.{allFormed}
 use Rattle.overload.proofs.Preference.{one-preferred}
-use Rattle.overload.proofs.Rulings.{ruling-resolved, ruling-never, ruling-formed}
-use Rattle.answer.specs.Answer.{accept, reasonNo}
+use Rattle.overload.proofs.Rulings.{ruling-resolved, ruling-formed}
+use Rattle.answer.specs.Answer.{accept}
 use Rattle.table.specs.Table.{Sound}
 use Rattle.table.specs.Denote.{typeAt}
 use Rattle.table.specs.Enter.{free}
 use Rattle.table.specs.Placing.{Outcome, turnedDown, placed, entering}
 use Rattle.answer.specs.declared.TypeNo.{TypeNo}
-use Rattle.answer.specs.declared.Reason.{Reason}
-use Rattle.answer.specs.declared.Reason.the-variants.{NoOverload, Reference, RunningAbstract}
-use Rattle.answer.specs.declared.Refusal.{Refusal}
-use Rattle.answer.specs.declared.Answer.the-variants.{Value, Refused}
+use Rattle.answer.specs.declared.Reason.the-variants.{NoOverload}
+use Rattle.answer.specs.declared.Answer.the-variants.{Value}
 use Rattle.table.specs.Kept.{Kept}
-use Rattle.table.proofs.Demand1.{entering-stands, entering-refused}
+use Rattle.table.proofs.Demand1.{entering-stands}
 use Rattle.table.proofs.Keeping.{kept-refused, kept-by, kept-entering}
 use Rattle.ruled.specs.Call.{judgedOutcome, silentOutcome, offends, ruledOutcome}
 use Rattle.ruled.specs.Demand3.{Accepts, Room, HasRoom, Demand3, SilentDemand3}
@@ -42,7 +39,6 @@ module _ (w : List ℕ) (n : ℕ) (s : Sound w n) where
   unfolding judgedOutcome
   kept-judged place (gives R) f = kept-entering w n s place R (f R refl)
   kept-judged place noneFits f = kept-refused w n _ place
-  kept-judged place nonePreferred f = kept-refused w n _ place
 
   pub kept-ruled : (place : ℕ) (r : Ruling) (ts : List Ty) (ms : List Bool) → ((R : Ty) → judgeBy r ts ms ≡ gives R → formed R ≡ true) → Kept w n (ruledOutcome place w n r ts ms)
   unfolding ruledOutcome
@@ -54,20 +50,18 @@ unfold-gives : (set : Overload → Type 0) (ts : List Ty) (R : Ty) → Resolved 
 unfolding Resolved
 unfold-gives set ts R q = q
 
--- a judgment of any set of overloads, of which it is known that some overload is preferred where one fits
+-- a judgment of any set of overloads
 
-module _ (set : Overload → Type 0) (ts : List Ty) (never : Resolved set ts nonePreferred → ⊥) where
+module _ (set : Overload → Type 0) (ts : List Ty) where
   fitting-gives : (j : Judged) → Resolved set ts j → (p : Overload) → set p → T (fits (p .params) ts) → (R : Ty) × (j ≡ gives R)
   unfolding Resolved
   fitting-gives (gives R) q p k h = (R, refl)
   fitting-gives noneFits q p k h = absurd (q p k h)
-  fitting-gives nonePreferred q p k h = absurd (never q)
 
   nothing-gives : (j : Judged) → Resolved set ts j → ((p : Overload) → set p → T (fits (p .params) ts) → ⊥) → j ≡ noneFits
   unfolding Resolved
   nothing-gives (gives R) q h = absurd (h (q .0) (q .1 .among) (q .1 .fitting))
   nothing-gives noneFits q h = refl
-  nothing-gives nonePreferred q h = absurd (never q)
 
 -- DEMANDS 2 AND 3 for a judged call: the type that is answered is the one that the judgment gives; and what the judgment gives is answered where there is room
 
@@ -78,7 +72,6 @@ module _ (place : ℕ) (w : List ℕ) (n : ℕ) (s : Sound w n) where
   judged-type (gives R) f t m e =
       (R, refl, entering-stands place w n s R (f R refl) t m (entering place w n R .words) (λ i. record { answer = e i; words = entering place w n R .words }) .stands)
   judged-type noneFits f t m e = impossible (cc)
-  judged-type nonePreferred f t m e = impossible (cc)
 
   room-answers : (R : Ty) → Room w n R → entering place w n R .answer ≡ accept (placed w n R .number) (placed w n R .used)
   unfolding entering
@@ -93,14 +86,14 @@ module _ (place : ℕ) (w : List ℕ) (n : ℕ) (s : Sound w n) where
   judged-none = refl
 
   -- an overload fits, and there is room for the result: accepted; none fits: refused with 8
-  module _ (set : Overload → Type 0) (ts : List Ty) (never : Resolved set ts nonePreferred → ⊥) (j : Judged) (resolved : Resolved set ts j) where
+  module _ (set : Overload → Type 0) (ts : List Ty) (j : Judged) (resolved : Resolved set ts j) where
     judged-fits : (p : Overload) → set p → T (fits (p .params) ts) → ((R : Ty) → j ≡ gives R → Room w n R) → Accepts (judgedOutcome place w n j)
     judged-fits p k h room =
-        let g = fitting-gives set ts never j resolved p k h in
+        let g = fitting-gives set ts j resolved p k h in
         (record { 0 = placed w n (g .0) .number }, placed w n (g .0) .used, ap (λ (o : Outcome). o .answer) (ap (judgedOutcome place w n) (g .1) ∙ judged-gives (g .0)) ∙ room-answers (g .0) (room (g .0) (g .1)))
 
     pub judged-nothing : ((p : Overload) → set p → T (fits (p .params) ts) → ⊥) → judgedOutcome place w n j ≡ turnedDown NoOverload place w n
-    judged-nothing h = ap (judgedOutcome place w n) (nothing-gives set ts never j resolved h) ∙ judged-none
+    judged-nothing h = ap (judgedOutcome place w n) (nothing-gives set ts j resolved h) ∙ judged-none
 
     -- DEMAND 3, where what the judgment gives is a type that there is
     module _ (formed-gives : (R : Ty) → j ≡ gives R → formed R ≡ true) where
@@ -124,7 +117,7 @@ module _ (place : ℕ) (w : List ℕ) (n : ℕ) (s : Sound w n) where
           }
 
   -- DEMAND 3 OF A CALL WITHOUT VALUE: accepted exactly when an overload fits, and nothing is entered
-  module _ (set : Overload → Type 0) (ts : List Ty) (never : Resolved set ts nonePreferred → ⊥) where
+  module _ (set : Overload → Type 0) (ts : List Ty) where
     pub silent-demand-3 : (j : Judged) → Resolved set ts j → SilentDemand3 set ts (silentOutcome place w n j)
     unfolding Resolved silentOutcome
     silent-demand-3 (gives R) q =
@@ -136,7 +129,6 @@ module _ (place : ℕ) (w : List ℕ) (n : ℕ) (s : Sound w n) where
         }
     silent-demand-3 noneFits q =
         record { accepted = λ p k h. absurd (q p k h); fitting = λ a. let e = a .1 in impossible (cc); result = λ t m e. impossible (cc); alone = one-preferred set ts }
-    silent-demand-3 nonePreferred q = absurd (never q)
 
   -- A RULED CALL on operands that are types, none of them offered where it may not be, and none both running and abstract: over the overloads that remain by the marks
 
@@ -147,44 +139,8 @@ module _ (place : ℕ) (w : List ℕ) (n : ℕ) (s : Sound w n) where
     pub ruled-demand-3 : HasRoom (remaining ms (overloadsBy r)) w n ts → Demand3 (remaining ms (overloadsBy r)) ts (ruledOutcome place w n r ts ms)
     ruled-demand-3 room =
         subst (Demand3 (remaining ms (overloadsBy r)) ts) ruled-is
-        (demand-3 (remaining ms (overloadsBy r)) ts (ruling-never ts f ms r known) (judgeBy r ts ms) (ruling-resolved ts f ms r) (ruling-formed ts f ms r known) room)
+        (demand-3 (remaining ms (overloadsBy r)) ts (judgeBy r ts ms) (ruling-resolved ts f ms r known) (ruling-formed ts f ms r known) room)
 
     -- no overload that remains fits: refused with 8
     pub ruled-none : ((p : Overload) → remaining ms (overloadsBy r) p → T (fits (p .params) ts) → ⊥) → ruledOutcome place w n r ts ms ≡ turnedDown NoOverload place w n
-    ruled-none h = sym ruled-is ∙ judged-nothing (remaining ms (overloadsBy r)) ts (ruling-never ts f ms r known) (judgeBy r ts ms) (ruling-resolved ts f ms r) h
-
--- REFUSAL 13 IS NEVER GIVEN, by what a call that is judged can end in
-
-abbrev pub Never13 : Outcome → Type 0
-Never13 o = (r : Refusal) → o .answer ≡ Refused r → reasonNo (r .reason) ≢ 13
-
-module _ (w : List ℕ) (n : ℕ) where
-  pub never-refused : (reason : Reason) (place : ℕ) → reasonNo reason ≢ 13 → Never13 (turnedDown reason place w n)
-  never-refused reason place h r e q =
-      let a : record { reason = reason; place = record { 0 = place }; used = n } ≡ r = cc in
-      h (ap (λ (x : Refusal). reasonNo (x .reason)) a ∙ q)
-
-  pub never-by : (b : Bool) (x y : Outcome) → (b ≡ true → Never13 x) → (b ≡ false → Never13 y) → Never13 (cond b x y)
-  never-by true x y f g = f refl
-  never-by false x y f g = g refl
-
-  module _ (s : Sound w n) where
-    never-entering : (place : ℕ) (R : Ty) → formed R ≡ true → Never13 (entering place w n R)
-    never-entering place R f r e q =
-        let y = entering-refused place w n s R f r (entering place w n R .words) (λ i. record { answer = e i; words = entering place w n R .words }) .1 in
-        let a : reasonNo (r .reason) ≡ 9 = ap (λ (z : Refusal). reasonNo (z .reason)) y in omega arith
-
-    pub never-judged : (place : ℕ) (set : Overload → Type 0) (ts : List Ty) → (Resolved set ts nonePreferred → ⊥) → (j : Judged) → Resolved set ts j
-        → ((R : Ty) → j ≡ gives R → formed R ≡ true) → Never13 (judgedOutcome place w n j)
-    unfolding judgedOutcome
-    never-judged place set ts never (gives R) q f = never-entering place R (f R refl)
-    never-judged place set ts never noneFits q f = never-refused NoOverload place (λ e. omega arith)
-    never-judged place set ts never nonePreferred q f = absurd (never q)
-
-    pub never-ruled : (place : ℕ) (r : Ruling) → Known r → (ts : List Ty) → allFormed ts ≡ true → (ms : List Bool) → Never13 (ruledOutcome place w n r ts ms)
-    unfolding ruledOutcome
-    never-ruled place r k ts f ms =
-        never-by (offends r ts) _ _ (λ e. never-refused Reference place (λ e. omega arith))
-        (λ e.
-        never-by (runningAbstract ts ms) _ _ (λ d. never-refused RunningAbstract place (λ e. omega arith))
-        (λ d. never-judged place (remaining ms (overloadsBy r)) ts (ruling-never ts f ms r k) (judgeBy r ts ms) (ruling-resolved ts f ms r) (ruling-formed ts f ms r k)))
+    ruled-none h = sym ruled-is ∙ judged-nothing (remaining ms (overloadsBy r)) ts (judgeBy r ts ms) (ruling-resolved ts f ms r known) h

@@ -20,7 +20,7 @@ use Rattle.table.specs.Placing.{Outcome, turnedDown}
 use Rattle.answer.specs.declared.Reason.the-variants.{Reference}
 use Rattle.ruled.specs.Call.{judgedOutcome, offends, ruledOutcome}
 
--- THE BASE: a row is judged by all of its overloads; 3, then 8, 13, 9. What came later has no overload that marks drop
+-- THE BASE: a row is judged by all of its overloads; 3, then 8, 9. What came later has no overload that marks drop
 
 unfoldable pub baseJudge : Ruling → List Ty → Judged
 baseJudge (byRow r) ts = judge (overloadsOf r) ts

@@ -5,13 +5,13 @@ use mathlib.Core.Bool.{Bool}
 use mathlib.Core.List.{List}
 use Rattle.conv.specs.Types.{Ty}
 use Rattle.overload.specs.Overload.{Judged}
-use Rattle.overload.specs.Overload.Judged.{gives, noneFits, nonePreferred}
+use Rattle.overload.specs.Overload.Judged.{gives, noneFits}
 use Rattle.overload.specs.Marks.{runningAbstract}
 use Rattle.overload.specs.Rows.{Ruling, judgeBy}
 use Rattle.table.specs.Table.{Sound}
 use Rattle.table.specs.Placing.{turnedDown}
 use Rattle.table.specs.Lacking.{Longer, Grown}
-use Rattle.answer.specs.declared.Reason.the-variants.{NoOverload, NonePreferred, Reference, RunningAbstract}
+use Rattle.answer.specs.declared.Reason.the-variants.{NoOverload, Reference, RunningAbstract}
 use Rattle.table.proofs.Growing.{grown-refused, grown-silent, grown-test, grown-entering}
 use Rattle.ruled.specs.Call.{judgedOutcome, silentOutcome, offends, ruledOutcome}
 
@@ -20,14 +20,12 @@ module _ (w v : List ℕ) (n k : ℕ) (l : Longer w v n k) (s : Sound w n) (plac
   unfolding judgedOutcome
   grown-judged (gives R) = grown-entering w v n k l s place R
   grown-judged noneFits = grown-refused w n k NoOverload refl place _
-  grown-judged nonePreferred = grown-refused w n k NonePreferred refl place _
 
   -- and nothing lacks where there is no value
   pub grown-silently : (j : Judged) → Grown w n k (silentOutcome place w n j) (silentOutcome place v n j)
   unfolding silentOutcome
   grown-silently (gives R) = grown-silent w n k n w _
   grown-silently noneFits = grown-refused w n k NoOverload refl place _
-  grown-silently nonePreferred = grown-refused w n k NonePreferred refl place _
 
   pub grown-ruled : (r : Ruling) (ts : List Ty) (ms : List Bool) → Grown w n k (ruledOutcome place w n r ts ms) (ruledOutcome place v n r ts ms)
   unfolding ruledOutcome

@@ -110,4 +110,4 @@ pub row-judged : (place : ℕ) (w : List ℕ) (n k : ℕ) (r : Row) (ts : List T
     → judgedOutcome place w n (judgeKept running (rowAt k) (map operand (codesOf ts))) ≡ ruledOutcome place w n (byRow r) ts ms
 unfolding judgeBy
 row-judged place w n k r ts ms running e f h u q =
-    ap (judgedOutcome place w n) (judge-types ts f k running ∙ (λ i. judgeKept (q i) (e i) ts) ∙ judge-kept r ts ms u) ∙ ruled-judged place w n (byRow r) ts ms h u
+    ap (judgedOutcome place w n) (judge-types ts f k running ∙ (λ i. judgeKept (q i) (rowAt k) ts) ∙ judge-kept k ts ms u ∙ ap (λ (x : Row). judgeRow x ts ms) e) ∙ ruled-judged place w n (byRow r) ts ms h u

@@ -6,13 +6,13 @@ use Rattle.held.specs.Held.{numberOf}
 use Rattle.conv.specs.Types.{Ty}
 use Rattle.conv.specs.Rank.{isReference}
 use Rattle.overload.specs.Overload.{Judged}
-use Rattle.overload.specs.Overload.Judged.{gives, noneFits, nonePreferred}
+use Rattle.overload.specs.Overload.Judged.{gives, noneFits}
 use Rattle.overload.specs.Marks.{runningAbstract}
 use Rattle.overload.specs.Rows.{Ruling, judgeBy}
 use Rattle.overload.specs.Rows.Ruling.{byRow, address, indirection, onAtomic, comparing, uniformLoad, arrayLength}
 use Rattle.table.specs.Denote.{typeAt}
 use Rattle.table.specs.Placing.{Outcome, turnedDown, entering}
-use Rattle.answer.specs.declared.Reason.the-variants.{Reference, NoOverload, NonePreferred, RunningAbstract}
+use Rattle.answer.specs.declared.Reason.the-variants.{Reference, NoOverload, RunningAbstract}
 use Rattle.answer.specs.declared.Answer.the-variants.{NoValue}
 
 -- the type of an operand, which is a type's number with a mark
@@ -26,11 +26,10 @@ unfoldable pub anyReference : List Ty → Bool
 anyReference [] = false
 anyReference (t ∷ ts) = isReference t || anyReference ts
 
--- 8 no overload fits; 13 none is preferred; else the result is entered where it is absent, and 9 where room lacks
+-- 8 no overload fits; else the result is entered where it is absent, and 9 where room lacks
 unfoldable pub judgedOutcome : ℕ → List ℕ → ℕ → Judged → Outcome
 judgedOutcome place w n (gives R) = entering place w n R
 judgedOutcome place w n noneFits = turnedDown NoOverload place w n
-judgedOutcome place w n nonePreferred = turnedDown NonePreferred place w n
 
 -- the same of a call without value, which leaves the table as it is
 abbrev pub withoutValue : List ℕ → ℕ → Outcome
@@ -39,7 +38,6 @@ withoutValue w n = record { answer = NoValue n; words = w }
 unfoldable pub silentOutcome : ℕ → List ℕ → ℕ → Judged → Outcome
 silentOutcome place w n (gives R) = withoutValue w n
 silentOutcome place w n noneFits = turnedDown NoOverload place w n
-silentOutcome place w n nonePreferred = turnedDown NonePreferred place w n
 
 -- 3 "a reference offered, but to unary `&`", before all of these
 unfoldable pub takesReference : Ruling → Bool

@@ -150,7 +150,7 @@ fn enter_out(words: &mut [u32], n: usize, place: Place, out: Out) -> Answer
     }
 }
 
-// The answer of a row at operands by their numbers, of which one is running or none: refusal 8, 13 or 9, or the result's number.
+// The answer of a row at operands by their numbers, of which one is running or none: refusal 8 or 9, or the result's number.
 pub fn judge_codes(
     words: &mut [u32],
     n: usize,
@@ -166,6 +166,5 @@ pub fn judge_codes(
     match j {
         Resolution::Gives(out) => enter_out(words, n, place, out),
         Resolution::NoneFits => table::refused(Reason::NoOverload, place, n),
-        Resolution::NonePreferred => table::refused(Reason::NonePreferred, place, n),
     }
 }

@@ -12,7 +12,7 @@ use Rattle.conv.specs.Rank.{pick, both, none, rankOf, Shape, formOf, columnsOf,
 use Rattle.conv.specs.Rank.Shape.{one, vector, matrix, other}
 use Rattle.overload.specs.Overload.{Overload, or, fits, Judged, judge}
 use Rattle.overload.specs.Marks.{anyAbstract, sifted}
-use Rattle.overload.specs.Overload.Judged.{gives, noneFits, nonePreferred}
+use Rattle.overload.specs.Overload.Judged.{gives, noneFits}
 use Rattle.overload.specs.Rows.{Size, size, scalars, width, vectors, wides, matrices, matricesByRows, squares, products, Form, Component, Pattern, Wrap, Family, formAt, componentAt, patternTy, float, integer, numeric, signed, bits, concrete, only, N, Row, rows, rowAt, overloadsOf, operandCount}
 use Rattle.overload.specs.Rows.Form.{sized, single, vecC, vecR, left, right, turned}
 use Rattle.overload.specs.Rows.Component.{ofT, ofI, expT, just}
@@ -22,7 +22,7 @@ use Rattle.overload.specs.declared.Out.the-variants.{Plain, Frexp, Modf}
 use Rattle.overload.specs.declared.Tried.{Tried}
 use Rattle.overload.specs.declared.Tried.the-variants.{Fits, Not}
 use Rattle.overload.specs.declared.Resolution.{Resolution}
-use Rattle.overload.specs.declared.Resolution.the-variants.{Gives, NoneFits, NonePreferred}
+use Rattle.overload.specs.declared.Resolution.the-variants.{Gives, NoneFits}
 
 -- SHAPES: scalar 0, vec2 to vec4 1 to 3, mat2x2 to mat4x4 4 to 12, any other type from 13 on
 
@@ -319,11 +319,10 @@ outOf (Plain x) = operand x
 outOf (Frexp x) = frexp (operand x)
 outOf (Modf x) = modf (operand x)
 
--- document 01's refusals: 8 no overload fits, 13 overloads fit and none is preferred
+-- document 01's refusal 8: no overload fits
 unfoldable pub judgedOf : Resolution → Judged
 judgedOf (Gives o) = gives (outOf o)
 judgedOf NoneFits = noneFits
-judgedOf NonePreferred = nonePreferred
 
 -- what became of one family
 unfoldable pub triedOf : Tried → Judged
