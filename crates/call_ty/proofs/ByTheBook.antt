@@ -11,7 +11,7 @@ use Rattle.text.specs.Text.{ascii}
 use Rattle.held.specs.Held.{valueOf}
 use Rattle.conv.specs.Types.{abstractInt, abstractFloat, i32, u32, f32, f16, isValue, isRuntime, formed, abstractTy}
 use Rattle.conv.specs.Rank.{both, rankOf, shapeOf, componentOf, tagOf, firstOf, secondOf, elementOf, sameTy, conversionRank, made}
-use Rattle.overload.specs.Overload.{or, fits, noMore, less, sameTys, allYield, isPreferred, anyFits, chosen, judge}
+use Rattle.overload.specs.Overload.{or, fits, noMore, less, sameTys, allYield, isPreferred, chosen, judge}
 use Rattle.overload.specs.Marks.{anyRunning, anyAbstract, dropped, sifted, remaining, runningAbstract}
 use Rattle.overload.specs.Rows.{formAt, componentAt, wrapped, overSecond, atSizes, overSet, ofFamilies, headCount, scaling, ofRow, arrayLengthOf, judgeLength, alone, overloadsBy, judgeBy}
 use Rattle.overload.specs.Rows.Ruling.{byRow, arrayLength}
@@ -143,7 +143,7 @@ pub record ByTheBook : Type 0 where
   pub noPointer : call "arrayLength" (f32 ∷ []) ≡ none
 
 pub by-the-book : ByTheBook
-unfolding table ascii abstractTy anyRunning anyAbstract dropped sifted runningAbstract isValue isRuntime formed both rankOf shapeOf componentOf tagOf firstOf secondOf elementOf sameTy conversionRank made or fits noMore less sameTys allYield isPreferred anyFits chosen judge formAt componentAt wrapped overSecond atSizes overSet ofFamilies headCount judgeLength alone judgeBy names sameBytes within ruleIn allBelow rowOk chainBy chain baseOf madeOk entryOk findIn soundb madeEntry typeAt kindOf pOf qOf free standsIn placedOver placed entering anyReference judgedOutcome templateRight operandsBy operandsOf givenBy givenOutcome byRule allUnder typeBuiltinFn
+unfolding table ascii abstractTy anyRunning anyAbstract dropped sifted runningAbstract isValue isRuntime formed both rankOf shapeOf componentOf tagOf firstOf secondOf elementOf sameTy conversionRank made or fits noMore less sameTys allYield isPreferred chosen judge formAt componentAt wrapped overSecond atSizes overSet ofFamilies headCount judgeLength alone judgeBy names sameBytes within ruleIn allBelow rowOk chainBy chain baseOf madeOk entryOk findIn soundb madeEntry typeAt kindOf pOf qOf free standsIn placedOver placed entering anyReference judgedOutcome templateRight operandsBy operandsOf givenBy givenOutcome byRule allUnder typeBuiltinFn
 by-the-book =
     record {
       concreteFirst = refl;

@@ -17,7 +17,7 @@ use Rattle.call_ty.proofs.Ends.Ends.{refused, silent, valued}
 use Rattle.call_ty.proofs.Ends.Single.{early, late}
 
 ends-kept : (place : ℕ) (w : List ℕ) (n : ℕ) → Sound w n → (named : Named) (ts us : List Ty) (ms : List Bool) (o : Outcome) → Ends place w n named ts us ms o → Kept w n o
-ends-kept place w n s named ts us ms o (refused reason f e) = kept-as w n e (kept-refused w n reason place)
+ends-kept place w n s named ts us ms o (refused reason e) = kept-as w n e (kept-refused w n reason place)
 ends-kept place w n s named ts us ms o (silent e) = kept-as w n e (kept-none w n)
 ends-kept place w n s named ts us ms o (valued R r runs f q g e) = kept-as w n e (kept-entering w n s place R f)
 
@@ -33,5 +33,5 @@ pub call-kept : (profile : ℕ) (w : List ℕ) (n : ℕ) (name tplt args : List 
 call-kept profile w n name tplt args = go (single-ends profile w n name tplt args)
   where
     go : Single profile w n name tplt args (typeBuiltinFn profile w n name tplt args) → Kept w n (typeBuiltinFn profile w n name tplt args)
-    go (early reason f e) = kept-as w n e (kept-refused w n reason 0)
+    go (early reason e) = kept-as w n e (kept-refused w n reason 0)
     go (late s x) = ends-kept 0 w n s (ruleOf profile name) (types w tplt) (types w (numbers args)) (marksOf args) _ x

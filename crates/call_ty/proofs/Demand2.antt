@@ -34,7 +34,7 @@ pub record TypedBy (named : Named) (ts us : List Ty) (ms : List Bool) (t : TypeN
 
 module _ (place : ℕ) (w : List ℕ) (n : ℕ) (s : Sound w n) (named : Named) (ts us : List Ty) (ms : List Bool) (o : Outcome) where
   value-typed : Ends place w n named ts us ms o → (t : TypeNo) (m : ℕ) (v : List ℕ) → o ≡ record { answer = Value t m; words = v } → TypedBy named ts us ms t v
-  value-typed (refused reason f e) t m v h =
+  value-typed (refused reason e) t m v h =
       let a : Value t m ≡ refuse reason place n = ap (λ (x : Outcome). x .answer) (sym h ∙ e) in
       absurd (let z : _≡_ {A = ℕ} 0 1 = cc in omega arith)
   value-typed (silent e) t m v h =
@@ -54,7 +54,7 @@ pub single-typed : (profile : ℕ) (w : List ℕ) (n : ℕ) (name tplt args : Li
 single-typed profile w n name tplt args t m v g = go (single-ends profile w n name tplt args)
   where
     go : Single profile w n name tplt args (typeBuiltinFn profile w n name tplt args) → TypedBy (ruleOf profile name) (types w tplt) (types w (numbers args)) (marksOf args) t v
-    go (early reason f e) =
+    go (early reason e) =
         let a : Value t m ≡ refuse reason 0 n = g .reply ∙ ap (λ (x : Outcome). x .answer) e in
         absurd (let z : _≡_ {A = ℕ} 0 1 = cc in omega arith)
     go (late s x) = value-typed 0 w n s (ruleOf profile name) (types w tplt) (types w (numbers args)) (marksOf args) _ x t m v (whole _ _ v g)

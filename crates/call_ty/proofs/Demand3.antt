@@ -4,44 +4,35 @@ use Prim.Native.Nat.{ℕ}
 use mathlib.Core.Path.{_≡_, refl, sym, _∙_, ap, subst}
 use mathlib.Core.Logic.{_≢_}
 use mathlib.Core.Bool.{Bool, true, false}
-use mathlib.Core.List.{List, [], _∷_}
+use mathlib.Core.List.{List, []}
 use native.Mathlib.Omega.{arith}
 use lib.Dec.{T, eqb}
 use lib.ListN.{length}
-use borrow.Author.Tests.{eqb-true, eqb-false, eq-eqb}
-use Rattle.conv.specs.Types.{Ty, formed}
-use Rattle.overload.specs.Overload.{Overload, fits, Preferred}
+use borrow.Author.Tests.{eqb-true, eqb-false}
+use Rattle.overload.specs.Overload.{Overload, fits}
 use Rattle.overload.specs.Marks.{remaining, runningAbstract}
 use Rattle.overload.specs.Rows.{Ruling, overloadsBy, judgeBy, Known}
 use Rattle.overload.specs.Rows.Ruling.{onAtomic}
 use Rattle.overload.proofs.Operands.{allFormed}
 use Rattle.overload.proofs.Preference.{one-preferred}
-use Rattle.overload.proofs.Rulings.{ruling-resolved, ruling-never, ruling-formed}
+use Rattle.overload.proofs.Rulings.{ruling-resolved, ruling-formed}
 use Rattle.names.specs.Names.{Named, ruleOf}
 use Rattle.names.specs.Names.Rule.{ruling, storing}
 use Rattle.names.specs.Names.Named.{rule}
 use Rattle.names.proofs.Rules.{ruling-known}
-use Rattle.answer.specs.Answer.{reasonNo}
 use Rattle.table.specs.Table.{Sound}
-use Rattle.table.specs.Placing.{Outcome, turnedDown, entering}
-use Rattle.answer.specs.declared.Reason.{Reason}
+use Rattle.table.specs.Placing.{Outcome, turnedDown}
 use Rattle.answer.specs.declared.Reason.the-variants.{NoOverload, Operands}
-use Rattle.answer.specs.declared.Refusal.{Refusal}
-use Rattle.answer.specs.declared.Answer.the-variants.{NoValue, Refused}
-use Rattle.table.proofs.Demand1.{entering-refused}
 use Rattle.table.proofs.SoundLaws.{of-sound}
 use Rattle.table.proofs.KindLaws.{split}
 use Rattle.ruled.specs.Call.{anyReference, judgedOutcome, silentOutcome}
 use Rattle.ruled.specs.Demand3.{Accepts, HasRoom, Demand3, SilentDemand3}
-use Rattle.ruled.proofs.Demands.{demand-3, silent-demand-3, judged-nothing, Never13, never-refused}
-use Rattle.call_ty.specs.Calls.{operandsOf, givenBy, givenOutcome, byRule, templateRight, callOutcome, numbers, marksOf, types, typeBuiltinFn}
+use Rattle.ruled.proofs.Demands.{demand-3, silent-demand-3, judged-nothing}
+use Rattle.call_ty.specs.Calls.{operandsOf, givenBy, givenOutcome, byRule, templateRight, numbers, marksOf, types, typeBuiltinFn}
 use Rattle.call_ty.specs.inner.Codes.{Under}
 use Rattle.call_ty.proofs.Lists.{types-formed, under-all}
 use Rattle.call_ty.proofs.Counts.{wrong-count}
 use Rattle.call_ty.proofs.Ways.{by-count, by-call, single-call}
-use Rattle.call_ty.proofs.Ends.{Ends, Single, thirteen, name-call-ends, single-ends}
-use Rattle.call_ty.proofs.Ends.Ends.{refused, silent, valued}
-use Rattle.call_ty.proofs.Ends.Single.{early, late}
 
 -- the demand's own hypotheses: a sound table, a ruled name, no template list, operands below n of which none is a reference,
 -- and none both running and abstract at any depth
@@ -93,7 +84,7 @@ module _ (profile : ℕ) (w : List ℕ) (n : ℕ) (s : Sound w n) (name args : L
       split (eqb (length (types w (numbers args))) (operandsOf (ruling r)))
       (λ b.
       subst (Demand3 (remaining (marksOf args) (overloadsBy r)) (types w (numbers args))) (judged (eqb-true _ _ b))
-      (demand-3 0 w n s (remaining (marksOf args) (overloadsBy r)) (types w (numbers args)) (ruling-never (types w (numbers args)) formed-args (marksOf args) r known) (judgeBy r (types w (numbers args)) (marksOf args)) (ruling-resolved (types w (numbers args)) formed-args (marksOf args) r)
+      (demand-3 0 w n s (remaining (marksOf args) (overloadsBy r)) (types w (numbers args)) (judgeBy r (types w (numbers args)) (marksOf args)) (ruling-resolved (types w (numbers args)) formed-args (marksOf args) r known)
       (ruling-formed (types w (numbers args)) formed-args (marksOf args) r known) room))
       (λ b. miscounted (eqb-false _ _ b))
 
@@ -103,7 +94,7 @@ module _ (profile : ℕ) (w : List ℕ) (n : ℕ) (s : Sound w n) (name args : L
   builtin-none k h =
       let known = ruling-known profile name r ruled in
       sym (judged k)
-      ∙ judged-nothing 0 w n s (remaining (marksOf args) (overloadsBy r)) (types w (numbers args)) (ruling-never (types w (numbers args)) formed-args (marksOf args) r known) (judgeBy r (types w (numbers args)) (marksOf args)) (ruling-resolved (types w (numbers args)) formed-args (marksOf args) r) h
+      ∙ judged-nothing 0 w n s (remaining (marksOf args) (overloadsBy r)) (types w (numbers args)) (judgeBy r (types w (numbers args)) (marksOf args)) (ruling-resolved (types w (numbers args)) formed-args (marksOf args) r known) h
 
 -- ATOMICSTORE, with the same hypotheses, over the overloads of a call on atomics with one value: accepted, with no value, exactly when one fits. It needs no room
 
@@ -145,34 +136,5 @@ module _ (profile : ℕ) (w : List ℕ) (n : ℕ) (s : Sound w n) (name args : L
       split (eqb (length (types w (numbers args))) (operandsOf storing))
       (λ b.
       subst (SilentDemand3 stored (types w (numbers args))) (store-judged (eqb-true _ _ b))
-      (silent-demand-3 0 w n s stored (types w (numbers args)) (ruling-never (types w (numbers args)) f (marksOf args) (onAtomic 1) tt) _ (ruling-resolved (types w (numbers args)) f (marksOf args) (onAtomic 1))))
+      (silent-demand-3 0 w n s stored (types w (numbers args)) _ (ruling-resolved (types w (numbers args)) f (marksOf args) (onAtomic 1) tt)))
       (λ b. subst (SilentDemand3 stored (types w (numbers args))) (store-counted (eqb-false _ _ b)) (store-miscounted (eqb-false _ _ b)))
-
--- REFUSAL 13 IS NEVER GIVEN, of any table, count, name, template list and operands
-
-no-thirteen : (reason : Reason) → thirteen reason ≡ false → reasonNo reason ≢ 13
-no-thirteen reason f e = let a = sym f ∙ eq-eqb (reasonNo reason) 13 e in let z : _≡_ {A = ℕ} 0 1 = cc in omega arith
-
-never-entering : (place : ℕ) (w : List ℕ) (n : ℕ) → Sound w n → (R : Ty) → formed R ≡ true → Never13 (entering place w n R)
-never-entering place w n s R f r e q =
-    let y = entering-refused place w n s R f r (entering place w n R .words) (λ i. record { answer = e i; words = entering place w n R .words }) .1 in
-    let a : reasonNo (r .reason) ≡ 9 = ap (λ (z : Refusal). reasonNo (z .reason)) y in omega arith
-
-ends-never : (place : ℕ) (w : List ℕ) (n : ℕ) → Sound w n → (named : Named) (ts us : List Ty) (ms : List Bool) (o : Outcome) → Ends place w n named ts us ms o → Never13 o
-ends-never place w n s named ts us ms o (refused reason f e) = subst Never13 (sym e) (never-refused w n reason place (no-thirteen reason f))
-ends-never place w n s named ts us ms o (silent e) =
-    λ r h q. let a : NoValue n ≡ Refused r = ap (λ (x : Outcome). x .answer) (sym e) ∙ h in let z : _≡_ {A = ℕ} 0 1 = cc in omega arith
-ends-never place w n s named ts us ms o (valued R q runs f x g e) = subst Never13 (sym e) (never-entering place w n s R f)
-
-pub call-never-13 : (profile place : ℕ) (w : List ℕ) (n : ℕ) → Sound w n → (name tplt args : List ℕ) → Under n tplt → Under n (numbers args)
-    → Never13 (callOutcome profile place w n name (types w tplt) (types w (numbers args)) (marksOf args))
-call-never-13 profile place w n s name tplt args ut ua =
-    ends-never place w n s (ruleOf profile name) (types w tplt) (types w (numbers args)) (marksOf args) _
-    (name-call-ends profile place w n (types w tplt) (types w (numbers args)) (marksOf args) (types-formed w n s tplt ut) (types-formed w n s (numbers args) ua) name)
-
-pub builtin-never-13 : (profile : ℕ) (w : List ℕ) (n : ℕ) (name tplt args : List ℕ) → Never13 (typeBuiltinFn profile w n name tplt args)
-builtin-never-13 profile w n name tplt args = go (single-ends profile w n name tplt args)
-  where
-    go : Single profile w n name tplt args (typeBuiltinFn profile w n name tplt args) → Never13 (typeBuiltinFn profile w n name tplt args)
-    go (early reason f e) = subst Never13 (sym e) (never-refused w n reason 0 (no-thirteen reason f))
-    go (late s x) = ends-never 0 w n s (ruleOf profile name) (types w tplt) (types w (numbers args)) (marksOf args) _ x

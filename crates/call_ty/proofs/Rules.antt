@@ -13,8 +13,8 @@ use Rattle.conv.specs.Types.Ty.{scalar, vec, mat, array, runtime, atomic, ptr, 
 use Rattle.conv.specs.Rank.{both, made, tagOf, firstOf, secondOf, sameTy}
 use Rattle.conv.proofs.Finite.{both-left, both-right}
 use Rattle.overload.proofs.Operands.{and-left, and-right}
-use Rattle.overload.specs.Overload.{Judged, or, fits, noMore, less, sameTys, allYield, isPreferred, anyFits, chosen, judge}
-use Rattle.overload.specs.Overload.Judged.{gives, noneFits, nonePreferred}
+use Rattle.overload.specs.Overload.{Judged, or, fits, noMore, less, sameTys, allYield, isPreferred, chosen, judge}
+use Rattle.overload.specs.Overload.Judged.{gives, noneFits}
 use Rattle.overload.specs.Marks.{sifted, dropped}
 use Rattle.overload.specs.Rows.{formAt, componentAt, wrapped, overSecond, atSizes, overSet, ofFamilies, headCount, judgeBy}
 use Rattle.names.specs.Names.{Rule, Name, names, sameBytes, within, Named, ruleIn, ruleOf}
@@ -40,7 +40,6 @@ gaveScalar (gives (frexp t)) = false
 gaveScalar (gives (modf t)) = false
 gaveScalar (gives (exchange s)) = false
 gaveScalar noneFits = false
-gaveScalar nonePreferred = false
 
 -- an operand is wanted, or none: then there is no value, or the name is of a profile above 0 and a scalar is given
 wants : ℕ → Rule → Bool
@@ -72,7 +71,6 @@ gave-scalar (gives (frexp t)) h = impossible (cc)
 gave-scalar (gives (modf t)) h = impossible (cc)
 gave-scalar (gives (exchange s)) h = impossible (cc)
 gave-scalar noneFits h = impossible (cc)
-gave-scalar nonePreferred h = impossible (cc)
 
 -- the name that has the rule, by its profile
 Wanting : ℕ → Rule → Type 0
@@ -95,7 +93,7 @@ want-in profile (q ∷ qs) t s r m e = go (sameBytes (q .text) s) (within profil
     go false d w p later = later p
 
 name-wants : (profile : ℕ) (name : List ℕ) (r : Rule) (m : Bool) → ruleOf profile name ≡ rule r m → Wanting profile r
-unfolding names both sifted dropped wants allWant operandsBy headCount gaveScalar made tagOf firstOf secondOf sameTy or fits noMore less sameTys allYield isPreferred anyFits chosen judge formAt componentAt wrapped overSecond atSizes overSet ofFamilies judgeBy
+unfolding names both sifted dropped wants allWant operandsBy headCount gaveScalar made tagOf firstOf secondOf sameTy or fits noMore less sameTys allYield isPreferred chosen judge formAt componentAt wrapped overSecond atSizes overSet ofFamilies judgeBy
 name-wants profile name r m e = want-in profile names tt name r m e
 
 by-rule : (profile : ℕ) (r : Rule) → Wanting profile r → operandsOf r ≡ 0 → (ts : List Ty) → Bare profile (givenBy r ts [] [])

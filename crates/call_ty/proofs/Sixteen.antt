@@ -7,7 +7,7 @@ use Rattle.text.specs.Text.{ascii}
 use Rattle.conv.specs.Types.{bool, abstractInt, abstractFloat, i32, u32, f32, f16, isValue, formed, expOf, abstractTy}
 use Rattle.conv.specs.Types.Ty.{vec, frexp}
 use Rattle.conv.specs.Rank.{both, rankOf, shapeOf, componentOf, tagOf, firstOf, secondOf, elementOf, sameTy, conversionRank, made}
-use Rattle.overload.specs.Overload.{or, fits, noMore, less, sameTys, allYield, isPreferred, anyFits, chosen, judge}
+use Rattle.overload.specs.Overload.{or, fits, noMore, less, sameTys, allYield, isPreferred, chosen, judge}
 use Rattle.overload.specs.Marks.{anyRunning, dropped, sifted, runningAbstract}
 use Rattle.overload.specs.Rows.{formAt, componentAt, wrapped, overSecond, atSizes, overSet, ofFamilies, headCount, judgeBy}
 use Rattle.names.specs.Names.{names, sameBytes, within, ruleIn}
@@ -58,7 +58,7 @@ pub record Six : Type 0 where
   pub sign : call "sign" (u32 ∷ []) ≡ turnedDown NoOverload 0 table 8
 
 pub six : Six
-unfolding table ascii abstractTy anyRunning dropped sifted runningAbstract isValue formed expOf both rankOf shapeOf componentOf tagOf firstOf secondOf elementOf sameTy conversionRank made or fits noMore less sameTys allYield isPreferred anyFits chosen judge formAt componentAt wrapped overSecond atSizes overSet ofFamilies headCount judgeBy names sameBytes within ruleIn allBelow rowOk chainBy chain baseOf madeOk entryOk findIn soundb madeEntry typeAt kindOf pOf qOf free standsIn placedOver placed entering anyReference judgedOutcome templateRight operandsBy operandsOf givenBy givenOutcome byRule allUnder typeBuiltinFn
+unfolding table ascii abstractTy anyRunning dropped sifted runningAbstract isValue formed expOf both rankOf shapeOf componentOf tagOf firstOf secondOf elementOf sameTy conversionRank made or fits noMore less sameTys allYield isPreferred chosen judge formAt componentAt wrapped overSecond atSizes overSet ofFamilies headCount judgeBy names sameBytes within ruleIn allBelow rowOk chainBy chain baseOf madeOk entryOk findIn soundb madeEntry typeAt kindOf pOf qOf free standsIn placedOver placed entering anyReference judgedOutcome templateRight operandsBy operandsOf givenBy givenOutcome byRule allUnder typeBuiltinFn
 six =
     record {
       sqrt = refl;

@@ -87,7 +87,7 @@ givenBy storing ts us ms = silently (judgeBy (onAtomic 1) us ms)
 givenBy bitcast ts us ms = judgment (gives (firstIn ts))
 givenBy barrier ts us ms = nothing
 
--- 8, 13, 9 or the type's number; where there is no value the table stays as it is
+-- 8, 9 or the type's number; where there is no value the table stays as it is
 unfoldable pub givenOutcome : ℕ → List ℕ → ℕ → Given → Outcome
 givenOutcome place w n (judgment j) = judgedOutcome place w n j
 givenOutcome place w n (silently j) = silentOutcome place w n j

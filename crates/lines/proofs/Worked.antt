@@ -12,7 +12,7 @@ use Rattle.table.specs.Table.{chainBy, chain, entryOk, findIn, soundb}
 use Rattle.table.specs.Denote.{typeAt}
 use Rattle.table.specs.Enter.{free}
 use Rattle.table.specs.Placing.{placed, entering}
-use Rattle.overload.specs.Overload.{or, fits, noMore, less, sameTys, allYield, isPreferred, anyFits, chosen, judge}
+use Rattle.overload.specs.Overload.{or, fits, noMore, less, sameTys, allYield, isPreferred, chosen, judge}
 use Rattle.overload.specs.Marks.{anyRunning, dropped, sifted, runningAbstract}
 use Rattle.overload.specs.Rows.{formAt, componentAt, wrapped, overSecond, atSizes, overSet, ofFamilies, judgeBy}
 use Rattle.ruled.specs.Call.{anyReference, judgedOutcome, takesReference, ruledOutcome}
@@ -35,7 +35,7 @@ boolLess = 1 ∷ 0 ∷ 9 ∷ 2 ∷ 1 ∷ 0 ∷ 2 ∷ 1 ∷ 0 ∷ 2 ∷ 3 ∷ 9 �
 pub typed :
     (outcome 0 sum ≡ record { answer = accept 5 7; words = start }) ×
     (outcome 0 boolLess ≡ record { answer = refuse NoOverload 9 7; words = start })
-unfolding abstractTy anyRunning dropped sifted runningAbstract both or rankOf shapeOf componentOf tagOf firstOf secondOf elementOf sameTy conversionRank ranks.made allBelow chainBy chain entryOk findIn soundb typeAt free placed entering fits noMore less sameTys allYield isPreferred anyFits chosen judge formAt componentAt wrapped overSecond atSizes overSet ofFamilies judgeBy anyReference judgedOutcome takesReference ruledOutcome binaryRow binaryOutcome headerOk payloadItem itemAt itemsWithin itemsFrom onto pushEffect binaryEffect effectOf after turnOf onward runItems typeSheet
+unfolding abstractTy anyRunning dropped sifted runningAbstract both or rankOf shapeOf componentOf tagOf firstOf secondOf elementOf sameTy conversionRank ranks.made allBelow chainBy chain entryOk findIn soundb typeAt free placed entering fits noMore less sameTys allYield isPreferred chosen judge formAt componentAt wrapped overSecond atSizes overSet ofFamilies judgeBy anyReference judgedOutcome takesReference ruledOutcome binaryRow binaryOutcome headerOk payloadItem itemAt itemsWithin itemsFrom onto pushEffect binaryEffect effectOf after turnOf onward runItems typeSheet
 typed = (refl, refl)
 
 -- and what is written for it

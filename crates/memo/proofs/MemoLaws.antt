@@ -11,7 +11,7 @@ use lib.Seq.{getD-set-other, getD-set-same, ext-getD}
 use borrow.Author.Tests.{eqb-true, eqb-false, ltb-true, ltb-false, le-leb, lt-leb}
 use Rattle.conv.specs.Types.{Ty, formed}
 use Rattle.overload.specs.Overload.{Judged}
-use Rattle.overload.specs.Overload.Judged.{gives, noneFits, nonePreferred}
+use Rattle.overload.specs.Overload.Judged.{gives, noneFits}
 use Rattle.overload.specs.Rows.{Ruling, judgeBy}
 use Rattle.overload.specs.Rows.Ruling.{byRow}
 use Rattle.overload.specs.Marks.{runningAbstract}
@@ -207,7 +207,6 @@ judged-gives : (place : ℕ) (w : List ℕ) (n : ℕ) (j : Judged) (t : TypeNo) 
 unfolding judgedOutcome
 judged-gives place w n (gives R) t m e = (R, refl, λ place w n. refl)
 judged-gives place w n noneFits t m e = impossible (cc)
-judged-gives place w n nonePreferred t m e = impossible (cc)
 
 module _ (place : ℕ) (w : List ℕ) (n : ℕ) (t : TypeNo) (m : ℕ) where
   -- a call that ends in a judgment, whatever the table
@@ -252,7 +251,7 @@ module _ (place : ℕ) (w : List ℕ) (n : ℕ) (t : TypeNo) (m : ℕ) where
   -- the rule of a call that gave a value gives its type
   rule-gives : (r : Rule) (us : List Ty) (ms : List Bool) (o : Outcome) → Ends place w n (rule r false) [] us ms o → o .answer ≡ Value t m
       → (R : Ty) × (formed R ≡ true) × (givenBy r [] us ms ≡ judgment (gives R))
-  rule-gives r us ms o (refused reason f e) h =
+  rule-gives r us ms o (refused reason e) h =
       let a : Value t m ≡ refuse reason place n = sym h ∙ ap (λ (x : Outcome). x .answer) e in
       impossible (cc)
   rule-gives r us ms o (silent e) h =

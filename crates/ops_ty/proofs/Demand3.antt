@@ -1,12 +1,10 @@
 -- DEMANDS 2 AND 3 for operators: "For ruled operators .., loaded operands in a sound table with room". `Demand3` says the demand in the customer's words over the overloads
 -- that an operator has, written from the standard, less those that K3 drops by the operands' marks; what is answered stands for the preferred overload's result. Assumes nothing.
 use Prim.Native.Nat.{ℕ, _<_}
-use native.Mathlib.Omega.{arith}
 use mathlib.Core.Path.{_≡_, sym, _∙_, ap, subst}
 use mathlib.Core.Bool.{Bool, false}
 use mathlib.Core.List.{List, [], _∷_}
-use lib.Dec.{T, ltb}
-use borrow.Author.Tests.{ltb-true}
+use lib.Dec.{T}
 use Rattle.held.specs.Held.{numberOf, markOf}
 use Rattle.conv.specs.Types.{Ty, abstractTy}
 use Rattle.conv.specs.Rank.{both, isReference}
@@ -14,14 +12,14 @@ use Rattle.overload.specs.Marks.{remaining, runningAbstract}
 use Rattle.overload.specs.Overload.{Overload, fits}
 use Rattle.overload.specs.Rows.{ofRow, overloadsBy}
 use Rattle.overload.specs.Rows.Ruling.{byRow}
-use Rattle.table.specs.Table.{soundb, Sound}
+use Rattle.table.specs.Table.{Sound}
 use Rattle.table.specs.Placing.{turnedDown}
 use Rattle.answer.specs.declared.Reason.the-variants.{NoOverload}
-use Rattle.table.proofs.SoundLaws.{of-sound, sound-of}
+use Rattle.table.proofs.SoundLaws.{of-sound}
 use Rattle.ruled.specs.Call.{operandTy, anyReference, takesReference, offends, ruledOutcome}
 use Rattle.ruled.specs.Demand3.{HasRoom, Demand3}
-use Rattle.ruled.proofs.Demands.{ruled-demand-3, ruled-none, Never13, never-refused, never-by, never-ruled}
-use Rattle.ops_ty.specs.Ops.{unaryOps, addressOp, unaryRuling, unaryOutcome, typeUnaryOp, binaryOps, binaryRow, binaryOutcome, typeBinaryOp}
+use Rattle.ruled.proofs.Demands.{ruled-demand-3, ruled-none}
+use Rattle.ops_ty.specs.Ops.{unaryOps, unaryRuling, typeUnaryOp, binaryOps, binaryRow, typeBinaryOp}
 use Rattle.ops_ty.proofs.Ways.{unary-known, binary-known, unary-loaded, unary-ruled, binary-ruled, unary-call, binary-call, one-formed, two-formed, one-clashes}
 
 -- UNARY: `!` `-` `~` by their rows, `&` and `*` by the overloads that their rule describes
@@ -88,34 +86,3 @@ module _ (w : List ℕ) (n : ℕ) (s : Sound w n) (op a b : ℕ) (known : op < b
       → typeBinaryOp w n op a b ≡ turnedDown NoOverload 0 w n
   unfolding overloadsBy
   binary-none h = sym binary-is ∙ ruled-none 0 w n s (byRow (binaryRow op)) (binary-known op) both-ts (two-formed w n s (numberOf a) (numberOf b) la lb) both-ms loaded apart h
-
--- REFUSAL 13 IS NEVER GIVEN, of any table, count, operator and operands
-
-module _ (w : List ℕ) (n op : ℕ) where
-  pub unary-never-13 : (a : ℕ) → Never13 (typeUnaryOp w n op a)
-  unfolding typeUnaryOp unaryOutcome
-  unary-never-13 a =
-      never-by w n (soundb w n) _ _
-      (λ e.
-      never-by w n (ltb (numberOf a) n) _ _
-      (λ l.
-      let s = sound-of w n e in
-      never-by w n (ltb op unaryOps) _ _ (λ k. never-ruled w n s 0 (unaryRuling op) (unary-known op) _ (one-formed w n s (numberOf a) (ltb-true (numberOf a) n l)) _) (λ k. never-refused w n _ 0 (λ q. omega arith)))
-      (λ l. never-refused w n _ 0 (λ q. omega arith)))
-      (λ e. never-refused w n _ 0 (λ q. omega arith))
-
-  pub binary-never-13 : (a b : ℕ) → Never13 (typeBinaryOp w n op a b)
-  unfolding typeBinaryOp binaryOutcome
-  binary-never-13 a b =
-      never-by w n (soundb w n) _ _
-      (λ e.
-      never-by w n (ltb (numberOf a) n) _ _
-      (λ l.
-      never-by w n (ltb (numberOf b) n) _ _
-      (λ k.
-      let s = sound-of w n e in
-      never-by w n (ltb op binaryOps) _ _ (λ h. never-ruled w n s 0 (byRow (binaryRow op)) (binary-known op) _ (two-formed w n s (numberOf a) (numberOf b) (ltb-true (numberOf a) n l) (ltb-true (numberOf b) n k)) _)
-      (λ h. never-refused w n _ 0 (λ q. omega arith)))
-      (λ k. never-refused w n _ 0 (λ q. omega arith)))
-      (λ l. never-refused w n _ 0 (λ q. omega arith)))
-      (λ e. never-refused w n _ 0 (λ q. omega arith))

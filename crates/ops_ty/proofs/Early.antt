@@ -18,7 +18,7 @@ use Rattle.answer.specs.declared.Reason.the-variants.{Unsound, NoSuchType, Unkn
 use Rattle.ruled.proofs.Early.{baseRuled, const-number, const-ruled}
 use Rattle.ops_ty.specs.Ops.{unaryOps, unaryRuling, binaryOps, binaryRow, unaryOutcome, binaryOutcome, typeUnaryOp, typeBinaryOp, unaryRuns, binaryRuns}
 
--- THE BASE. On loaded operands, by their types, at a place: 4, 3, 8, 13, 9
+-- THE BASE. On loaded operands, by their types, at a place: 4, 3, 8, 9
 
 unfoldable pub baseUnary : ℕ → List ℕ → ℕ → ℕ → Ty → Outcome
 baseUnary place w n op t = cond (ltb op unaryOps) (baseRuled place w n (unaryRuling op) (t ∷ [])) (turnedDown Unknown place w n)

@@ -5,7 +5,7 @@ use mathlib.Core.Path.{_≡_, refl}
 use mathlib.Core.List.{List, [], _∷_}
 use Rattle.conv.specs.Types.{bool, abstractInt, i32, u32, f32, abstractTy, isValue, formed}
 use Rattle.conv.specs.Rank.{both, rankOf, shapeOf, componentOf, tagOf, firstOf, secondOf, elementOf, sameTy, conversionRank, made}
-use Rattle.overload.specs.Overload.{or, fits, noMore, less, sameTys, allYield, isPreferred, anyFits, chosen, judge}
+use Rattle.overload.specs.Overload.{or, fits, noMore, less, sameTys, allYield, isPreferred, chosen, judge}
 use Rattle.overload.specs.Marks.{anyRunning, dropped, sifted, runningAbstract}
 use Rattle.overload.specs.Rows.{formAt, componentAt, wrapped, overSecond, atSizes, overSet, ofFamilies, judgeBy}
 use Rattle.answer.specs.Answer.{accept}
@@ -104,7 +104,7 @@ pub record Ten : Type 0 where
   pub bitOr : on bar abstractInt u32 ≡ gives u32
 
 pub ten : Ten
-unfolding table abstractTy anyRunning dropped sifted runningAbstract isValue formed both rankOf shapeOf componentOf tagOf firstOf secondOf elementOf sameTy conversionRank made or fits noMore less sameTys allYield isPreferred anyFits chosen judge formAt componentAt wrapped overSecond atSizes overSet ofFamilies judgeBy allBelow rowOk chainBy chain baseOf madeOk entryOk findIn soundb madeEntry typeAt kindOf pOf qOf free standsIn placedOver placed entering anyReference judgedOutcome takesReference ruledOutcome binaryRow binaryOutcome typeBinaryOp
+unfolding table abstractTy anyRunning dropped sifted runningAbstract isValue formed both rankOf shapeOf componentOf tagOf firstOf secondOf elementOf sameTy conversionRank made or fits noMore less sameTys allYield isPreferred chosen judge formAt componentAt wrapped overSecond atSizes overSet ofFamilies judgeBy allBelow rowOk chainBy chain baseOf madeOk entryOk findIn soundb madeEntry typeAt kindOf pOf qOf free standsIn placedOver placed entering anyReference judgedOutcome takesReference ruledOutcome binaryRow binaryOutcome typeBinaryOp
 ten =
     record {
       sum = refl;

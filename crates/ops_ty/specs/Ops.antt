@@ -42,7 +42,7 @@ binaryRows =
 unfoldable pub binaryRow : ℕ → Row
 binaryRow op = getD binaryRows op noRow
 
--- a call on loaded operands, by their types and their marks, at a place: 4, then 3, which unary `&` alone does not give, then 14, 8, 13, 9
+-- a call on loaded operands, by their types and their marks, at a place: 4, then 3, which unary `&` alone does not give, then 14, 8, 9
 
 unfoldable pub unaryOutcome : ℕ → List ℕ → ℕ → ℕ → Ty → Bool → Outcome
 unaryOutcome place w n op t m = cond (ltb op unaryOps) (ruledOutcome place w n (unaryRuling op) (t ∷ []) (m ∷ [])) (turnedDown Unknown place w n)

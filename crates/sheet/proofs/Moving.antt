@@ -7,7 +7,7 @@ use lib.Dec.{eqb, ltb, leb}
 use lib.ListN.{length}
 use Rattle.conv.specs.Types.{Ty}
 use Rattle.overload.specs.Overload.{Judged}
-use Rattle.overload.specs.Overload.Judged.{gives, noneFits, nonePreferred}
+use Rattle.overload.specs.Overload.Judged.{gives, noneFits}
 use Rattle.overload.specs.Marks.{runningAbstract}
 use Rattle.overload.specs.Rows.{Ruling, judgeBy}
 use Rattle.overload.specs.Rows.Ruling.{byRow}
@@ -35,13 +35,11 @@ module _ (place : ℕ) (w : List ℕ) (n : ℕ) where
   unfolding judgedOutcome
   judged-moved (gives R) = entering-moved R
   judged-moved noneFits = refl
-  judged-moved nonePreferred = refl
 
   silent-moved : (j : Judged) → silentOutcome place w n j ≡ moved place (silentOutcome 0 w n j)
   unfolding silentOutcome
   silent-moved (gives R) = refl
   silent-moved noneFits = refl
-  silent-moved nonePreferred = refl
 
   ruled-moved : (r : Ruling) (ts : List Ty) (ms : List Bool) → ruledOutcome place w n r ts ms ≡ moved place (ruledOutcome 0 w n r ts ms)
   unfolding ruledOutcome

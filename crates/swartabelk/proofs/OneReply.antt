@@ -10,7 +10,7 @@ use Rattle.answer.specs.Answer.{reasonNo, markedBy}
 use Rattle.table.specs.Placing.{Outcome, enterType}
 use Rattle.table.specs.declared.Entry.{Entry}
 use Rattle.answer.specs.declared.Reason.{Reason}
-use Rattle.answer.specs.declared.Reason.the-variants.{Unsound, NoSuchType, Reference, Unknown, Template, Count, Operands, NoOverload, NoRoom, Framing, Stack, TooLong, NonePreferred, RunningAbstract}
+use Rattle.answer.specs.declared.Reason.the-variants.{Unsound, NoSuchType, Reference, Unknown, Template, Count, Operands, NoOverload, NoRoom, Framing, Stack, TooLong, RunningAbstract}
 use Rattle.answer.specs.declared.Answer.{Answer}
 use Rattle.answer.specs.declared.Answer.the-variants.{Value, NoValue, Refused}
 use Rattle.answer.specs.declared.Typed.{Typed}
@@ -77,7 +77,6 @@ some (NoRoom k) e = omega arith
 some Framing e = omega arith
 some Stack e = omega arith
 some TooLong e = omega arith
-some NonePreferred e = omega arith
 some RunningAbstract e = omega arith
 
 valued : {P : Type 0} (t : ℕ) → t < noValue → t ≡ noValue → P

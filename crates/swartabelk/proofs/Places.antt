@@ -9,7 +9,7 @@ use lib.IntN.{ℤ}
 use Rattle.conv.specs.Types.{Ty}
 use Rattle.held.specs.Held.{numberOf, markOf}
 use Rattle.overload.specs.Overload.{Judged}
-use Rattle.overload.specs.Overload.Judged.{gives, noneFits, nonePreferred}
+use Rattle.overload.specs.Overload.Judged.{gives, noneFits}
 use Rattle.overload.specs.Marks.{runningAbstract}
 use Rattle.overload.specs.Rows.{Ruling, judgeBy}
 use Rattle.overload.specs.Rows.Ruling.{byRow}
@@ -52,13 +52,11 @@ module _ (place : ℕ) (w : List ℕ) (n : ℕ) where
   unfolding judgedOutcome
   judged-at (gives R) = entering-at R
   judged-at noneFits = (refl, refl)
-  judged-at nonePreferred = (refl, refl)
 
   silent-at : (j : Judged) → At place n (silentOutcome place w n j .answer)
   unfolding silentOutcome
   silent-at (gives R) = tt
   silent-at noneFits = (refl, refl)
-  silent-at nonePreferred = (refl, refl)
 
   ruled-at : (r : Ruling) (ts : List Ty) (ms : List Bool) → At place n (ruledOutcome place w n r ts ms .answer)
   unfolding ruledOutcome

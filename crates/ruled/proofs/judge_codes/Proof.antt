@@ -1,4 +1,4 @@
--- `ruled::judge_codes` meets its contract: the three judgments, each with its outcome. Assumes nothing.
+-- `ruled::judge_codes` meets its contract: the two judgments, each with its outcome. Assumes nothing.
 use borrow.Author.Needs.{needs}
 use mathlib.Core.Path.{sym, _∙_, ap}
 use mathlib.Core.List.{map}
@@ -31,12 +31,6 @@ enum-told c = search needs
 refused-requires : tie.Need-refused-requires
 refused-requires c κs = search needs
 
-enum-told-2 : tie.Need-enum-told-2
-enum-told-2 c = search needs
-
-refused-requires-2 : tie.Need-refused-requires-2
-refused-requires-2 c κs = search needs
-
 same-length : tie.Need-same-length
 same-length c = search needs
 
@@ -54,14 +48,7 @@ returns-2 c =
     let e = ap judgedOf (sym (c .before .enum-told .given .1)) ∙ c .before .before .before .resolve .ensures in
     gave-as (ap (judgedOutcome (a .place .0) (a .words .now) (a .n)) e) (gave-refused _ _ (a .words .now) (a .n) (c .refused .ensures))
 
-returns-3 : tie.Need-returns-3
-unfolding judgedOf judgedOutcome
-returns-3 c =
-    let a = c .before .before .before .before .before .before .args in
-    let e = ap judgedOf (sym (c .before .enum-told2 .given .1)) ∙ c .before .before .before .resolve .ensures in
-    gave-as (ap (judgedOutcome (a .place .0) (a .words .now) (a .n)) e) (gave-refused _ _ (a .words .now) (a .n) (c .refused2 .ensures))
-
 pub judge-codes-spec : {M : Type 1} → statement M
 judge-codes-spec =
     tie.close
-    (tie.spec resolve-requires enum-known-j enter-out-requires enum-told refused-requires enum-told-2 refused-requires-2 same-length returns returns-2 returns-3)
+    (tie.spec resolve-requires enum-known-j enter-out-requires enum-told refused-requires same-length returns returns-2)
