@@ -36,6 +36,7 @@ extern "C" {
 #endif
 
 #define SWARTABELK_VERSION 6
+#define SWARTABELK_VERSION 7
 
 /* The type of a reply that has no value or is a refusal. */
 #define SWARTABELK_NO_VALUE 0xFFFFFFFFu
@@ -71,6 +72,7 @@ extern "C" {
  *   11  the stack is short, a 65th value, or a wrong end
  *   12  the spelling, or the text that tells why, is longer than the output
  *   13  overloads fit, and none is preferred: never given
+ *   12  the spelling is longer than the output
  *   14  an operand that is known only when running and is abstract at any depth
  *
  * Where several hold, the first of 1, 2, 4, 5, 6, 7, 3, 14, 8, 9 is given; 2 is asked of the template list before the operands. Of a sheet 1 comes first, then a

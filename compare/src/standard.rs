@@ -22,7 +22,6 @@ pub mod refusal {
     pub const OPERANDS: u32 = 7;
     pub const NONE_FITS: u32 = 8;
     pub const NO_ROOM: u32 = 9;
-    pub const NONE_PREFERRED: u32 = 13;
     pub const RUNNING_ABSTRACT: u32 = 14;
 }
 
@@ -174,10 +173,8 @@ pub fn resolve(overloads: &[Overload], case: &Case) -> Answer {
         let mut others = fitting.iter().enumerate().filter(|(j, _)| i != j);
         others.all(|(_, (other, _))| preferred(ranks, other))
     });
-    match best {
-        Some((_, (_, overload))) => Answer::Type(overload.result.clone()),
-        None => Answer::Refused(refusal::NONE_PREFERRED),
-    }
+    let (_, (_, overload)) = best.unwrap_or_else(|| panic!("none is preferred: {case:?}"));
+    Answer::Type(overload.result.clone())
 }
 
 /// Every list, made once.

@@ -188,8 +188,6 @@ pub enum Reason {
     Stack = 11,
     /// The spelling is longer than the output.
     TooLong = 12,
-    /// Overloads fit, and none is preferred. Never given.
-    NonePreferred = 13,
     /// An operand that is known only when running and is abstract at any depth.
     RunningAbstract = 14,
 }
@@ -210,7 +208,6 @@ impl Reason {
             10 => Reason::Framing,
             11 => Reason::Stack,
             12 => Reason::TooLong,
-            13 => Reason::NonePreferred,
             14 => Reason::RunningAbstract,
             _ => return None,
         })
