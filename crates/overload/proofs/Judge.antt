@@ -38,10 +38,10 @@ same-overload p o h =
 pub self-overload : (o : Overload) → T (sameOverload o o)
 self-overload o = both-pair _ _ (self-tys (o .params)) (self-ty (o .result))
 
-clash : {R : Ty} → noneFits ≡ gives R → ⊥
+pub clash : {R : Ty} → noneFits ≡ gives R → ⊥
 clash e = let z : _≡_ {A = ℕ} 0 1 = cc in omega arith
 
-inner : {R Q : Ty} → gives R ≡ gives Q → R ≡ Q
+pub inner : {R Q : Ty} → gives R ≡ gives Q → R ≡ Q
 inner e = cc
 
 not-not : (b : Bool) → (T b → ⊥) → T (not b)

@@ -1,6 +1,6 @@
--- Document 02, K8: "Wherever K3 leaves fitting overloads, one is preferred to every other left". Over every row, by its number, K1's and K6's among them, and over every rule whose
--- overloads are described: unary `&` and `*`, K5's calls, arrayLength. On any operands, types or not, whatever their marks: nothing is asked of them, so refusal 14 and the
--- refusals before it play no part. And the same without marks. `Preferred` is the definition of `specs/Overload.antt`. Assumes nothing.
+-- Document 02, K8, over all rows, K1, K5 and K6 included, listed and described, with and without marks: WHEREVER K3 LEAVES FITTING OVERLOADS, ONE IS PREFERRED TO EVERY OTHER LEFT.
+-- Listed are the rows, K1's and K6's among them; described are the overloads of unary `&` and `*`, of K5's calls and of arrayLength. On any operands, types or not, whatever their
+-- marks: nothing is asked of them, so refusal 14 and the refusals before it play no part. `Preferred` is the definition of `specs/Overload.antt`. Assumes nothing.
 use Prim.Native.Nat.{ℕ}
 use mathlib.Core.Path.{refl, sym, subst}
 use mathlib.Core.Bool.{Bool}

@@ -18,6 +18,7 @@ use Rattle.overload.specs.Marks.{remains, remaining}
 use Rattle.overload.specs.Overload.Judged.{gives, noneFits}
 use Rattle.overload.specs.Rows.{Row, rows, noRow, rowAt, overloadsOf, addressOf, indirectionOf, atomicOf, uniformLoadOf, toRuntime, arrayLengthOf, Ruling, overloadsBy, judgeRow, judgeAddress, judgeIndirection, judgeLoad, judgeLength, alone, judgeBy, Known}
 use Rattle.overload.specs.Rows.Ruling.{byRow, address, indirection, onAtomic, comparing, uniformLoad, arrayLength}
+use Rattle.overload.proofs.Judge.{clash, inner}
 use Rattle.overload.proofs.Marks.{sifted-resolved}
 use Rattle.overload.proofs.Operands.{allFormed, and-left, and-right}
 use Rattle.overload.proofs.Results.{gives-formed}
@@ -25,12 +26,6 @@ use Rattle.overload.proofs.Described.{judge-address, judge-indirection}
 use Rattle.overload.proofs.Memory.{integer-small, exchange-formed, judge-atomic, atomic-formed, judge-load, load-formed, judge-length, length-formed}
 use Rattle.overload.proofs.Staying.{rest, ref-parts, ptr-parts, to-left, address-stays, indirection-stays, atomic-stays, load-stays, length-stays}
 use Rattle.overload.proofs.OnePreferred.{one-is-preferred}
-
-clash : {R : Ty} → noneFits ≡ gives R → ⊥
-clash e = let z : _≡_ {A = ℕ} 0 1 = cc in omega arith
-
-inner : {R Q : Ty} → gives R ≡ gives Q → R ≡ Q
-inner e = cc
 
 -- ONE OPERAND: an overload of one parameter fits no other count
 

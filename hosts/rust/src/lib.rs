@@ -334,7 +334,7 @@ impl Argument {
 }
 
 fn refusal(number: u32, place: u32, used: u32, lacking: u32) -> Refusal {
-    let reason = Reason::of(number).expect("the library's refusals are 1 to 14");
+    let reason = Reason::of(number).expect("a refusal of the library");
     Refusal {
         reason,
         place,
