@@ -13,7 +13,7 @@
  *    9         an array: p its count, 1 or more; elem no pointer, no reference and no array without count
  *   10         an array without count: elem as in 9
  *   11         an atomic: elem i32 or u32, its component
- *   12         a pointer: p its space, 0 function, 1 private, 2 workgroup, 3 uniform, 4 storage; q its access, 0 read, 1 write, 2 read_write;
+ *   12  the spelling, or the text that tells why, is longer than the output
  *              elem no pointer, no reference and nothing abstract at any depth
  *   13         a reference: the same, or 5 handle as its space
  *   14, 15     the result of frexp, of modf: elem the type of `fract`, a float or a vector of floats
@@ -35,7 +35,6 @@
 extern "C" {
 #endif
 
-#define SWARTABELK_VERSION 6
 #define SWARTABELK_VERSION 7
 
 /* The type of a reply that has no value or is a refusal. */
@@ -71,8 +70,6 @@ extern "C" {
  *   10  a sheet's header, framing, kind or payload length
  *   11  the stack is short, a 65th value, or a wrong end
  *   12  the spelling, or the text that tells why, is longer than the output
- *   13  overloads fit, and none is preferred: never given
- *   12  the spelling is longer than the output
  *   14  an operand that is known only when running and is abstract at any depth
  *
  * Where several hold, the first of 1, 2, 4, 5, 6, 7, 3, 14, 8, 9 is given; 2 is asked of the template list before the operands. Of a sheet 1 comes first, then a

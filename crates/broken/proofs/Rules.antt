@@ -17,7 +17,7 @@ use Rattle.held.specs.Held.{numberOf}
 use Rattle.text.specs.Text.{ascii}
 use Rattle.table.specs.Denote.{typeAt}
 use Rattle.overload.specs.Overload.{fits, Judged}
-use Rattle.overload.specs.Overload.Judged.{gives, noneFits, nonePreferred}
+use Rattle.overload.specs.Overload.Judged.{gives, noneFits}
 use Rattle.overload.specs.Rows.{rowAt, Ruling, values, takesAtomic, atomicIn, judgeAtomic, judgeBy}
 use Rattle.overload.specs.Rows.Ruling.{byRow, address, indirection, onAtomic, comparing, uniformLoad, arrayLength}
 use Rattle.overload.proofs.Memory.{integer-some, taken-formed}
@@ -95,7 +95,6 @@ module _ (k : ℕ) (h : 100 ≤ k) (a : k ≢ 101) (b : k ≢ 108) (c : k ≢ 10
           isNone : Judged → Type 0
           isNone (gives S) = ⊥
           isNone noneFits = Unit {0}
-          isNone nonePreferred = ⊥
 
           clash : gives R ≡ noneFits → ⊥
           clash p = subst isNone (sym p) tt

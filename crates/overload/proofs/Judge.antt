@@ -63,7 +63,7 @@ module _ (xs : List Ty) (o : Overload) where
   all-yield (q ∷ qs) h = both-pair _ _ (h q (List·Memᴰ·head refl)) (all-yield qs (λ p m. h p (List·Memᴰ·tail m)))
 
 module _ (os : List Overload) (xs : List Ty) where
-  preferred-of : (o : Overload) → List·Memᴰ o os → T (isPreferred os xs o) → Preferred (listed os) xs o
+  pub preferred-of : (o : Overload) → List·Memᴰ o os → T (isPreferred os xs o) → Preferred (listed os) xs o
   unfolding isPreferred
   preferred-of o m h =
       record {

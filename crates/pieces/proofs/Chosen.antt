@@ -12,13 +12,14 @@ use borrow.Author.Tests.{ltb-true, ltb-false, lt-ltb, le-ltb}
 use Rattle.conv.specs.Types.{Ty, abstractTy}
 use Rattle.conv.specs.Rank.{both}
 use Rattle.conv.proofs.Finite.{both-pair}
-use Rattle.overload.specs.Overload.{Overload, or, fits, noMore, less, sameOverload, yields, allYield, isPreferred, anyFits, Judged, Resolved, chosen, judge}
-use Rattle.overload.specs.Overload.Judged.{gives, noneFits, nonePreferred}
+use Rattle.overload.specs.Overload.{Overload, or, fits, noMore, less, sameOverload, yields, allYield, isPreferred, Judged, Resolved, chosen, judge}
+use Rattle.overload.specs.Overload.Judged.{gives, noneFits}
 use Rattle.overload.specs.Marks.{anyRunning, anyAbstract, dropped, remains, sifted, remaining, remainingIn, runningAbstract}
 use Rattle.overload.specs.Rows.{rowAt, overloadsOf, ofRow, operandCount, judgeRow}
 use Rattle.overload.specs.inner.Code.{operand, codeOf, kept}
 use Rattle.overload.proofs.Counts.{one-count}
 use Rattle.overload.proofs.Sieve.{of-sifted}
+use Rattle.overload.proofs.OnePreferred.{row-one-is-preferred}
 use Rattle.overload.proofs.Marks.{to-kept, from-kept, sifted-resolved, never-empties}
 use Rattle.overload.proofs.Operands.{allFormed, codesOf, params-of, fits-by, no-more-by, less-by}
 use Rattle.listing.specs.Listing.{noOverload, overloadAt}
@@ -76,7 +77,6 @@ first-below h (p ∷ ps) o m t = go (h p) refl (λ n. first-below h ps o n t)
 given : Judged → Bool
 given (gives t) = true
 given noneFits = false
-given nonePreferred = false
 
 chosen-in : (os : List Overload) (xs : List Ty) (t : Ty) (rest : List Overload) → chosen os xs rest ≡ gives t → (o : Overload) × List·Memᴰ o rest × T (isPreferred os xs o)
 unfolding chosen given
@@ -89,12 +89,8 @@ chosen-in os xs t (o ∷ rest) e = go (isPreferred os xs o) refl (chosen-in os x
     go false q ih k = let r = ih k in (r .0, List·Memᴰ·tail (r .1), r .2)
 
 pub judge-in : (os : List Overload) (xs : List Ty) (t : Ty) → judge os xs ≡ gives t → (o : Overload) × List·Memᴰ o os × T (isPreferred os xs o)
-unfolding judge given
-judge-in os xs t e = go (anyFits os xs) e
-  where
-    go : (b : Bool) → cond b (chosen os xs os) noneFits ≡ gives t → (o : Overload) × List·Memᴰ o os × T (isPreferred os xs o)
-    go true k = chosen-in os xs t os k
-    go false k = absurd (clash (sym (ap given k)))
+unfolding judge
+judge-in os xs t e = chosen-in os xs t os e
 
 -- WHAT DOES NOT PASS is not looked at; the rest yields
 
@@ -133,7 +129,7 @@ none-fits row ts ms e o m =
     no-eq (fits (o .params) ts)
     (λ h.
     let q = never-empties row ms ts o m h in
-    subst (Resolved (remaining ms (ofRow (rowAt row))) ts) e (sifted-resolved (remains ms) (overloadsOf (rowAt row)) ts) (q .0) (q .1) (q .2))
+    subst (Resolved (remaining ms (ofRow (rowAt row))) ts) e (sifted-resolved (remains ms) (overloadsOf (rowAt row)) ts (row-one-is-preferred row ms ts)) (q .0) (q .1) (q .2))
 
 -- OF A ROW, by the operands' numbers
 module _ (row : ℕ) (ts : List Ty) (ms : List Bool) (f : allFormed ts ≡ true) (u : runningAbstract ts ms ≡ false) where

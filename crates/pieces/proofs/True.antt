@@ -16,14 +16,17 @@ use Rattle.conv.specs.Types.{Ty, abstractTy, bool}
 use Rattle.conv.specs.Types.Ty.{scalar}
 use Rattle.conv.specs.Rank.{both, conversionRank, converts}
 use Rattle.conv.proofs.Finite.{both-left, both-right, both-pair}
-use Rattle.overload.specs.Overload.{Overload, or, fits, isPreferred}
+use Rattle.overload.specs.Overload.{Overload, or, fits, Preferred, Resolved, isPreferred}
 use Rattle.overload.specs.Overload.Judged.{gives, noneFits}
-use Rattle.overload.specs.Marks.{anyRunning, anyAbstract, dropped, remains, remainingIn, runningAbstract}
+use Rattle.overload.specs.Marks.{anyRunning, anyAbstract, dropped, remains, remaining, remainingIn, runningAbstract}
 use Rattle.overload.specs.Rows.{rowAt, overloadsOf, ofRow, operandCount, judgeRow}
 use Rattle.overload.specs.Rows.Ruling.{byRow}
-use Rattle.overload.proofs.Preference.{or-left, or-right}
+use Rattle.overload.proofs.Preference.{or-left, or-right, one-preferred}
+use Rattle.overload.proofs.Judge.{preferred-of}
+use Rattle.overload.proofs.Marks.{sifted-resolved}
+use Rattle.overload.proofs.OnePreferred.{row-one-is-preferred}
 use Rattle.overload.proofs.Counts.{one-count}
-use Rattle.overload.proofs.Sieve.{of-sifted}
+use Rattle.overload.proofs.Sieve.{of-sifted, to-sifted}
 use Rattle.listing.specs.Listing.{noOverload, overloadAt}
 use Rattle.listing.proofs.EveryOverload.{StandsAt, every-overload, no-other}
 use Rattle.weigh.specs.Weigh.{firstBy, firstMiss}
@@ -115,6 +118,19 @@ module _ (row : ℕ) (ts : List Ty) (ms : List Bool) where
       let s = of-sifted (remains ms) os (r .0) (r .1) in
       let q = over-is (isChosen (rowAt row) ts ms) os (r .0) (s .0) (both-pair _ _ (s .1) (r .2)) in
       (q .0, both-left _ _ (q .1), both-right (remains ms (firstOver (isChosen (rowAt row) ts ms) os)) _ (q .1))
+
+  -- so it is the preferred one, and the call's type is its result
+  pub chosen-preferred : (t : Ty) → judgeRow (rowAt row) ts ms ≡ gives t
+      → Preferred (remaining ms (ofRow (rowAt row))) ts (chosenOf (rowAt row) ts ms) × (t ≡ chosenOf (rowAt row) ts ms .result)
+  unfolding Resolved
+  chosen-preferred t e =
+      let os = overloadsOf (rowAt row) in
+      let c = chosenOf (rowAt row) ts ms in
+      let q = chosen-true t e in
+      let k = preferred-of (remainingIn ms os) ts c (to-sifted (remains ms) os c (q .0, q .1)) (q .2) in
+      let p : Preferred (remaining ms (ofRow (rowAt row))) ts c = record { among = (q .0, q .1); fitting = k .fitting; over = λ o m f. k .over o (to-sifted (remains ms) os o m) f } in
+      let r = subst (Resolved (remaining ms (ofRow (rowAt row))) ts) e (sifted-resolved (remains ms) os ts (row-one-is-preferred row ms ts)) in
+      (p, r .2 ∙ ap (λ (o : Overload). o .result) (one-preferred (remaining ms (ofRow (rowAt row))) ts (r .0) c (r .1) p))
 
 -- and the ranks are those of the operands' conversions
 pub ranks-true : (ps ts : List Ty) (i : ℕ) → i < length ps → i < length ts → getD (ranksOf ps ts) i 0 ≡ conversionRank (typeIn ts i) (typeIn ps i)

@@ -14,7 +14,7 @@ use Rattle.conv.specs.Types.{Ty}
 use Rattle.conv.specs.Types.Ty.{scalar, vec, mat, array, runtime, atomic, ptr, ref, frexp, modf, exchange}
 use Rattle.conv.specs.Rank.{sameTy}
 use Rattle.overload.specs.Overload.{Judged}
-use Rattle.overload.specs.Overload.Judged.{gives, noneFits, nonePreferred}
+use Rattle.overload.specs.Overload.Judged.{gives, noneFits}
 use Rattle.overload.specs.Marks.{runningAbstract}
 use Rattle.overload.specs.Rows.{Ruling, judgeBy}
 use Rattle.overload.specs.Rows.Ruling.{byRow}
@@ -102,13 +102,11 @@ module _ (w v : List ℕ) (n : ℕ) (k : Keeps w v n) where
     unfolding judgedOutcome
     judged-same (gives R) = entering-same R
     judged-same noneFits = refl
-    judged-same nonePreferred = refl
 
     silent-same : (j : Judged) → Same (silentOutcome place v n j) (silentOutcome place w n j)
     unfolding silentOutcome
     silent-same (gives R) = refl
     silent-same noneFits = refl
-    silent-same nonePreferred = refl
 
     ruled-same : (r : Ruling) (ts : List Ty) (ms : List Bool) → Same (ruledOutcome place v n r ts ms) (ruledOutcome place w n r ts ms)
     unfolding ruledOutcome

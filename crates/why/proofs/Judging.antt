@@ -11,7 +11,7 @@ use borrow.Author.Tests.{ltb-true, eqb-true}
 use Rattle.held.specs.Held.{numberOf, markOf}
 use Rattle.conv.specs.Types.{Ty}
 use Rattle.overload.specs.Overload.{Judged}
-use Rattle.overload.specs.Overload.Judged.{gives, noneFits, nonePreferred}
+use Rattle.overload.specs.Overload.Judged.{gives, noneFits}
 use Rattle.overload.specs.Marks.{runningAbstract}
 use Rattle.overload.specs.Rows.{Ruling, headCount, judgeBy}
 use Rattle.overload.specs.Rows.Ruling.{byRow, onAtomic}
@@ -78,13 +78,11 @@ module _ (place : ℕ) (w : List ℕ) (n : ℕ) where
   unfolding judgedOutcome telling accepting
   judged-tells (gives R) h = record { gave = λ e. (R, refl); none = λ e. no (sym e ∙ entered R h) }
   judged-tells noneFits h = record { gave = λ e. no e; none = λ e. refl }
-  judged-tells nonePreferred h = no h
 
   silent-tells : (j : Judged) → telling (silentOutcome place w n j .answer) ≡ true → Judging j (silentOutcome place w n j .answer)
   unfolding silentOutcome telling accepting
   silent-tells (gives R) h = record { gave = λ e. (R, refl); none = λ e. no (sym e) }
   silent-tells noneFits h = record { gave = λ e. no e; none = λ e. refl }
-  silent-tells nonePreferred h = no h
 
   -- A RULED CALL on loaded operands: none is both running and abstract
 
