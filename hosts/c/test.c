@@ -363,7 +363,7 @@ int main(void) {
     rooms();
     marks();
     memory();
-    reasons();
+    header_words();
     spellings();
     names();
     printf("%u of %u replies as documents 01 and 02 have them\n", held - failed, held);

@@ -1,6 +1,6 @@
 /* What the tests of the C host share: a table, calls over it, and the count of replies that are as they should be. test.c has them and the tests of document 01,
    profiles.c those of document 02's profiles, room.c those of how much room is missing, marks.c those of operands that are known only when running, memory.c those
-   of calls on memory, why.c those of the texts that say why. */
+   of calls on memory, words.c those of what the header itself has. */
 #ifndef TEST_H
 #define TEST_H
 
@@ -67,6 +67,6 @@ void profiles(void);
 void rooms(void);
 void marks(void);
 void memory(void);
-void reasons(void);
+void header_words(void);
 
 #endif
