@@ -1,4 +1,4 @@
-//! The typing rules of WGSL, proved: safe functions over `libswartabelk.a`.
+//! The same over words that the host lends: one function for each of `include/swartabelk.h`, safe, without an allocator.
 //!
 //! A table is a slice of words: `used` entries of four words each, kind, p, q and elem. The entries 0 to 6 are the scalars that [`SCALARS`] lists, and a
 //! type is the number of its entry. A result that is absent is entered where the slice has room; the answer says the count afterwards, which the next call
@@ -9,7 +9,8 @@
 //! Every function answers for any words, numbers and bytes: what is wrong is refused.
 //!
 //! ```
-//! use swartabelk::{binary, Answer, BinaryOp, SCALARS};
+//! use swartabelk::lent::{binary, Answer, SCALARS};
+//! use swartabelk::BinaryOp;
 //!
 //! let mut words = [0; 1024];
 //! words[..28].copy_from_slice(&SCALARS);
@@ -17,94 +18,14 @@
 //! let sum = binary(&mut words, 7, BinaryOp::Plus as u32, 1, 5);
 //! assert_eq!(sum, Answer::Type { number: 5, running: false, used: 7 });
 //! ```
-#![warn(missing_docs)]
+use core::fmt;
 
-mod raw;
+use crate::{raw, Profile, Reason, CEILING, STRIDE};
 
 /// The seven scalars, as a table begins: bool, AbstractInt, AbstractFloat, i32, u32, f32, f16.
 pub const SCALARS: [u32; 28] = [
     0, 0, 0, 0, 1, 0, 0, 0, 2, 0, 0, 0, 3, 0, 0, 0, 4, 0, 0, 0, 5, 0, 0, 0, 6, 0, 0, 0,
 ];
-
-/// The unary operators, by their numbers.
-#[derive(Clone, Copy, Debug, PartialEq, Eq)]
-#[repr(u32)]
-pub enum UnaryOp {
-    /// `!`
-    Not = 0,
-    /// `-`
-    Negate = 1,
-    /// `~`
-    Complement = 2,
-    /// `&`
-    AddressOf = 3,
-    /// `*`
-    Indirection = 4,
-}
-
-/// The binary operators, by their numbers.
-#[derive(Clone, Copy, Debug, PartialEq, Eq)]
-#[repr(u32)]
-pub enum BinaryOp {
-    /// `||`
-    Or = 0,
-    /// `&&`
-    And = 1,
-    /// `+`
-    Plus = 2,
-    /// `-`
-    Minus = 3,
-    /// `*`
-    Times = 4,
-    /// `/`
-    Over = 5,
-    /// `%`
-    Remainder = 6,
-    /// `==`
-    Equal = 7,
-    /// `!=`
-    Unequal = 8,
-    /// `<`
-    Less = 9,
-    /// `<=`
-    LessEqual = 10,
-    /// `>`
-    Greater = 11,
-    /// `>=`
-    GreaterEqual = 12,
-    /// `|`
-    BitOr = 13,
-    /// `&`
-    BitAnd = 14,
-    /// `^`
-    BitXor = 15,
-    /// `<<`
-    ShiftLeft = 16,
-    /// `>>`
-    ShiftRight = 17,
-}
-
-/// The profile of a call or of a sheet, by its number: which builtins there are. Any number but those of the two constants is an unknown profile, in which
-/// every call is refused with [`Reason::Unknown`], and so is every sheet, at place 0.
-///
-/// ```
-/// use swartabelk::{call, Answer, Profile, Reason, Refusal, SCALARS};
-///
-/// let mut words = SCALARS;
-/// let elected = Answer::Type { number: 0, running: true, used: 7 };
-/// assert_eq!(call(&mut words, 7, Profile::SUBGROUPS, b"subgroupElect", &[], &[]), elected);
-/// let unknown = Answer::Refused(Refusal { reason: Reason::Unknown, place: 0, used: 7, lacking: 0 });
-/// assert_eq!(call(&mut words, 7, Profile::BASE, b"subgroupElect", &[], &[]), unknown);
-/// ```
-#[derive(Clone, Copy, Debug, PartialEq, Eq)]
-pub struct Profile(pub u32);
-
-impl Profile {
-    /// The builtins without those of subgroups and quads.
-    pub const BASE: Profile = Profile(0);
-    /// These, and the subgroup and quad builtins.
-    pub const SUBGROUPS: Profile = Profile(1);
-}
 
 /// An operand: the number of its type, and a mark. It is const, a const-expression, or running, known only when running. Where an operand is running, an overload of
 /// which another parameter is abstract is left out; so `select(1, 2, flag)` is AbstractInt where the flag is const, and i32 where it is running.
@@ -112,7 +33,8 @@ impl Profile {
 /// A number is made an operand by `into`, and is a const one then.
 ///
 /// ```
-/// use swartabelk::{call, Answer, Operand, Profile, SCALARS};
+/// use swartabelk::lent::{call, Answer, Operand, SCALARS};
+/// use swartabelk::Profile;
 ///
 /// let mut words = SCALARS;
 /// let mut select = |flag| call(&mut words, 7, Profile::BASE, b"select", &[], &[1.into(), 1.into(), flag]);
@@ -160,64 +82,6 @@ const fn unmarked(number: u32) -> u32 {
     }
 }
 
-/// Why a call is refused, by its number.
-#[derive(Clone, Copy, Debug, PartialEq, Eq)]
-#[repr(u32)]
-pub enum Reason {
-    /// The table is not sound, or the slice is shorter than four times the count.
-    Unsound = 1,
-    /// A type number that is not below the count.
-    NoSuchType = 2,
-    /// A reference offered, but to unary `&`.
-    Reference = 3,
-    /// An unknown operator, builtin or head; a name outside the profile, or an unknown profile.
-    Unknown = 4,
-    /// A template list or an entry that is wrong, missing or not wanted.
-    Template = 5,
-    /// An array's count.
-    Count = 6,
-    /// A wrong number of operands.
-    Operands = 7,
-    /// No overload fits.
-    NoOverload = 8,
-    /// The result is absent, and the slice or 256 leaves too little room: [`Refusal::lacking`] tells how much.
-    NoRoom = 9,
-    /// A sheet's header, framing, kind or payload length.
-    Framing = 10,
-    /// The stack is short, a 65th value, or a wrong end.
-    Stack = 11,
-    /// The spelling is longer than the output.
-    TooLong = 12,
-    /// An operand that is known only when running and is abstract at any depth.
-    RunningAbstract = 14,
-}
-
-impl Reason {
-    /// The reason of a refusal's number.
-    pub fn of(number: u32) -> Option<Reason> {
-        Some(match number {
-            1 => Reason::Unsound,
-            2 => Reason::NoSuchType,
-            3 => Reason::Reference,
-            4 => Reason::Unknown,
-            5 => Reason::Template,
-            6 => Reason::Count,
-            7 => Reason::Operands,
-            8 => Reason::NoOverload,
-            9 => Reason::NoRoom,
-            10 => Reason::Framing,
-            11 => Reason::Stack,
-            12 => Reason::TooLong,
-            14 => Reason::RunningAbstract,
-            _ => return None,
-        })
-    }
-}
-
-/// The most entries that a table has, and the words of one.
-const CEILING: usize = 256;
-const STRIDE: usize = 4;
-
 /// A refusal: why, at which place of a sheet, the count of entries as it stands, and how many entries lack.
 #[derive(Clone, Copy, Debug, PartialEq, Eq)]
 pub struct Refusal {
@@ -237,7 +101,8 @@ impl Refusal {
     /// one may want more.
     ///
     /// ```
-    /// use swartabelk::{call, Answer, Profile, SCALARS};
+    /// use swartabelk::lent::{call, Answer, SCALARS};
+    /// use swartabelk::Profile;
     ///
     /// let mut words = SCALARS.to_vec();
     /// let answer = loop {
@@ -258,6 +123,40 @@ impl Refusal {
         (self.reason == Reason::NoRoom && entries <= CEILING).then_some(STRIDE * entries)
     }
 }
+
+/// The reason in words and its number, the place where it is not 0, and what lacks.
+///
+/// ```
+/// use swartabelk::{lent::Refusal, Reason};
+///
+/// let refusal = Refusal { reason: Reason::NoRoom, place: 9, used: 256, lacking: 2 };
+/// let words = "the result is a new type, and the table has no room for it: 2 entries lack (refusal 9 at 9)";
+/// assert_eq!(refusal.to_string(), words);
+/// ```
+impl fmt::Display for Refusal {
+    fn fmt(&self, f: &mut fmt::Formatter<'_>) -> fmt::Result {
+        self.told(f, (self.place != 0).then_some(self.place))
+    }
+}
+
+impl Refusal {
+    /// It in words, with this place or none.
+    pub(crate) fn told(&self, f: &mut fmt::Formatter<'_>, place: Option<u32>) -> fmt::Result {
+        write!(f, "{}", self.reason)?;
+        match self.lacking {
+            0 => {}
+            1 => write!(f, ": 1 entry lacks")?,
+            n => write!(f, ": {n} entries lack")?,
+        }
+        match place {
+            None => write!(f, " (refusal {})", self.reason as u32),
+            Some(place) => write!(f, " (refusal {} at {place})", self.reason as u32),
+        }
+    }
+}
+
+#[cfg(feature = "std")]
+impl std::error::Error for Refusal {}
 
 /// What a call answers.
 #[derive(Clone, Copy, Debug, PartialEq, Eq)]
@@ -284,7 +183,8 @@ impl Answer {
     /// The value as an operand of another call; `None` where there is none.
     ///
     /// ```
-    /// use swartabelk::{binary, call, Answer, BinaryOp, Profile, SCALARS};
+    /// use swartabelk::lent::{binary, call, Answer, SCALARS};
+    /// use swartabelk::{BinaryOp, Profile};
     ///
     /// let mut words = SCALARS;
     /// // A derivative is running, whatever its operand is.
@@ -305,36 +205,8 @@ impl Answer {
     }
 }
 
-/// A template's argument.
-#[derive(Clone, Copy, Debug, PartialEq, Eq)]
-pub enum Argument {
-    /// A type, by its number.
-    Type(u32),
-    /// A literal of AbstractInt.
-    AbstractInt(i64),
-    /// A literal of i32.
-    I32(i32),
-    /// A literal of u32.
-    U32(u32),
-    /// Another literal.
-    Other,
-}
-
-impl Argument {
-    /// The tag and the value, as [`template`] takes them.
-    pub const fn pair(self) -> [i64; 2] {
-        match self {
-            Argument::Type(number) => [0, number as i64],
-            Argument::AbstractInt(value) => [1, value],
-            Argument::I32(value) => [2, value as i64],
-            Argument::U32(value) => [3, value as i64],
-            Argument::Other => [4, 0],
-        }
-    }
-}
-
 fn refusal(number: u32, place: u32, used: u32, lacking: u32) -> Refusal {
-    let reason = Reason::of(number).expect("a refusal of the library");
+    let reason = Reason::of(number).expect("the library gives no other refusal");
     Refusal {
         reason,
         place,
@@ -382,7 +254,8 @@ pub fn check(words: &[u32], used: u32) -> Answer {
 /// kind, or whose elem is not below `used`, is refused with [`Reason::Template`]. A scalar's kind with 0 for the rest is that scalar. The value is const.
 ///
 /// ```
-/// use swartabelk::{call, enter, Answer, Operand, Profile, SCALARS};
+/// use swartabelk::lent::{call, enter, Answer, Operand, SCALARS};
+/// use swartabelk::Profile;
 ///
 /// let mut words = [0; 1024];
 /// words[..28].copy_from_slice(&SCALARS);
@@ -449,7 +322,7 @@ pub fn call(
     })
 }
 
-/// The type of a head with template arguments, entered if absent. `args` are pairs of a tag and a value: [`Argument::pair`] makes one.
+/// The type of a head with template arguments, entered if absent. `args` are pairs of a tag and a value: [`Argument::pair`](crate::Argument::pair) makes one.
 pub fn template(words: &mut [u32], used: u32, head: &[u8], args: &[i64]) -> Answer {
     // SAFETY: as above.
     answer(unsafe {

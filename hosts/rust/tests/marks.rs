@@ -1,8 +1,8 @@
 //! Document 02's "Known early, or only when running": overloads that a running operand leaves out, marks of results, refusal 14, and sheets of version 2.
-use swartabelk::{
-    binary, call, sheet, spell, template, unary, Answer, BinaryOp, Operand, Profile, Reason,
-    Refusal, UnaryOp, SCALARS,
+use swartabelk::lent::{
+    binary, call, sheet, spell, template, unary, Answer, Operand, Refusal, SCALARS,
 };
+use swartabelk::{BinaryOp, Profile, Reason, UnaryOp};
 
 const BOOL: u32 = 0;
 const ABSTRACT_INT: u32 = 1;
@@ -419,7 +419,10 @@ fn version_1_keeps_no_mark() {
         runs(I32)
     );
     assert_eq!(
-        run(1, &[&[2, 1, 1, 2, 1, PTR_ARRAY as u8], &shifted[..]].concat()),
+        run(
+            1,
+            &[&[2, 1, 1, 2, 1, PTR_ARRAY as u8], &shifted[..]].concat()
+        ),
         is(ABSTRACT_INT)
     );
     let slope = b"\x06\x04\x01dpdx";

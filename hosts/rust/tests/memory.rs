@@ -1,8 +1,8 @@
 //! Document 02's "Atomic calls": a type that a host enters, the twelve calls on memory, the type that a compare gives, and sheets that call them.
-use swartabelk::{
-    binary, check, enter, sheet, spell, unary, Answer, BinaryOp, Operand, Profile, Reason, Refusal,
-    UnaryOp, SCALARS,
+use swartabelk::lent::{
+    binary, check, enter, sheet, spell, unary, Answer, Operand, Refusal, SCALARS,
 };
+use swartabelk::{BinaryOp, Profile, Reason, UnaryOp};
 use Reason::{NoOverload, NoSuchType, Operands, Reference, RunningAbstract, Template, Unknown};
 
 const BOOL: u32 = 0;
@@ -199,7 +199,7 @@ fn table(entries: &[[u32; 4]], room: usize) -> Vec<u32> {
 fn call(profile: Profile, name: &str, tplt: &[u32], args: &[Operand]) -> Answer {
     let mut words = table(&ENTRIES, 256);
     let before = words.clone();
-    let answer = swartabelk::call(&mut words, TYPES, profile, name.as_bytes(), tplt, args);
+    let answer = swartabelk::lent::call(&mut words, TYPES, profile, name.as_bytes(), tplt, args);
     assert_eq!(words, before, "{name}");
     answer
 }
@@ -436,7 +436,7 @@ fn the_type_of_a_compare() {
         ];
         let compare = |words: &mut [u32], used, value: Operand| {
             let args = operands(8.into(), 2, value);
-            swartabelk::call(words, used, Profile::BASE, COMPARE.as_bytes(), &[], &args)
+            swartabelk::lent::call(words, used, Profile::BASE, COMPARE.as_bytes(), &[], &args)
         };
         let mut tight = table(&entries, 9);
         let before = tight.clone();
@@ -461,7 +461,7 @@ fn the_type_of_a_compare() {
     let args = operands(8.into(), 2, I32.into());
     let mut words = table(&entries, 300);
     let compare = |words: &mut [u32]| {
-        swartabelk::call(words, 256, Profile::BASE, COMPARE.as_bytes(), &[], &args)
+        swartabelk::lent::call(words, 256, Profile::BASE, COMPARE.as_bytes(), &[], &args)
     };
     assert_eq!(compare(&mut words), lacks(0, 256));
     entries[248] = [EXCHANGE, 0, 0, I32];
@@ -578,7 +578,7 @@ fn a_counter() {
     let mut on = |name: &str, args: &[Operand]| {
         let args = [&[pointer], args].concat();
         let name = name.as_bytes();
-        swartabelk::call(&mut words, 10, Profile::BASE, name, &[], &args)
+        swartabelk::lent::call(&mut words, 10, Profile::BASE, name, &[], &args)
     };
     let was = on("atomicAdd", &[ABSTRACT_INT.into()]);
     assert_eq!(was, runs(U32, 10));

@@ -1,5 +1,6 @@
 //! Document 02's profiles: the names of profile 1, unknown profiles, the 65th value of a call, and a table without room.
-use swartabelk::{sheet, Answer, Operand, Profile, Reason, Refusal, SCALARS};
+use swartabelk::lent::{sheet, Answer, Operand, Refusal, SCALARS};
+use swartabelk::{Profile, Reason};
 
 const BOOL: u32 = 0;
 const ABSTRACT_INT: u32 = 1;
@@ -95,7 +96,7 @@ fn call(
     args: &[u32],
 ) -> Answer {
     let args: Vec<Operand> = args.iter().map(|a| (*a).into()).collect();
-    swartabelk::call(words, used, profile, name, tplt, &args)
+    swartabelk::lent::call(words, used, profile, name, tplt, &args)
 }
 
 /// A const value.

@@ -1,8 +1,8 @@
 //! Every function, held to document 01: its worked sheets, its sixteen cases, and the refusals 1 to 12.
-use swartabelk::{
-    binary, call_name, check, sheet, spell, template, unary, Answer, Argument, BinaryOp, Operand,
-    Profile, Reason, Refusal, UnaryOp, SCALARS,
+use swartabelk::lent::{
+    binary, call_name, check, sheet, spell, template, unary, Answer, Operand, Refusal, SCALARS,
 };
+use swartabelk::{Argument, BinaryOp, Profile, Reason, UnaryOp};
 
 const BOOL: u32 = 0;
 const ABSTRACT_INT: u32 = 1;
@@ -39,7 +39,7 @@ fn call(
     args: &[u32],
 ) -> Answer {
     let args: Vec<Operand> = args.iter().map(|a| (*a).into()).collect();
-    swartabelk::call(words, used, profile, name, tplt, &args)
+    swartabelk::lent::call(words, used, profile, name, tplt, &args)
 }
 
 /// A const value.

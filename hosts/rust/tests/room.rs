@@ -1,8 +1,6 @@
 //! Document 02's "How much room is missing": for want of room how many entries lack; a slice that is longer by so many has room, and one that is longer by less has not.
-use swartabelk::{
-    binary, sheet, spell, template, unary, Answer, Argument, BinaryOp, Operand, Profile, Reason,
-    Refusal, UnaryOp, SCALARS,
-};
+use swartabelk::lent::{binary, sheet, spell, template, unary, Answer, Operand, Refusal, SCALARS};
+use swartabelk::{Argument, BinaryOp, Profile, Reason, UnaryOp};
 
 const ABSTRACT_INT: u32 = 1;
 const ABSTRACT_FLOAT: u32 = 2;
@@ -57,7 +55,7 @@ fn call(
     args: &[u32],
 ) -> Answer {
     let args: Vec<Operand> = args.iter().map(|a| (*a).into()).collect();
-    swartabelk::call(words, used, profile, name, tplt, &args)
+    swartabelk::lent::call(words, used, profile, name, tplt, &args)
 }
 
 /// A const value.

@@ -1,10 +1,10 @@
 //! A sheet does what the single calls do, item by item: made-up sheets of pushes, takes, operators and calls, of which many meet the same operands again, some in a slice
 //! with little room. A take is the entering of its entry, and a call without value is the last item or is refused. In version 2 it does so by the marks of its values, in version 1 all of them are const. And what it does in profile 0 it does in profile 1 too, but
 //! where profile 0 lacks a name.
-use swartabelk::{
-    binary, call, call_name, enter, sheet, unary, Answer, Operand, Profile, Reason, Refusal,
-    SCALARS,
+use swartabelk::lent::{
+    binary, call, call_name, enter, sheet, unary, Answer, Operand, Refusal, SCALARS,
 };
+use swartabelk::{Profile, Reason};
 
 /// The stack's values, and the bytes that a sheet may have after its header.
 const VALUES: usize = 64;
