@@ -27,7 +27,7 @@
  * lies apart from all other memory that is lent to the same call. A pointer is not NULL, even where its length is 0: any other pointer will do then.
  * A length in bytes is below 2 to the 63.
  *
- * Stack: swartabelk_spell needs SWARTABELK_STACK_SPELL bytes of it, every other function SWARTABELK_STACK. Heap: none.
+ * Stack: swartabelk_spell and swartabelk_why_* need SWARTABELK_STACK_SPELL bytes of it, every other function SWARTABELK_STACK. Heap: none.
  */
 #ifndef SWARTABELK_H
 #define SWARTABELK_H

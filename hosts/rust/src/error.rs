@@ -1,4 +1,5 @@
 //! The error of a [`Table`](crate::Table).
+use alloc::string::String;
 use core::fmt;
 
 use crate::lent::Refusal;
@@ -16,11 +17,24 @@ use crate::Reason;
 /// assert_eq!(error.to_string(), "no overload takes operands of these types (refusal 8 at 9)");
 /// ```
 ///
+/// Where no overload fits, it tells of each overload why not, by [`Error::why`], and by `{:#}` behind the line that `{}` writes:
+///
+/// ```
+/// use swartabelk::{BinaryOp, Table, Type};
+///
+/// let error = Table::new().binary(BinaryOp::Or, Type::BOOL, Type::F32).unwrap_err();
+/// assert_eq!(error.why(), "(bool, bool): operand 2 is f32\n");
+/// let words = "no overload takes operands of these types (refusal 8)";
+/// assert_eq!(format!("{error}"), words);
+/// assert_eq!(format!("{error:#}"), format!("{words}\n(bool, bool): operand 2 is f32"));
+/// ```
+///
 /// With the feature `std` it is a `std::error::Error`.
 #[derive(Clone, PartialEq, Eq)]
 pub struct Error {
     refusal: Refusal,
     in_sheet: bool,
+    why: String,
 }
 
 impl Error {
@@ -29,15 +43,21 @@ impl Error {
         Error {
             refusal,
             in_sheet: false,
+            why: String::new(),
         }
     }
 
     /// The error of a sheet.
     pub(crate) fn of_sheet(refusal: Refusal) -> Error {
         Error {
-            refusal,
             in_sheet: true,
+            ..Error::of_call(refusal)
         }
+    }
+
+    /// The same with its reason text.
+    pub(crate) fn because(self, why: String) -> Error {
+        Error { why, ..self }
     }
 
     /// Why.
@@ -58,13 +78,23 @@ impl Error {
     pub const fn lacking(&self) -> usize {
         self.refusal.lacking as usize
     }
+
+    /// For [`Reason::NoOverload`] a line for each overload of the operator or builtin, of a sheet that of the refused item: its parameters, and the first operand that
+    /// does not convert; or the one line of a rule that has no list, as that of a pointer. Else nothing.
+    pub fn why(&self) -> &str {
+        &self.why
+    }
 }
 
-/// The reason in words, its number, and the place of a sheet.
+/// The reason in words, its number, and the place of a sheet. By `{:#}` the lines of [`Error::why`] follow.
 impl fmt::Display for Error {
     fn fmt(&self, f: &mut fmt::Formatter<'_>) -> fmt::Result {
         let place = self.in_sheet.then_some(self.refusal.place);
-        self.refusal.told(f, place)
+        self.refusal.told(f, place)?;
+        if f.alternate() && !self.why.is_empty() {
+            write!(f, "\n{}", self.why.trim_end())?;
+        }
+        Ok(())
     }
 }
 

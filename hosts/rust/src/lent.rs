@@ -367,11 +367,102 @@ pub fn spell(words: &[u32], used: u32, number: u32, out: &mut [u8]) -> Result<us
             out.len(),
         )
     };
+    length(r)
+}
+
+/// The length of a text that was written, or why none was. A text enters nothing, so that nothing lacks.
+fn length(r: raw::Spelled) -> Result<usize, Refusal> {
     match r.refusal {
         0 => Ok(r.length as usize),
-        // A spelling enters nothing, so that nothing lacks.
         number => Err(refusal(number, r.place, r.used, 0)),
     }
+}
+
+/// Writes why a unary operator is refused with [`Reason::NoOverload`], or which overload it chose, to the front of `out`, in lines, and gives the length. A call that is
+/// refused with another reason is refused with that one, and a text that is longer than `out` with [`Reason::TooLong`]; then nothing is written.
+///
+/// ```
+/// use swartabelk::lent::{why_unary, SCALARS};
+/// use swartabelk::UnaryOp;
+///
+/// let mut out = [0; 100];
+/// let length = why_unary(&SCALARS, 7, UnaryOp::Indirection as u32, 5, &mut out).unwrap();
+/// assert_eq!(&out[..length], b"operand 1 is f32, wanted is a pointer\n");
+/// ```
+pub fn why_unary(
+    words: &[u32],
+    used: u32,
+    op: u32,
+    a: impl Into<Operand>,
+    out: &mut [u8],
+) -> Result<usize, Refusal> {
+    let Operand(a) = a.into();
+    // SAFETY: as above.
+    length(unsafe {
+        raw::swartabelk_why_unary(
+            words.as_ptr(),
+            words.len(),
+            used,
+            op,
+            a,
+            out.as_mut_ptr(),
+            out.len(),
+        )
+    })
+}
+
+/// The same of a binary operator.
+pub fn why_binary(
+    words: &[u32],
+    used: u32,
+    op: u32,
+    a: impl Into<Operand>,
+    b: impl Into<Operand>,
+    out: &mut [u8],
+) -> Result<usize, Refusal> {
+    let (Operand(a), Operand(b)) = (a.into(), b.into());
+    // SAFETY: as above.
+    length(unsafe {
+        raw::swartabelk_why_binary(
+            words.as_ptr(),
+            words.len(),
+            used,
+            op,
+            a,
+            b,
+            out.as_mut_ptr(),
+            out.len(),
+        )
+    })
+}
+
+/// The same of a call of a builtin.
+pub fn why_call(
+    words: &[u32],
+    used: u32,
+    profile: Profile,
+    name: &[u8],
+    tplt: &[u32],
+    args: &[Operand],
+    out: &mut [u8],
+) -> Result<usize, Refusal> {
+    // SAFETY: as above.
+    length(unsafe {
+        raw::swartabelk_why_call(
+            words.as_ptr(),
+            words.len(),
+            used,
+            profile.0,
+            name.as_ptr(),
+            name.len(),
+            tplt.as_ptr(),
+            tplt.len(),
+            args.as_ptr().cast(),
+            args.len(),
+            out.as_mut_ptr(),
+            out.len(),
+        )
+    })
 }
 
 /// The name of the call whose item begins at a place of the sheet, as that part of it; empty where no well-framed call begins there.

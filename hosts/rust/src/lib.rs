@@ -21,14 +21,15 @@
 //! # }
 //! ```
 //!
-//! What WGSL does not allow is an [`Error`]. It has the [`Reason`], and says it in words.
+//! What WGSL does not allow is an [`Error`]. It has the [`Reason`], and says it in words; where no overload fits, it says of each why not.
 //!
 //! ```
 //! use swartabelk::{BinaryOp, Reason, Table, Type};
 //!
-//! let error = Table::new().binary(BinaryOp::Less, Type::BOOL, Type::BOOL).unwrap_err();
+//! let error = Table::new().binary(BinaryOp::Or, Type::BOOL, Type::F32).unwrap_err();
 //! assert_eq!(error.reason(), Reason::NoOverload);
 //! assert_eq!(error.to_string(), "no overload takes operands of these types (refusal 8)");
+//! assert_eq!(error.why(), "(bool, bool): operand 2 is f32\n");
 //! ```
 //!
 //! A host that lends its own words, with no allocator, say, has the same by the functions of [`lent`].
@@ -59,6 +60,8 @@ mod error;
 pub mod lent;
 mod raw;
 mod rules;
+#[cfg(feature = "alloc")]
+mod run;
 #[cfg(feature = "alloc")]
 mod table;
 

@@ -92,4 +92,37 @@ extern "C" {
         out_len: usize,
     ) -> Spelled;
     pub fn swartabelk_call_name(sheet: *const u8, sheet_len: usize, place: usize) -> Part;
+    pub fn swartabelk_why_unary(
+        words: *const u32,
+        words_len: usize,
+        used: u32,
+        op: u32,
+        a: u32,
+        out: *mut u8,
+        out_len: usize,
+    ) -> Spelled;
+    pub fn swartabelk_why_binary(
+        words: *const u32,
+        words_len: usize,
+        used: u32,
+        op: u32,
+        a: u32,
+        b: u32,
+        out: *mut u8,
+        out_len: usize,
+    ) -> Spelled;
+    pub fn swartabelk_why_call(
+        words: *const u32,
+        words_len: usize,
+        used: u32,
+        profile: u32,
+        name: *const u8,
+        name_len: usize,
+        tplt: *const u32,
+        tplt_len: usize,
+        args: *const u32,
+        args_len: usize,
+        out: *mut u8,
+        out_len: usize,
+    ) -> Spelled;
 }

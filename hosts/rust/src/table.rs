@@ -5,6 +5,7 @@ use alloc::vec::Vec;
 use core::fmt;
 
 use crate::lent::{self, Answer, Operand, Refusal};
+use crate::run::{Call, Run};
 use crate::{Access, Argument, BinaryOp, Error, Profile, Reason, Space, UnaryOp, CEILING, STRIDE};
 
 /// A type of a [`Table`]. But for the seven scalars, which every table has, only a table gives types out, and each stands in the table that gave it out.
@@ -411,9 +412,10 @@ impl Table {
     /// # }
     /// ```
     pub fn unary(&mut self, op: UnaryOp, a: impl Into<Value>) -> Result<Value, Error> {
-        let Value(a) = a.into();
-        let answer = lent::unary(&mut self.words, self.used, op as u32, a);
+        let (op, Value(a)) = (op as u32, a.into());
+        let answer = lent::unary(&mut self.words, self.used, op, a);
         self.value(answer)
+            .map_err(|e| self.because(e, Call::Unary(op, a)))
     }
 
     /// The value of a binary operator.
@@ -434,9 +436,10 @@ impl Table {
         a: impl Into<Value>,
         b: impl Into<Value>,
     ) -> Result<Value, Error> {
-        let (Value(a), Value(b)) = (a.into(), b.into());
-        let answer = lent::binary(&mut self.words, self.used, op as u32, a, b);
+        let (op, Value(a), Value(b)) = (op as u32, a.into(), b.into());
+        let answer = lent::binary(&mut self.words, self.used, op, a, b);
         self.value(answer)
+            .map_err(|e| self.because(e, Call::Binary(op, a, b)))
     }
 
     /// The value of a call of a builtin; `None` for the barriers and `atomicStore`, which have none.
@@ -474,15 +477,12 @@ impl Table {
         template: &[Type],
         args: &[Value],
     ) -> Result<Option<Value>, Error> {
-        let answer = lent::call(
-            &mut self.words,
-            self.used,
-            self.profile,
-            name.as_bytes(),
-            numbers(template),
-            operands(args),
-        );
-        self.took(answer).map_err(Error::of_call)
+        let (name, template, args) = (name.as_bytes(), numbers(template), operands(args));
+        let words = &mut self.words;
+        let answer = lent::call(words, self.used, self.profile, name, template, args);
+        self.took(answer).map_err(|refusal| {
+            self.because(Error::of_call(refusal), Call::Named(name, template, args))
+        })
     }
 
     /// The value of a whole sheet; `None` where it ends with a call that has none. What its accepted items entered stays, also where a later item is refused.
@@ -500,7 +500,20 @@ impl Table {
     /// ```
     pub fn sheet(&mut self, sheet: &[u8]) -> Result<Option<Value>, Error> {
         let answer = lent::sheet(&mut self.words, self.used, self.profile, sheet);
-        self.took(answer).map_err(Error::of_sheet)
+        self.took(answer).map_err(|refusal| {
+            let error = Error::of_sheet(refusal);
+            if refusal.reason != Reason::NoOverload {
+                return error;
+            }
+            let mut run = Run::new(self, sheet);
+            let Some(operands) = run.to(refusal.place as usize) else {
+                return error;
+            };
+            match run.call(&operands) {
+                Some(call) => self.because(error, call),
+                None => error,
+            }
+        })
     }
 
     /// The spelling of a type.
@@ -546,6 +559,34 @@ impl Table {
                     out.resize(80 * self.entries(), 0);
                 }
                 Err(_) => panic!("{ANOTHER_TABLES}"),
+            }
+        }
+    }
+
+    /// An error with the reason text of the call that gave it, where that has one.
+    fn because(&self, error: Error, call: Call) -> Error {
+        if error.reason() != Reason::NoOverload {
+            return error;
+        }
+        // Most texts are shorter than that; the longest has more than a million bytes.
+        let mut out = vec![0; 4096];
+        loop {
+            let (words, used) = (&self.words, self.used);
+            let written = match call {
+                Call::Unary(op, a) => lent::why_unary(words, used, op, a, &mut out),
+                Call::Binary(op, a, b) => lent::why_binary(words, used, op, a, b, &mut out),
+                Call::Named(name, template, args) => {
+                    lent::why_call(words, used, self.profile, name, template, args, &mut out)
+                }
+            };
+            match written {
+                Ok(length) => {
+                    out.truncate(length);
+                    return error.because(String::from_utf8(out).expect("a reason is ASCII"));
+                }
+                Err(refusal) if refusal.reason == Reason::TooLong => out.resize(2 * out.len(), 0),
+                // No other call is asked about than one that was refused with 8.
+                Err(_) => return error,
             }
         }
     }

@@ -1,8 +1,11 @@
 //! 100,000 made-up sheets: what the table says of a sheet is what a machine of ours says, which frames the bytes itself and types each item by a single call.
 //!
 //! All kinds of items, both versions, both profiles and an unknown one, tables with much room and with little; one sheet in eight has bytes that were changed,
-//! cut off or added afterwards. The answer, its mark, place and count and what lacks are compared, and every word of the table.
-use swartabelk::lent::{binary, call, enter, sheet, unary, Answer, Operand, Refusal, SCALARS};
+//! cut off or added afterwards. The answer, its mark, place and count and what lacks are compared, and every word of the table; where no overload fits, the reason text too.
+use swartabelk::lent::{
+    binary, call, enter, sheet, unary, why_binary, why_call, why_unary, Answer, Operand, Refusal,
+    SCALARS,
+};
 use swartabelk::{Profile, Reason, Table};
 
 const SHEETS: u64 = 100_000;
@@ -75,6 +78,8 @@ struct Machine {
     stack: Vec<Operand>,
     marks: bool,
     profile: Profile,
+    /// The operands of the operator or call that was typed last.
+    asked: Vec<Operand>,
 }
 
 /// A refusal of an item: the reason, and what lacks.
@@ -181,6 +186,8 @@ impl Machine {
         };
         let mut next = self.clone();
         let operands = next.stack.split_off(below);
+        self.asked.clone_from(&operands);
+        next.asked.clone_from(&operands);
         let answer = single(&mut next, &operands);
         // A 65th value comes before want of room.
         let value = match next.took(answer) {
@@ -256,6 +263,35 @@ impl Machine {
     }
 }
 
+/// A text that is written to lent bytes, with as many of them as it wants.
+fn written(write: impl Fn(&mut [u8]) -> Result<usize, Refusal>) -> String {
+    let mut out = vec![0; 1024];
+    loop {
+        match write(&mut out) {
+            Ok(length) => return String::from_utf8(out[..length].to_vec()).expect("ASCII"),
+            Err(refusal) => assert_eq!(refusal.reason, Reason::TooLong),
+        }
+        out.resize(4 * out.len(), 0);
+    }
+}
+
+impl Machine {
+    /// Why the item at a place, which was typed last, has no overload that fits.
+    fn why(&self, bytes: &[u8], place: usize) -> String {
+        let (w, n, a) = (&self.words, self.used, &self.asked[..]);
+        let item = &bytes[place + 1..place + 1 + usize::from(bytes[place])];
+        written(|out| match (item[0], &item[1..]) {
+            (UNARY, &[op]) => why_unary(w, n, op.into(), a[0], out),
+            (BINARY, &[op]) => why_binary(w, n, op.into(), a[0], a[1], out),
+            (CALL, [_, name @ ..]) => why_call(w, n, self.profile, name, &[], a, out),
+            (CALL_TEMPLATE, &[t, _, ref name @ ..]) => {
+                why_call(w, n, self.profile, name, &[t.into()], a, out)
+            }
+            _ => panic!("no other item has overloads"),
+        })
+    }
+}
+
 // The sheets.
 
 /// After the scalars, in every other table: vectors, matrices, arrays, atomics, pointers and references, so that most calls have operands.
@@ -300,6 +336,7 @@ fn start(dice: &mut Dice) -> Machine {
         stack: Vec::new(),
         marks: dice.one_in(2),
         profile,
+        asked: Vec::new(),
     }
 }
 
@@ -528,7 +565,7 @@ fn amiss(dice: &mut Dice, bytes: &mut Vec<u8>) {
 }
 
 /// What a table says of a sheet, as an answer of lent words: the machine's table, as far as it has entries, in a [`Table`] with the same room.
-fn by_table(from: &Machine, bytes: &[u8]) -> (Answer, Vec<u32>) {
+fn by_table(from: &Machine, bytes: &[u8]) -> (Answer, Vec<u32>, String) {
     let whole =
         Table::from_words(&from.words[..4 * from.used as usize]).expect("the table is sound");
     let mut table = Table::with_entries(from.words.len() / 4).with_profile(from.profile);
@@ -537,6 +574,7 @@ fn by_table(from: &Machine, bytes: &[u8]) -> (Answer, Vec<u32>) {
     }
     let said = table.sheet(bytes);
     let used = table.entries() as u32;
+    let mut why = String::new();
     let answer = match said {
         Ok(Some(value)) => Answer::Type {
             number: value.ty().number(),
@@ -546,6 +584,7 @@ fn by_table(from: &Machine, bytes: &[u8]) -> (Answer, Vec<u32>) {
         Ok(None) => Answer::NoValue { used },
         Err(error) => {
             let place = error.place().expect("a sheet's error has a place") as u32;
+            why.push_str(error.why());
             Answer::Refused(Refusal {
                 reason: error.reason(),
                 place,
@@ -556,7 +595,7 @@ fn by_table(from: &Machine, bytes: &[u8]) -> (Answer, Vec<u32>) {
     };
     let mut words = table.words().to_vec();
     words.resize(from.words.len(), 0);
-    (answer, words)
+    (answer, words, why)
 }
 
 #[test]
@@ -581,9 +620,15 @@ fn sheets_are_typed_as_by_single_calls() {
             (told, &by_calls.words),
             "sheet {k}: {bytes:?}"
         );
+        let why = match answer {
+            Answer::Refused(r) if r.reason == Reason::NoOverload => {
+                by_calls.why(&bytes, r.place as usize)
+            }
+            _ => String::new(),
+        };
         assert_eq!(
             by_table(&from, &bytes),
-            (answer, words),
+            (answer, words, why),
             "sheet {k}: {bytes:?}"
         );
         match answer {

@@ -270,6 +270,40 @@ fn an_error_says_what_and_where() {
     );
 }
 
+#[test]
+fn an_error_says_why_no_overload_fits() {
+    let mut table = Table::new();
+    let one = table
+        .binary(BinaryOp::Or, Type::BOOL, Type::F32)
+        .unwrap_err();
+    assert_eq!(one.why(), "(bool, bool): operand 2 is f32\n");
+    assert_eq!(
+        format!("{one:#}"),
+        format!("{one}\n(bool, bool): operand 2 is f32")
+    );
+    let rule = table.unary(UnaryOp::Indirection, Type::F32).unwrap_err();
+    assert_eq!(rule.why(), "operand 1 is f32, wanted is a pointer\n");
+    let widths = ["f32", "vec2<f32>", "vec3<f32>", "vec4<f32>"];
+    let lines = widths
+        .map(|t| format!("({t}): operand 1 is f16\n"))
+        .concat();
+    assert_eq!(
+        table.call("dpdx", &[Type::F16.known()]).unwrap_err().why(),
+        lines
+    );
+    // Of a sheet it is the refused item's: f16 is pushed, and dpdx called.
+    let sheet = table
+        .sheet(b"\x01\x00\x0a\x02\x01\x06\x06\x04\x01dpdx")
+        .unwrap_err();
+    assert_eq!((sheet.place(), sheet.why()), (Some(6), &lines[..]));
+    // Other refusals have no such text.
+    assert_eq!(table.call("dpdx", &[]).unwrap_err().why(), "");
+    assert_eq!(
+        format!("{:#}", table.sheet(&[]).unwrap_err()),
+        "the sheet's header or an item is badly framed (refusal 10 at 0)"
+    );
+}
+
 /// Both hosts say the same.
 #[test]
 fn reasons_have_the_words_of_the_header() {
