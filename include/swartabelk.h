@@ -15,7 +15,7 @@
  *    9         an array: p its count, 1 or more; elem no pointer, no reference and no array without count
  *   10         an array without count: elem as in 9
  *   11         an atomic: elem i32 or u32, its component
- *   12  the spelling, or the text that tells why, is longer than the output
+ *   12         a pointer: p its space, 0 function, 1 private, 2 workgroup, 3 uniform, 4 storage; q its access, 0 read, 1 write, 2 read_write;
  *              elem no pointer, no reference and nothing abstract at any depth
  *   13         a reference: the same, or 5 handle as its space
  *   14, 15     the result of frexp, of modf: elem the type of `fract`, a float or a vector of floats
@@ -183,7 +183,7 @@ enum swartabelk_refusal {
     SWARTABELK_REFUSED_NO_ROOM = 9,          /* the result is absent, and the slice or 256 leaves too little room: the reply's `lacking` tells how much */
     SWARTABELK_REFUSED_FRAMING = 10,         /* a sheet's header, framing, kind or payload length */
     SWARTABELK_REFUSED_STACK = 11,           /* the stack of a sheet is short, a 65th value, or a wrong end */
-    SWARTABELK_REFUSED_TOO_LONG = 12,        /* the spelling is longer than the output */
+    SWARTABELK_REFUSED_TOO_LONG = 12,        /* the spelling, or the text that tells why, is longer than the output */
     SWARTABELK_REFUSED_RUNNING_ABSTRACT = 14 /* an operand that is known only when running and is abstract at any depth */
 };
 

@@ -363,6 +363,7 @@ int main(void) {
     rooms();
     marks();
     memory();
+    reasons();
     header_words();
     spellings();
     names();
