@@ -54,7 +54,7 @@ extern "C" {
  * calls on a painted stack, and hosts/test holds each new archive to both (docs/BENCHMARK.md has the figures). These are rounded up, with room for memset and memcpy
  * of the C library, whose first call takes up to 4 KB where it is bound lazily. */
 #define SWARTABELK_STACK 20480
-#define SWARTABELK_STACK_SPELL 40960
+#define SWARTABELK_STACK_SPELL 49152
 
 /* The kinds of an entry. A scalar's kind is its number too, in every table: SWARTABELK_F32 is the type f32. */
 enum swartabelk_kind {
@@ -166,7 +166,7 @@ enum swartabelk_item {
 #define SWARTABELK_PROFILE_BASE 0u
 #define SWARTABELK_PROFILE_SUBGROUPS 1u
 
-/* Why a call is refused. 13 is given to nothing.
+/* Why a call is refused.
  *
  * Where several hold, the first of 1, 2, 4, 5, 6, 7, 3, 14, 8, 9 is given; 2 is asked of the template list before the operands. Of a sheet 1 comes first, then a
  * wrong header, then an unknown profile, then the first item that is refused: 10, then 11 for a short stack, then the order of a call. */

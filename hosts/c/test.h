@@ -67,6 +67,7 @@ void profiles(void);
 void rooms(void);
 void marks(void);
 void memory(void);
+void reasons(void);
 void header_words(void);
 
 #endif

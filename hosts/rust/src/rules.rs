@@ -80,7 +80,7 @@ impl Profile {
     pub const SUBGROUPS: Profile = Profile(1);
 }
 
-/// Why a call is refused, by its number. 13 is no reason's.
+/// Why a call is refused, by its number.
 ///
 /// ```
 /// use swartabelk::Reason;
