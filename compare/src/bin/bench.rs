@@ -386,7 +386,7 @@ fn told() {
     head("told why, ns a call");
     let bool = WType::Scalar(compare::types::Scalar::Bool);
     let operands = [to_rust(&bool), to_rust(&bool)];
-    let (table, _, _) = table_with(&[], 7);
+    let (mut table, _, _) = table_with(&[], 7);
     let number = table.number(&bool);
     let mut out = vec![0u8; 16384];
     let mut rust = || {
