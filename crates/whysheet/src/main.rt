@@ -8,6 +8,16 @@ ghost use mathlib.Core.Path.{_≡_};
 ghost use lib.ListN.{length};
 ghost use Rattle.desk.specs.inner.Code.{Asking};
 
+// Linux starts no program with an argument as long as this.
+const ARGUMENT_ROOM: usize = 131072;
+
+// The profile that the program was started with. An argument that the buffer does not hold counts as an empty one, which is no number.
+fn profile() -> u32 {
+    let mut argument = [0u8; ARGUMENT_ROOM];
+    let n = os::arg(1, &mut argument);
+    arguments::profile_of(os::arg_count(), &argument[..n])
+}
+
 // The pieces that are asked for, each written from the output, which holds any.
 fn write_pieces(words: &[u32], stack: &[u32], q: Query, out: &mut [u8])
     requires { ⌜ Asking q (now stack) (now words) × (length (now out) ≡ 32768) ⌝ }
@@ -23,7 +33,7 @@ fn write_pieces(words: &[u32], stack: &[u32], q: Query, out: &mut [u8])
 
 // The buffer holds more than the longest sheet. A longer input is refused for its header, whatever follows. The output holds any answer's lines.
 fn main() {
-    let profile_no = arguments::profile();
+    let profile_no = profile();
     let mut buffer = io::large_buffer();
     let n = io::read_full(STDIN_FILENO, &mut buffer);
     let mut out = [0u8; lines::ROOM];
