@@ -1,4 +1,6 @@
 // The one answer that every call gives, and the numbers of its refusals.
+#![tactic(auto)]
+
 ghost use Rattle.std.specs.Prelude.{◌≡◌};
 ghost use Rattle.answer.specs.Answer.{reason_no, lacking_of, used_of, has_value, marked_by, Accepted, WithoutValue, RefusedWith};
 

@@ -1,4 +1,6 @@
 // What the programs that read a sheet are started with. The first argument is the profile, in decimal; later ones are not looked at.
+#![tactic(auto)]
+
 ghost use Rattle.std.specs.Prelude.{◌≡◌};
 ghost use Rattle.arguments.specs.Profile.{profile_of};
 

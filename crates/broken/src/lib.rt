@@ -1,4 +1,6 @@
 // The one line of a call refused by a rule that is not listed: the first operand that breaks it, and what is wanted.
+#![tactic(auto)]
+
 ghost use Rattle.std.specs.Prelude.{◌≡◌, true, false, ◌⊎◌, ◌+◌, ◌/◌, ◌<◌, ◌≤◌, length};
 ghost use Rattle.conv.specs.Types.{i32, u32};
 ghost use Rattle.conv.specs.Types.Ty.{scalar};

@@ -1,4 +1,6 @@
 // The result types of builtins, as wgsl-types' `call_ty.rs` has them, by the standard and by the crate's rules.
+#![tactic(auto)]
+
 ghost use Rattle.std.specs.Prelude.{◌≡◌, true, false, cond, List, ◌<◌, ◌≤◌, length};
 ghost use Rattle.names.specs.inner.Table.{numbered, name_table};
 ghost use Rattle.conv.specs.Types.{Ty, is_float};

@@ -1,4 +1,6 @@
 // Casts that lose nothing. A caller learns the value from the promise, and needs no fact of its own.
+#![tactic(auto)]
+
 ghost use Rattle.std.specs.Prelude.{◌≡◌};
 
 // A byte as an index.

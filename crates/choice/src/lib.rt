@@ -1,4 +1,6 @@
 // The chosen overload of a row at operands, by its place in the row's list: that one of the overloads left which is preferred to every other left. Operands are operands' numbers.
+#![tactic(auto)]
+
 ghost use Rattle.std.specs.Prelude.{◌≡◌, ◌≢◌, map, ◌<◌, length};
 ghost use Rattle.conv.specs.Rank.{both};
 ghost use Rattle.overload.specs.Overload.{fits};

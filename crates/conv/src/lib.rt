@@ -1,5 +1,7 @@
 // Conversions between WGSL's types: the board of ranks, and the common type of two plain numbers.
 // Scalars: bool 0, AbstractInt 1, AbstractFloat 2, i32 3, u32 4, f32 5, f16 6. A plain number is a scalar s itself, or 7 * (N - 1) + s for vecN of s.
+#![tactic(auto)]
+
 ghost use Rattle.std.specs.Prelude.{◌≡◌, ◌<◌};
 ghost use Rattle.conv.specs.Rank.{rank_of, plain_rank, common_of};
 

@@ -1,5 +1,7 @@
 // Why the one item of a sheet that is told about came to what it came to, piece by piece. The sheet is run once for its answer, and once more to the item, which is not run: so the stack
 // and the table stand as they did before it. Both are lent.
+#![tactic(auto)]
+
 ghost use Rattle.std.specs.Prelude.{◌≡◌, [], ◌+◌, ◌/◌, ◌<◌, ◌≤◌, length, get_or};
 ghost use Rattle.table.specs.Table.{Sound};
 ghost use Rattle.names.specs.inner.Table.{name_table};

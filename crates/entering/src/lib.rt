@@ -1,4 +1,6 @@
 // Entering: a type that is absent from the table becomes its next entry.
+#![tactic(auto)]
+
 ghost use Rattle.std.specs.Prelude.{◌≡◌, ◌+◌, ◌*◌, ◌≤◌, length};
 ghost use Rattle.table.specs.Table.{stride, scalars, ceiling, put_entry, find_in, Sound};
 ghost use Rattle.table.specs.Enter.{with_scalars, free, container, EnterDone, EnterTwoDone, entry_answer};

@@ -1,4 +1,6 @@
 // The sheet's header and its items. An item is answered by value, with its own place and the place of the next.
+#![tactic(auto)]
+
 ghost use Rattle.std.specs.Prelude.{◌≡◌, ◌+◌, ◌<◌, ◌≤◌, ◌^◌, length, get_or};
 ghost use Rattle.frame.specs.Frame.{version2, known_version, marks, header_size, kind_push, header_ok, be32, still, mark_bytes, mark_after, push_item, take_item, payload_item, item_at, name_part, Within, IsPart};
 ghost use Rattle.frame.specs.inner.Items.{sheet_of, no_short, short_of, in_items, LiesIn};

@@ -1,4 +1,6 @@
 // An operand, and a value of the sheet's stack, as one number: made of a type's number and a mark, and read back.
+#![tactic(auto)]
+
 ghost use Rattle.std.specs.Prelude.{◌≡◌, ◌<◌, ◌^◌};
 ghost use Rattle.held.specs.Held.{value_of, number_of, mark_of};
 

@@ -1,4 +1,6 @@
 // The two lines that the program writes for a sheet.
+#![tactic(auto)]
+
 ghost use Rattle.std.specs.Prelude.{◌≡◌, ◌+◌, ◌*◌, ◌<◌, ◌≤◌};
 ghost use Rattle.table.specs.Table.{Sound};
 ghost use Rattle.text.specs.Text.{decimal, Put, far};

@@ -1,5 +1,7 @@
 // Lists the items of a sheet given on standard input through the reader, one line each: the place of the item, its kind, its numbers and its name, and whether what it
 // pushes is known only when running.
+#![tactic(auto)]
+
 use answer::Place;
 use frame::{HEADER, Item, Placed};
 use libc::{STDIN_FILENO, STDOUT_FILENO};

@@ -1,5 +1,7 @@
 // The overloads of a row, one by one, each by its place in the row's list: families in the row's order, in each of them T by its number, then the size, then the second choice.
 // A place is taken apart by division: no list is made and none is searched.
+#![tactic(auto)]
+
 ghost use Rattle.std.specs.Prelude.{◌≡◌, ◌<◌, length, get_or};
 ghost use Rattle.overload.specs.Rows.{row_at, overloads_of, component_at};
 ghost use Rattle.overload.specs.inner.Code.{family_of, component_of_no, set_of, sizes_of, Word, Starts};

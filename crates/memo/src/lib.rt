@@ -1,5 +1,7 @@
 // What a run has met before: an operator or a call of a builtin that was typed on the same values gives the same type, which is recalled, and not typed again.
 // The memo is lent as a slice.
+#![tactic(auto)]
+
 ghost use Rattle.std.specs.Prelude.{◌≡◌, ◌+◌, ◌<◌, ◌≤◌, ◌^◌, length};
 ghost use Rattle.frame.specs.Frame.{kind_push, marks};
 ghost use Rattle.held.specs.Held.{number_of};

@@ -1,5 +1,7 @@
 // Calls on memory: those on atomics, workgroupUniformLoad and array_length. Their overloads are described, one for each pointer type that the rule takes: the pointer's entry is read, and
 // nothing is searched.
+#![tactic(auto)]
+
 ghost use Rattle.std.specs.Prelude.{◌≡◌, cond, ◌&&◌, ◌∷◌, ◌<◌, length};
 ghost use Rattle.conv.specs.Types.{bool, holds_atomic};
 ghost use Rattle.conv.specs.Types.Ty.{scalar, exchange};

@@ -1,4 +1,6 @@
 // Which rule the bytes that are offered as a builtin's name have in a profile, and whether the result is running even where all operands are const.
+#![tactic(auto)]
+
 mod tables;
 
 ghost use Rattle.std.specs.Prelude.{◌≡◌, false, ◌<◌, ◌≤◌, length};

@@ -1,4 +1,6 @@
 // The result types of operators, as wgsl-types' `ops_ty.rs` has them, by the standard.
+#![tactic(auto)]
+
 ghost use Rattle.std.specs.Prelude.{◌≡◌, ◌<◌};
 ghost use Rattle.table.specs.Table.{Sound};
 ghost use Rattle.table.specs.Denote.{type_at};

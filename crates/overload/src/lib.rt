@@ -2,6 +2,8 @@
 // An operand is a number: 7 times its shape plus its component. Shapes: scalar 0, vec2 to vec4 1 to 3, mat2x2 to mat4x4 4 to 12, any other type from 13 on.
 // Each operand gives the set of T at which it fits, a bit for each scalar; the first of their common T, in the order of preference, is the answer's. Where an operand is known only
 // when running, it is the first concrete one.
+#![tactic(auto)]
+
 pub mod tables;
 
 ghost use Rattle.std.specs.Prelude.{◌≡◌, ℕ, ◌+◌, ◌*◌, ◌/◌, ◌%◌, ◌<◌, not, T, ◌≢◌, ◌⊎◌, map, length, ◌==◌};

@@ -1,4 +1,6 @@
 // What lines about overloads are made of: parameters and ranks, put into a lent output. Parameters and operands are operands' numbers.
+#![tactic(auto)]
+
 ghost use Rattle.std.specs.Prelude.{◌≡◌, ◌++◌, map, ◌+◌, ◌*◌, ◌<◌, ◌≤◌, length};
 ghost use Rattle.text.specs.Text.{ascii, decimal, Put, far};
 ghost use Rattle.overload.specs.inner.Code.{operand};

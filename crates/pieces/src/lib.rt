@@ -1,4 +1,6 @@
 // The text that tells why a call is accepted or refused with 8, one piece at a time, put into a lent output: what stands first, then what each overload of the call's row has.
+#![tactic(auto)]
+
 ghost use Rattle.std.specs.Prelude.{◌≡◌, Bool, true, false, cond, List, [], map, ◌+◌, ◌/◌, ◌<◌, ◌≤◌, length, get_or, take};
 ghost use Rattle.conv.specs.Types.{Ty};
 ghost use Rattle.conv.specs.Rank.{both};

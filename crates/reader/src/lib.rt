@@ -1,5 +1,7 @@
 // A reader keeps the lent sheet and its place together. Each function takes it apart and calls a function of `frame` on the sheet and
 // the place; `read`, whose parameters are plain, serves every caller that holds no reader.
+#![tactic(auto)]
+
 ghost use Rattle.std.specs.Prelude.{◌≡◌};
 ghost use Rattle.frame.specs.Frame.{item_at, name_part, IsPart};
 ghost use Rattle.reader.specs.Read.{start_of, step_of};

@@ -1,4 +1,6 @@
 // The text that tells why a call is accepted or refused with 8, piece by piece, put into a lent output. Parameters are operands' numbers; so are xs, those of the operands args.
+#![tactic(auto)]
+
 ghost use Rattle.std.specs.Prelude.{◌≡◌, true, false, [], ◌++◌, map, ◌+◌, ◌/◌, ◌<◌, ◌≤◌, length, get_or};
 ghost use Rattle.conv.specs.Types.Ty.{scalar};
 ghost use Rattle.held.specs.Held.{number_of};

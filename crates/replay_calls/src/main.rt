@@ -5,6 +5,7 @@
 // `*` a title, written with the counts since the title before;
 // any other a line of the group: an answer's character for each type as the last operand, or `-` where all were refused. The lines go through the types of the
 // operands before the last one, the last of those fastest; calls of three operands have plain types only.
+#![tactic(auto)]
 
 // How many types there are, and how many are plain.
 const TYPES: u32 = 55;

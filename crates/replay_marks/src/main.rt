@@ -7,6 +7,8 @@
 // `*` a title, written with the counts since the title before;
 // any other some rows of the group, as `.5034`: the answer's character, the types of the operands before the last, and each type that the last one has with
 // that answer. Where there is no operand, one character stands there for nothing.
+#![tactic(auto)]
+
 ghost use Rattle.std.specs.Prelude.{◌≤◌};
 
 use answer::Typed;

@@ -7,6 +7,8 @@
 // any other a row of the group, as `3<22g-0003*`: the answer's character, and five for each operand. These are the words of a pointer's or reference's entry, which is
 // entered for the row alone, or `000` and the character of another type; then the mark, `*` where that other type's value is known only when running.
 // Type i and word i have the character '0' + i. A compare's result that the call enters is `}` over i32 and `~` over u32. Every value is known only when running.
+#![tactic(auto)]
+
 ghost use Rattle.std.specs.Prelude.{◌+◌, ◌<◌, ◌≤◌, length};
 
 use table::{Answer, Entry, TypeNo};

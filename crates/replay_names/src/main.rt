@@ -2,6 +2,8 @@
 // bytes that are no name, as `-aos`. The mark is `*` where the result is running on const operands too, `+` where it is so and profile 1 adds the name, else a blank.
 // Each name is asked for in profile 0, in profile 1 and in two unknown ones, which have no name.
 // A line that begins with `#` ends a group: it is written with the group's counts.
+#![tactic(auto)]
+
 ghost use Rattle.std.specs.Prelude.{◌≡◌, ◌≤◌, length};
 ghost use Rattle.names.specs.inner.Table.{name_table};
 

@@ -1,6 +1,8 @@
 // Replays the answers of another WGSL compiler for the operators, and writes how many rows agreed.
 // Standard input has a line for each of `!`, `-` and `~`, then for each binary operator a line for each left type. A line has a character for each of the
 // 55 types, as the one operand or the right one: the character of the result's type, or `.` for a refusal. All operands are known early, and so is each result.
+#![tactic(auto)]
+
 use table::Typed;
 use vectors::TYPES;
 

@@ -1,5 +1,7 @@
 // Answers every stored sheet and compares with the stored lines. Standard input, as tests/pack makes it: how many sheets there are; then of each its profile,
 // its length and its bytes, and the length and the bytes of its two lines. A number is four bytes, big-endian.
+#![tactic(auto)]
+
 ghost use Rattle.std.specs.Prelude.{◌<◌};
 
 use libc::{STDIN_FILENO, STDOUT_FILENO};

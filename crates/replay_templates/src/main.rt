@@ -1,6 +1,8 @@
 // Runs the template types from standard input, a line for each call: the head, and the tags and values of its arguments in decimal, a blank before each.
 // A line `= SIZE N FILLED` begins a table of so many words and entries, with the seven scalars in it (1) or with nothing but 0 (0).
 // A line `enter KIND` enters a pointer to i32 (12) or a reference (13). For a call and an entry a line is written: the head, and the answer.
+#![tactic(auto)]
+
 ghost use Rattle.std.specs.Prelude.{◌≤◌, length};
 
 use libc::STDOUT_FILENO;

@@ -1,4 +1,6 @@
 // A ruled call in a table: the numbers of operands, the judgment of a row, and the result entered.
+#![tactic(auto)]
+
 ghost use Rattle.std.specs.Prelude.{◌≡◌, true, not, map, ◌+◌, ◌-◌, ◌/◌, ◌%◌, ◌<◌, ◌≤◌, T};
 ghost use Rattle.held.specs.Held.{number_of, mark_of};
 ghost use Rattle.conv.specs.Types.{abstract_ty, formed, is_runtime};

@@ -1,4 +1,6 @@
 // A sheet typed item by item, in a profile. The header is judged once, and the part after it is handed on; the names, the stack and the memo belong to `run` and are lent inwards.
+#![tactic(auto)]
+
 ghost use Rattle.std.specs.Prelude.{false, ◌≡◌, ◌≤◌, length, get_or, take};
 ghost use Rattle.table.specs.Table.{Sound};
 ghost use Rattle.table.specs.Placing.{GaveMarked};

@@ -1,4 +1,6 @@
 // The spelling of a type of the table.
+#![tactic(auto)]
+
 ghost use Rattle.std.specs.Prelude.{◌≡◌, ◌+◌, ◌*◌, ◌≤◌, ◌<◌, get_or};
 ghost use Rattle.table.specs.Table.{scalars, Sound};
 ghost use Rattle.table.specs.Denote.{type_at};

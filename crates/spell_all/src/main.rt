@@ -1,5 +1,7 @@
 // Enters types of every kind in a table that starts from the scalars, and writes the spelling of each entry, a line for each. Then
 // asks for one spelling with an output of just its length, one byte short, and empty; and for numbers and tables that are refused.
+#![tactic(auto)]
+
 ghost use Rattle.std.specs.Prelude.{◌<◌};
 
 use libc::STDOUT_FILENO;

@@ -1,5 +1,7 @@
 // What one item does to the stack and the table, in a profile. The stack is lent as a slice of which the first values count; an item is typed by the single call that it
 // stands for.
+#![tactic(auto)]
+
 ghost use Rattle.std.specs.Prelude.{◌≡◌, ◌<◌, ◌≤◌, length};
 ghost use Rattle.table.specs.Table.{Sound};
 ghost use Rattle.table.specs.Denote.{type_at};

@@ -1,5 +1,7 @@
 // The static library for hosts in C and in Rust: include/swartabelk.h declares it. Each function answers in a struct of numbers what the function below it
 // answers in an enum, which C does not know.
+#![tactic(auto)]
+
 ghost use Rattle.std.specs.Prelude.{◌≡◌, false, ◌<◌, ◌^◌};
 ghost use Rattle.frame.specs.Frame.{name_part};
 ghost use Rattle.answer.specs.Answer.{marked_by};

@@ -1,4 +1,6 @@
 // The type table: entries of four words in a lent slice.
+#![tactic(auto)]
+
 ghost use Rattle.std.specs.Prelude.{◌≡◌, ℕ, ◌+◌, ◌*◌, ◌≤◌, ◌<◌, List, length, true};
 ghost use Rattle.conv.specs.Types.{is_width, is_float, is_abstract, abstract_ty};
 ghost use Rattle.table.specs.Table.{stride, scalars, ceiling, kind_ptr, entry_at, sameb, words_unused, stored, sized, row_ok, base_of, scalar_ok, made_ok, find_in, is_nothing, good_at, soundb, allowedb, Sound};

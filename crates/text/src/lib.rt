@@ -1,5 +1,7 @@
 // Bytes put into a lent output. What stands past its end is not written, but counted: so a text's length is known from an output of none.
 // And the number that a text is.
+#![tactic(auto)]
+
 ghost use Rattle.std.specs.Prelude.{◌≡◌, [], ◌∷◌, ◌++◌, ◌+◌, ◌*◌, ◌<◌, length};
 ghost use Rattle.text.specs.Text.{decimal, number_in, Put, far};
 

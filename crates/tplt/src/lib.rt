@@ -1,4 +1,6 @@
 // Template types: a head with a list of arguments is the type of that name, entered where it is absent.
+#![tactic(auto)]
+
 ghost use Rattle.std.specs.Prelude.{◌<◌, ◌≡◌};
 ghost use Rattle.table.specs.Table.{ceiling, Sound};
 ghost use Rattle.table.specs.Denote.{type_at};

@@ -1,4 +1,6 @@
 // What a single call would answer. The call is made over a copy of the table, so that the table is only read.
+#![tactic(auto)]
+
 ghost use Rattle.std.specs.Prelude.{◌≡◌, ◌≤◌, length, take};
 ghost use Rattle.ops_ty.specs.Ops.{type_unary_op, type_binary_op};
 ghost use Rattle.call_ty.specs.Calls.{type_builtin_fn};

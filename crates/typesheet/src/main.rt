@@ -1,5 +1,7 @@
 // Types a sheet that is read from standard input, over the seven scalars, and writes the two lines of its answer. The first argument is the profile, in
 // decimal; later ones are not looked at.
+#![tactic(auto)]
+
 use libc::{STDIN_FILENO, STDOUT_FILENO};
 
 // Linux starts no program with an argument as long as this.

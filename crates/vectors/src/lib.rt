@@ -1,6 +1,8 @@
 // What the programs that replay vectors share: a table of the 55 plain and matrix types, the character of an answer, the ends of lines, and the counts that are written.
 // Type i has the character '0' + i. Plain numbers come first, 0 to 27; then mat2x2 to mat4x4, each of AbstractFloat, f32 and f16.
 // The result types of frexp follow, then those of modf: over the scalar, vec2, vec3 and vec4, each of AbstractFloat, f32 and f16.
+#![tactic(auto)]
+
 ghost use Rattle.std.specs.Prelude.{◌≡◌, ◌<◌, ◌≤◌, length};
 ghost use Rattle.vectors.specs.Filled.{float_no, entry_of, FillDone};
 ghost use Rattle.vectors.specs.Chars.{modfs, most_types, float_place, result_char, entry_char, new_char, value_char, silent_char, reason_char, refusal_char, char_of, answer_char, type_no};

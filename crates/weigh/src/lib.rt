@@ -1,4 +1,6 @@
 // An overload at operands: by which rank each converts, which is the first that does not, and which of two overloads is preferred. Parameters and operands are operands' numbers.
+#![tactic(auto)]
+
 ghost use Rattle.std.specs.Prelude.{◌≡◌, map, ◌<◌, length};
 ghost use Rattle.conv.specs.Types.{abstract_ty};
 ghost use Rattle.conv.specs.Rank.{both, conversion_rank};

@@ -1,4 +1,6 @@
 // Why a call is accepted or refused with 8, told into a lent output. The table is only read.
+#![tactic(auto)]
+
 ghost use Rattle.std.specs.Prelude.{◌≡◌, true, false, List, [], ◌∷◌, ℕ, ◌+◌, ◌*◌, ◌/◌, ◌<◌, ◌≤◌, length, get_or};
 ghost use Rattle.names.specs.inner.Table.{numbered};
 ghost use Rattle.overload.specs.Rows.Ruling.{by_row};

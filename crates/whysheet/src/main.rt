@@ -1,5 +1,7 @@
 // Types a sheet that is read from standard input, over the seven scalars, and writes the two lines of its answer; then why the item came to it that was refused with 8, or, of an accepted
 // sheet, the last: overload by overload, a piece at a time. The first argument is the profile, in decimal; later ones are not looked at.
+#![tactic(auto)]
+
 ghost use Rattle.std.specs.Prelude.{◌≡◌, length};
 ghost use Rattle.desk.specs.inner.Code.{Asking};
 
