@@ -5,15 +5,15 @@ ghost use Rattle.std.specs.Prelude.{◌≡◌};
 ghost use Rattle.answer.specs.Answer.{reason_no, lacking_of, used_of, has_value, marked_by, Accepted, WithoutValue, RefusedWith};
 
 // The number of a table entry.
-#[derive(Drop)]
+#[derive(Clone, Copy)]
 pub struct TypeNo(pub usize);
 
 // An offset in a sheet.
-#[derive(Drop)]
+#[derive(Clone, Copy)]
 pub struct Place(pub usize);
 
 // Why a call is refused, in the order of the refusal numbers. For want of room: how many entries lack.
-#[derive(Drop)]
+#[derive(Clone, Copy)]
 pub enum Reason {
     Unsound,
     NoSuchType,
@@ -31,7 +31,7 @@ pub enum Reason {
 }
 
 // A refusal: why, at which place, and the used count as it stands.
-#[derive(Drop)]
+#[derive(Clone, Copy)]
 pub struct Refusal {
     pub reason: Reason,
     pub place: Place,
@@ -39,7 +39,7 @@ pub struct Refusal {
 }
 
 // What a call answers: a type or no value, each with the used count, or a refusal.
-#[derive(Drop)]
+#[derive(Clone, Copy)]
 pub enum Answer {
     Value(TypeNo, usize),
     NoValue(usize),
@@ -47,7 +47,7 @@ pub enum Answer {
 }
 
 // An answer, and whether its value is known only when running; false where it has no value.
-#[derive(Drop)]
+#[derive(Clone, Copy)]
 pub struct Typed {
     pub answer: Answer,
     pub running: bool,

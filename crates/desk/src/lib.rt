@@ -26,7 +26,7 @@ use why::Asked;
 const NO_OVERLOAD: u8 = 8;
 
 // The item that is told, with the values and the entries that stand before it; or none is.
-#[derive(Drop)]
+#[derive(Clone, Copy)]
 pub enum Stand {
     Nowhere,
     At {
@@ -37,7 +37,7 @@ pub enum Stand {
 }
 
 // What is asked: the single call that the item stands for, over so many entries, on the values of the stack from the first to the end.
-#[derive(Drop)]
+#[derive(Clone, Copy)]
 pub struct Query {
     pub asked: Asked,
     pub used: usize,

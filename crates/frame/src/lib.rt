@@ -55,14 +55,14 @@ const MARKED_BYTES: usize = 4;
 const MARKED_FOLLOWING: u8 = 3;
 
 // A part of the lent sheet: where it begins and how many bytes it has.
-#[derive(Drop)]
+#[derive(Clone, Copy)]
 pub struct Part {
     pub start: Place,
     pub length: usize,
 }
 
 // What stands at a place of a sheet: one of the six items, or instead of an item its end or bad framing.
-#[derive(Drop)]
+#[derive(Clone, Copy)]
 pub enum Item {
     Push {
         ty: TypeNo,
@@ -91,7 +91,7 @@ pub enum Item {
 }
 
 // An item with its own place and the place of the next; the end and bad framing have no next, and give their own.
-#[derive(Drop)]
+#[derive(Clone, Copy)]
 pub struct Placed {
     pub item: Item,
     pub at: Place,
@@ -99,7 +99,7 @@ pub struct Placed {
 }
 
 // A push or an operator, by its kind, its number, its mark and how many bytes it has; kind 0 and no bytes for all else.
-#[derive(Drop)]
+#[derive(Clone, Copy)]
 pub struct Short {
     pub kind: u8,
     pub number: u8,

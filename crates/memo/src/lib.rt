@@ -62,7 +62,7 @@ const MIX_MIDDLE: usize = 55;
 const MIX_END: usize = 31;
 
 // What an item asks, by its code, and on how many values, and whether its result is running even where they are const; 0 where the memo has nothing of its kind.
-#[derive(Drop)]
+#[derive(Clone, Copy)]
 pub struct Ask {
     pub code: u64,
     pub operands: usize,
@@ -70,7 +70,7 @@ pub struct Ask {
 }
 
 // What is asked and the values of its operands, as one number, the first of its two slots, where on the stack the operands begin, and the mark of what it gives; the number is 0 where nothing is asked, or values lack.
-#[derive(Drop)]
+#[derive(Clone, Copy)]
 pub struct Key {
     pub number: u64,
     pub slot: usize,
@@ -79,7 +79,7 @@ pub struct Key {
 }
 
 // What a quick item left: how many values stand then, or 0 where it was not quick; and how many bytes it has.
-#[derive(Drop)]
+#[derive(Clone, Copy)]
 pub struct Went {
     pub count: usize,
     pub bytes: usize,

@@ -41,14 +41,14 @@ const MARK_AT: usize = 2;
 const MARK_RUNNING: u8 = 1;
 
 // The number of a rule, and whether its result is running even so.
-#[derive(Drop)]
+#[derive(Clone, Copy)]
 pub enum RuleNo {
     Is { rule: u8, running: bool },
     Unknown,
 }
 
 // How one name stands to another, both filled up with blanks.
-#[derive(Drop)]
+#[derive(Clone, Copy)]
 enum Side {
     Before,
     Same,

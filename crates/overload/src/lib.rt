@@ -51,7 +51,7 @@ const ALLOWED: u64 = 0x7f_40_20_08_04_70_7e_01;
 const PREFERENCE: u64 = 0o6524310;
 
 // The type of a result: that of an operand's number, or the result type of frexp or of modf over it.
-#[derive(Drop)]
+#[derive(Clone, Copy)]
 pub enum Out {
     Plain(u8),
     Frexp(u8),
@@ -59,21 +59,21 @@ pub enum Out {
 }
 
 // How a call is judged: the preferred overload's result, or no overload fits.
-#[derive(Drop)]
+#[derive(Clone, Copy)]
 pub enum Resolution {
     Gives(Out),
     NoneFits,
 }
 
 // What became of one family: the preferred overload's result, or none fits.
-#[derive(Drop)]
+#[derive(Clone, Copy)]
 enum Tried {
     Fits(Out),
     Not,
 }
 
 // The sets of T and of the second choice at which operands fit.
-#[derive(Drop)]
+#[derive(Clone, Copy)]
 struct Choices(u64, u64);
 
 // The shape of an operand: a seventh of its number, by a product and a shift.

@@ -9,14 +9,14 @@ ghost use Rattle.reader.specs.Read.{start_of, step_of};
 use answer::Place;
 use frame::{HEADER, Placed};
 
-#[derive(Drop)]
+#[derive(Clone, Copy)]
 pub struct Reader<'a> {
     pub sheet: &'a [u8],
     pub at: Place,
 }
 
 // What stands at a reader's place, and the reader that goes on: at the next item, or still where no item stands.
-#[derive(Drop)]
+#[derive(Clone, Copy)]
 pub struct Step<'a> {
     pub found: Placed,
     pub rest: Reader<'a>,

@@ -35,7 +35,7 @@ const OPERANDS_AT: usize = 5;
 const SINGLE_NAME_AT: usize = 10;
 
 // The group: where its name lies in the input, how many operands its calls have and which of its lines is next; and the counts since the title before.
-#[derive(Drop)]
+#[derive(Clone, Copy)]
 struct State {
     from: usize,
     to: usize,

@@ -43,7 +43,7 @@ const SUBGROUPS: u32 = 1;
 const NO_PROFILE: u32 = 2;
 
 // Where the line of the group lies in the input; and the counts since the title before.
-#[derive(Drop)]
+#[derive(Clone, Copy)]
 struct State {
     from: usize,
     to: usize,

@@ -41,7 +41,7 @@ const SUBGROUPS: u32 = 1;
 const NO_PROFILE: u32 = 2;
 
 // Where the group's name lies in the input; how many types the table holds; and the counts since the title before.
-#[derive(Drop)]
+#[derive(Clone, Copy)]
 struct State {
     from: usize,
     to: usize,
@@ -51,7 +51,7 @@ struct State {
 }
 
 // An operand, and the used count after its type was entered.
-#[derive(Drop)]
+#[derive(Clone, Copy)]
 struct Given {
     value: u32,
     used: usize,

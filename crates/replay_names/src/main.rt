@@ -27,7 +27,7 @@ const NO_PROFILE: u32 = 2;
 
 const LAST_PROFILE: u32 = 4294967295;
 
-#[derive(Drop)]
+#[derive(Clone, Copy)]
 enum Verdict {
     Group,
     Known,
@@ -36,7 +36,7 @@ enum Verdict {
 }
 
 // How many lines of a group agreed, with a rule and without, and how many did not.
-#[derive(Drop)]
+#[derive(Clone, Copy)]
 struct Tally {
     known: u64,
     unknown: u64,

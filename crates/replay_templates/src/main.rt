@@ -23,7 +23,7 @@ const MOST: u64 = 9223372036854775807;
 const SHORT: u64 = 922337203685477580;
 
 // A table of so many words and entries.
-#[derive(Drop)]
+#[derive(Clone, Copy)]
 struct Table {
     size: usize,
     used: usize,

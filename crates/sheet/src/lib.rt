@@ -24,7 +24,7 @@ use table::{Answer, Place, Reason, Typed};
 pub use frame::call_name;
 
 // What a turn came to: the machine goes on at the next place, or the sheet is answered.
-#[derive(Drop)]
+#[derive(Clone, Copy)]
 pub enum Turn {
     More {
         count: usize,
@@ -35,7 +35,7 @@ pub enum Turn {
 }
 
 // Where a run of quick items came to, and how many values it left.
-#[derive(Drop)]
+#[derive(Clone, Copy)]
 pub struct Rushed {
     pub at: Place,
     pub count: usize,

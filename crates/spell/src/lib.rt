@@ -52,7 +52,7 @@ const TEXT_ACCESSES: usize = 23;
 const TEXT_ABSTRACT: usize = 26;
 
 // What asking for a spelling gives: its length, or a refusal.
-#[derive(Drop)]
+#[derive(Clone, Copy)]
 pub enum Spelled {
     Length(usize),
     Refused(Refusal),

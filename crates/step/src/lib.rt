@@ -30,7 +30,7 @@ const BINARY: usize = 2;
 const NO_ROOM: u8 = 9;
 
 // What an item did: it left so many values and entries; it was a call without value; the items ended; or it was refused.
-#[derive(Drop)]
+#[derive(Clone, Copy)]
 pub enum Did {
     Went { count: usize, used: usize },
     Silent { count: usize, used: usize },

@@ -24,7 +24,7 @@ pub const NO_VALUE: u32 = 0xFFFF_FFFF;
 // A reply in numbers: the refusal, 0 for none; the type, or NO_VALUE; the mark of the value, 0 or RUNNING, so that the type with it is an operand; the place of a
 // refusal; the used count; how many entries lack, with refusal 9.
 #[repr(C)]
-#[derive(Drop)]
+#[derive(Clone, Copy)]
 pub struct Reply {
     pub refusal: u32,
     pub ty: u32,
@@ -36,7 +36,7 @@ pub struct Reply {
 
 // The same of a spelling: its length stands where a type would.
 #[repr(C)]
-#[derive(Drop)]
+#[derive(Clone, Copy)]
 pub struct SpelledReply {
     pub refusal: u32,
     pub length: u32,
@@ -46,7 +46,7 @@ pub struct SpelledReply {
 
 // A part of the lent sheet.
 #[repr(C)]
-#[derive(Drop)]
+#[derive(Clone, Copy)]
 pub struct NamePart {
     pub start: usize,
     pub length: usize,

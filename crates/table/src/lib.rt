@@ -92,7 +92,7 @@ pub const ACCESS_WRITE: u32 = 1;
 pub const ACCESS_READ_WRITE: u32 = 2;
 
 // An entry of the table, by value.
-#[derive(Drop)]
+#[derive(Clone, Copy)]
 pub struct Entry {
     pub kind: u32,
     pub p: u32,
@@ -101,14 +101,14 @@ pub struct Entry {
 }
 
 // Whether an entry stands in the table, and where.
-#[derive(Drop)]
+#[derive(Clone, Copy)]
 pub enum Found {
     At(TypeNo),
     Nothing,
 }
 
 // What entering gives: the number of the entry and the used count afterwards, or how many entries lack.
-#[derive(Drop)]
+#[derive(Clone, Copy)]
 pub enum Entered {
     There(TypeNo, usize),
     Lacks(u32),

@@ -4,7 +4,7 @@ ghost use Rattle.tplt.specs.Heads.{head_of, heads};
 ghost use Rattle.tplt.specs.inner.Steps.{longest, key_of, head_at};
 
 // A head: a vector of a width, a matrix of columns and rows, an atomic, an array, or no name of a head.
-#[derive(Drop)]
+#[derive(Clone, Copy)]
 pub enum Head {
     Vector(u32),
     Matrix(u32, u32),

@@ -17,32 +17,32 @@ use param::{Arguments, ArrayCount, arguments_of, count_of, types_known};
 use table::{Answer, Entry, Place, Reason, TypeNo, entry_at, refused, sound};
 
 // The four templates, each with the number of its component or element.
-#[derive(Drop)]
+#[derive(Clone, Copy)]
 pub struct VecTemplate {
     pub n: u32,
     pub ty: TypeNo,
 }
 
-#[derive(Drop)]
+#[derive(Clone, Copy)]
 pub struct MatTemplate {
     pub c: u32,
     pub r: u32,
     pub ty: TypeNo,
 }
 
-#[derive(Drop)]
+#[derive(Clone, Copy)]
 pub struct AtomicTemplate {
     pub ty: TypeNo,
 }
 
-#[derive(Drop)]
+#[derive(Clone, Copy)]
 pub struct ArrayTemplate {
     pub n: ArrayCount,
     pub ty: TypeNo,
 }
 
 // What a head and a list come to: a template, or the reason why not.
-#[derive(Drop)]
+#[derive(Clone, Copy)]
 pub enum Parsed {
     OfVec(VecTemplate),
     OfMat(MatTemplate),

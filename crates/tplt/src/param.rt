@@ -21,7 +21,7 @@ const I32_MAX: i64 = 2147483647;
 const I32_MIN: i64 = -2147483648;
 
 // An argument of a template list: a type of the table, a number that is no type of it, or a literal.
-#[derive(Drop)]
+#[derive(Clone, Copy)]
 pub enum TpltParam {
     Typed(TypeNo),
     NoType,
@@ -32,7 +32,7 @@ pub enum TpltParam {
 }
 
 // A list of arguments, as far as it can be right: a type alone, or a type and a literal.
-#[derive(Drop)]
+#[derive(Clone, Copy)]
 pub enum Arguments {
     One(TypeNo),
     Two(TypeNo, TpltParam),
@@ -40,7 +40,7 @@ pub enum Arguments {
 }
 
 // The count of an array, none, or a literal that is none.
-#[derive(Drop)]
+#[derive(Clone, Copy)]
 pub enum ArrayCount {
     Of(u32),
     Without,

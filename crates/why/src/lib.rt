@@ -34,7 +34,7 @@ const RULE_INDIRECTION: u8 = 110;
 const BINARY_OPS: usize = 18;
 
 // What there is to tell of a call: nothing; that its rule accepts it, or that it is refused by it with 8; or that it is refused with another number.
-#[derive(Drop)]
+#[derive(Clone, Copy)]
 pub enum Asked {
     Nothing,
     Tell { rule: u8, accepted: bool },
