@@ -17,7 +17,7 @@ const NAMES: [u8; COUNT * LINE_WIDTH] = *b"\
         acosh                           \x0c\x00\x00\
         all                             \x2d\x00\x00\
         any                             \x2d\x00\x00\
-        array_length                     \x65\x00\x01\
+        arrayLength                     \x65\x00\x01\
         asin                            \x0c\x00\x00\
         asinh                           \x0c\x00\x00\
         atan                            \x0c\x00\x00\
@@ -97,7 +97,7 @@ const NAMES: [u8; COUNT * LINE_WIDTH] = *b"\
         radians                         \x0c\x00\x00\
         reflect                         \x1a\x00\x00\
         refract                         \x1c\x00\x00\
-        reverse_bits                     \x13\x00\x00\
+        reverseBits                     \x13\x00\x00\
         round                           \x0c\x00\x00\
         saturate                        \x0c\x00\x00\
         select                          \x2e\x00\x00\

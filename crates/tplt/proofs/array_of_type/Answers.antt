@@ -2,6 +2,7 @@
 use mathlib.Core.Path.{sym, ◌∙◌}
 use Rattle.tplt.specs.Templates.{array_of_type}
 use Rattle.tplt.proofs.TemplateLaws.{counted-fits}
+use borrow.Enum.Refused.{opened}
 use Rattle.tplt.proofs.array_of_type.Goals as goal
 
 pub returns-then-not-is_element : goal.returns-then-not-is_element
@@ -14,4 +15,4 @@ returns-in-Unfit c = rw (sym c.is_element.ensures ∙ c.if-not-is_element.false,
 
 pub returns-in_default : goal.returns-in_default
 unfolding array_of_type
-returns-in_default c = rw (sym c.is_element.ensures ∙ c.if-not-is_element.false) (counted-fits c.args.t c.args.k c.in_default.in_default-own.keys2)
+returns-in_default c = rw (sym c.is_element.ensures ∙ c.if-not-is_element.false) (counted-fits c.args.t c.args.k (opened c.in_default.in_default-own.keys2))

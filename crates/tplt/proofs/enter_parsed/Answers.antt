@@ -2,6 +2,7 @@
 use mathlib.Core.Path.{sym, ◌∙◌, ap}
 use Rattle.tplt.specs.Templates.{outcome_of}
 use Rattle.tplt.proofs.TemplateLaws.{word_below, entered-outcome, outcome-entered}
+use borrow.Enum.Refused.{opened}
 use Rattle.tplt.proofs.enter_parsed.Goals as goal
 
 pub returns-in-Wrong : goal.returns-in-Wrong
@@ -14,4 +15,4 @@ entry_of-requires c = let a = c.args in word_below a.words.now a.n c.requires.so
 pub returns : goal.returns
 returns c = let a = c.args in
     entered-outcome a.words.now a.n c.requires.sound a.p c.requires.fit c.entry_of.result c.entry_of.ensures
-    (outcome-entered a.words.now a.n a.p c.in_default.in_default-own.keys2) _ _ c.enter.ensures c.answer_of.result c.answer_of.ensures
+    (outcome-entered a.words.now a.n a.p (opened c.in_default.in_default-own.keys2)) _ _ c.enter.ensures c.answer_of.result c.answer_of.ensures

@@ -4,10 +4,10 @@ use Rattle.tplt.specs.Templates.{array_of_type, array_parsed}
 use Rattle.tplt.proofs.ArrayTemplate.parse.Goals as goal
 
 pub array_of_type-requires : goal.array_of_type-requires
-array_of_type-requires c = record { sound = c.requires.0; t_lt_n = rw c.in-One.is at c.requires.1 }
+array_of_type-requires c = record { sound = c.requires.sound; t_lt_n = rw c.in-One.is at c.requires.below }
 
 pub array_of_type-requires-in-Two : goal.array_of_type-requires-in-Two
-array_of_type-requires-in-Two c = record { sound = c.requires.0; t_lt_n = rw c.in-Two.is at c.requires.1 }
+array_of_type-requires-in-Two c = record { sound = c.requires.sound; t_lt_n = rw c.in-Two.is at c.requires.below }
 
 pub returns-in-One : goal.returns-in-One
 unfolding array_parsed

@@ -7,8 +7,8 @@ use Rattle.tplt.proofs.MatTemplate.parse.Goals as goal
 
 pub returns-then-is_matrix_component : goal.returns-then-is_matrix_component
 unfolding mat_parsed
-returns-then-is_matrix_component c = component-made is_matrix_component (λ t. OfMat (record { (goal.at.returns-then-is_matrix_component c).Then-is_matrix_component = c.args.c; r = c.args.r; ty = t })) refl c.args.a _ c.alone_in-t.ensures _ c.is_matrix_component.ensures c.if-is_matrix_component.true
+returns-then-is_matrix_component c = component-made is_matrix_component (λ t. OfMat (record { c = c.args.c; r = c.args.r; ty = t })) refl c.args.a _ c.alone_in-t.ensures _ c.is_matrix_component.ensures c.if-is_matrix_component.true
 
 pub returns : goal.returns
 unfolding mat_parsed
-returns c = component-wrong is_matrix_component (λ t. OfMat (record { (goal.at.returns c).Else-is_matrix_component = c.args.c; r = c.args.r; ty = t })) refl c.args.a _ c.alone_in-t.ensures _ c.is_matrix_component.ensures c.if-is_matrix_component.false
+returns c = component-wrong is_matrix_component (λ t. OfMat (record { c = c.args.c; r = c.args.r; ty = t })) refl c.args.a _ c.alone_in-t.ensures _ c.is_matrix_component.ensures c.if-is_matrix_component.false

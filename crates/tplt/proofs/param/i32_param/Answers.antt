@@ -20,4 +20,4 @@ overflow_cast-result c = i32-fits (to_z w64 (of_z w64 c.args.value)) c.if-value-
 pub returns : goal.returns
 returns c = let z = c.args.value in
     let v = to_z w64 (of_z w64 z) in
-    ap I32 (to_z-of_z w32 v (cast-t3 (goal.at.returns c).Else-value-gt-I32_MAX)) ∙ i32-in v c.if-value-lt-I32_MIN.false c.if-value-gt-I32_MAX.false ∙ ap i32_param (to_z-of_z w64 z c.ranges.value)
+    ap I32 (to_z-of_z w32 v (i32-fits v c.if-value-lt-I32_MIN.false c.if-value-gt-I32_MAX.false)) ∙ i32-in v c.if-value-lt-I32_MIN.false c.if-value-gt-I32_MAX.false ∙ ap i32_param (to_z-of_z w64 z c.ranges.value)

@@ -4,6 +4,7 @@ use mathlib.Core.Path.{refl, sym, ◌∙◌, ap}
 use native.Mathlib.Omega.{arith}
 use Rattle.tplt.specs.Params.{is_known}
 use Rattle.tplt.proofs.ParamLaws.{known-other, known-fails, known_next, known-end}
+use borrow.Enum.Refused.{opened}
 use Rattle.tplt.proofs.param.types_known.Goals as goal
 
 pub loop-at-init : goal.loop-at-init
@@ -27,7 +28,7 @@ pub loop-at-preserved : goal.loop-at-preserved
 loop-at-preserved c = let a = c.args in
     let l = c.loop-at in (
       omega (arith, c.loop-at-test.true),
-      l.invariant.1 ∙ known_next a.n a.args.now l.at c.loop-at-test.true (ap is_known (sym c.param_at-p.ensures) ∙ sym (known-other c.param_at-p.result c.in_default.in_default-own.keys2)),
+      l.invariant.1 ∙ known_next a.n a.args.now l.at c.loop-at-test.true (ap is_known (sym c.param_at-p.ensures) ∙ sym (known-other c.param_at-p.result (opened c.in_default.in_default-own.keys2))),
     )
 
 pub returns : goal.returns

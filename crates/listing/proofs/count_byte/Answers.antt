@@ -5,17 +5,8 @@ use Rattle.conv.specs.Rank.{both}
 use Rattle.conv.proofs.Finite.{table}
 use Rattle.overload.specs.Rows as rows
 use Rattle.overload.specs.Rows.{rows, row_at, overloads_of}
-use Rattle.listing.proofs.count_byte.Statement.{statement}
-use Rattle.listing.proofs.count_byte.Tie as tie
-use Rattle.listing.proofs.count_byte.Reads as reads
-use Rattle.listing.proofs.count_byte.Lts as lts
+use Rattle.listing.proofs.count_byte.Goals as goal
 
-array-read-result : tie.Need-array-read-result
-array-read-result c = search rules
-
-returns : tie.Need-returns
+pub returns : goal.returns
 unfolding both row_at rows rows.over_second rows.at_sizes rows.over_set rows.of_families
 returns c = table (λ row. length (overloads_of (row_at row))) 54 (lts.m2 reads.Pre reads.Post c.args c.blocks).1.1.0 tt c.args.row (search rules)
-
-pub count-byte-spec : {M : Type 1} → statement M
-count-byte-spec = tie.close (tie.spec array-read-result returns)

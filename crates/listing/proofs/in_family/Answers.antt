@@ -1,0 +1,38 @@
+-- `listing::in_family` meets its contract: the four parameters at the T, the size and the I of the place. Assumes nothing.
+use native.Mathlib.Omega.{arith}
+use Prim.Native.Nat.{ℕ, ◌<◌}
+use mathlib.Core.Path.{◌≡◌, sym, ◌∙◌, subst}
+use mathlib.Core.List.{[], ◌∷◌}
+use Rattle.overload.specs.inner.Code.{family_of}
+use Rattle.listing.specs.inner.Places.{Asked, code_of_param, code_at}
+use Rattle.listing.proofs.Places.{at_place}
+use Rattle.listing.proofs.in_family.Goals.{After-starts_at-starts}
+use Rattle.listing.proofs.in_family.Goals as goal
+
+-- at the size of the place every parameter has a shape
+asks : (c : After-starts_at-starts) (k : ℕ) → k < 4 → Asked (family_of c.args.f) c.type_size.result k
+asks c k h =
+    subst (λ (n : ℕ). Asked (family_of c.args.f) n k) (sym c.type_size.ensures.0) ((at_place c.args.f c.args.j c.requires.1).asked k h)
+
+param_is : (c : After-starts_at-starts) (k r : ℕ) → r ≡ code_of_param (family_of c.args.f) c.type_size.result c.t_of-t.result c.second_of-i.result k → r ≡ code_at (family_of c.args.f) c.args.j k
+param_is c k r e = e ∙ (λ i. code_of_param (family_of c.args.f) (c.type_size.ensures.0 i) (c.t_of-t.ensures.0 i) (c.second_of-i.ensures.0 i) k)
+
+pub param-a-requires : goal.param-a-requires
+param-a-requires c = (c.requires.0, c.starts_at-starts.ensures, asks ((goal.at.param-a-requires c).After-starts_at-starts) 0 (omega arith), c.t_of-t.ensures.1, c.second_of-i.ensures.1, omega arith)
+
+pub param-b-requires : goal.param-b-requires
+param-b-requires c = (c.requires.0, c.starts_at-starts.ensures, asks (goal.at.param-b-requires c).After-starts_at-starts 1 (omega arith), c.t_of-t.ensures.1, c.second_of-i.ensures.1, omega arith)
+
+pub param-c-requires : goal.param-c-requires
+param-c-requires c = (c.requires.0, c.starts_at-starts.ensures, asks (goal.at.param-c-requires c).After-starts_at-starts 2 (omega arith), c.t_of-t.ensures.1, c.second_of-i.ensures.1, omega arith)
+
+pub param-d-requires : goal.param-d-requires
+param-d-requires c = (c.requires.0, c.starts_at-starts.ensures, asks (goal.at.param-d-requires c).After-starts_at-starts 3 (omega arith), c.t_of-t.ensures.1, c.second_of-i.ensures.1, omega arith)
+
+pub returns : goal.returns
+returns c =
+    let p = param_is (goal.at.returns c).After-starts_at-starts 0 _ c.param-a.ensures in
+    let q = param_is (goal.at.returns c).After-starts_at-starts 1 _ c.param-b.ensures in
+    let u = param_is (goal.at.returns c).After-starts_at-starts 2 _ c.param-c.ensures in
+    let v = param_is (goal.at.returns c).After-starts_at-starts 3 _ c.param-d.ensures in
+    λ i. p i ∷ q i ∷ u i ∷ v i ∷ []
