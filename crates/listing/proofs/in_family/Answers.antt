@@ -10,12 +10,12 @@ use Rattle.listing.proofs.in_family.Goals.{After-starts_at-starts}
 use Rattle.listing.proofs.in_family.Goals as goal
 
 -- at the size of the place every parameter has a shape
-asks : (c : After-starts_at-starts) (k : ℕ) → k < 4 → Asked (family_of c.args.f) c.type_size.result k
+asks : (c : After-starts_at-starts) (k : ℕ) → k < 4 → Asked (family_of c.args.f) c.size_of-n.result k
 asks c k h =
-    subst (λ (n : ℕ). Asked (family_of c.args.f) n k) (sym c.type_size.ensures.0) ((at_place c.args.f c.args.j c.requires.1).asked k h)
+    subst (λ (n : ℕ). Asked (family_of c.args.f) n k) (sym c.size_of-n.ensures.0) ((at_place c.args.f c.args.j c.requires.1).asked k h)
 
-param_is : (c : After-starts_at-starts) (k r : ℕ) → r ≡ code_of_param (family_of c.args.f) c.type_size.result c.t_of-t.result c.second_of-i.result k → r ≡ code_at (family_of c.args.f) c.args.j k
-param_is c k r e = e ∙ (λ i. code_of_param (family_of c.args.f) (c.type_size.ensures.0 i) (c.t_of-t.ensures.0 i) (c.second_of-i.ensures.0 i) k)
+param_is : (c : After-starts_at-starts) (k r : ℕ) → r ≡ code_of_param (family_of c.args.f) c.size_of-n.result c.t_of-t.result c.second_of-i.result k → r ≡ code_at (family_of c.args.f) c.args.j k
+param_is c k r e = e ∙ (λ i. code_of_param (family_of c.args.f) (c.size_of-n.ensures.0 i) (c.t_of-t.ensures.0 i) (c.second_of-i.ensures.0 i) k)
 
 pub param-a-requires : goal.param-a-requires
 param-a-requires c = (c.requires.0, c.starts_at-starts.ensures, asks ((goal.at.param-a-requires c).After-starts_at-starts) 0 (omega arith), c.t_of-t.ensures.1, c.second_of-i.ensures.1, omega arith)

@@ -1,0 +1,12 @@
+use Prim.Native.Nat.{◌≤◌, ◌+◌, ◌*◌, ◌-◌}
+use lib.ListN.{length, take}
+use Rattle.text.specs.Text.{ascii, Put}
+use Rattle.phrase.specs.Phrase.{apart}
+use Rattle.phrase.proofs.Phrasing.{spelled}
+use Rattle.phrase.proofs.put_params.Given as goal
+
+abbrev pub invariant-loop-i : goal.invariant-loop-i
+invariant-loop-i l = (i ≤ length l.ps) × Put l.initial.out l.at (apart (ascii ", ") (take i (spelled l.ps))) l.i l.a × (l.i ≤ l.at + i * 100)
+
+abbrev pub decreases-loop-i : goal.decreases-loop-i
+decreases-loop-i l = length l.ps - i
