@@ -20,8 +20,8 @@ use Rattle.choice.proofs.is_chosen.Goals as goal
 pub params-all-requires : goal.params-all-requires
 params-all-requires c = c.requires.1
 
--- GONE slice-bounds-ps-end
--- part-ps-end c = omega (arith, c.before.before.before.requires.0, count-few c.before.before.before.args.row, c.before.params.ensures.four)
+pub slice_bounds-ps-end : goal.slice_bounds-ps-end
+slice_bounds-ps-end c = omega (arith, c.requires.0, count-few c.args.row, c.params-all.ensures.four)
 
 pub is_left-requires : goal.is_left-requires
 is_left-requires c = let a = c.args in let e = c.requires.0 in let q = params-part a.row a.i c.params-all.result c.params-all.ensures (length a.xs.now - 0) (omega (arith, e)) (omega (arith, e, count-few a.row)) in (q.0, omega (arith, q.1))

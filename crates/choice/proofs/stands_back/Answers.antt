@@ -19,8 +19,8 @@ use Rattle.choice.proofs.stands_back.Goals as goal
 pub returns-then-i-j : goal.returns-then-i-j
 returns-then-i-j c = let a = c.args in sym (back-same a.running (map operand a.xs.now) (overload_at (row_at a.row) a.i) (overload_at (row_at a.row) a.j) (ap (overload_at (row_at a.row)) (sym c.if-i-j.true)))
 
--- GONE slice-bounds-qs-end
--- part-qs-end c = omega (arith, c.before.before.before.before.before.requires.0, count-few c.before.before.before.before.before.args.row, c.before.params.ensures.four)
+pub slice_bounds-qs-end : goal.slice_bounds-qs-end
+slice_bounds-qs-end c = omega (arith, c.requires.0, count-few c.args.row, c.params-all.ensures.four)
 
 pub is_left-requires : goal.is_left-requires
 is_left-requires c = let a = c.args in let e = c.requires.0 in let q = params-part a.row a.j c.params-all.result c.params-all.ensures (length a.xs.now - 0) (omega (arith, e)) (omega (arith, e, count-few a.row)) in (q.0, omega (arith, q.1))

@@ -3,17 +3,8 @@ use borrow.Author.Rules.{rules}
 use Rattle.conv.specs.Rank.{both}
 use Rattle.conv.proofs.Finite.{table}
 use Rattle.ops_ty.specs.Ops.{binary_row}
-use Rattle.ops_ty.proofs.row_byte.Statement.{statement}
-use Rattle.ops_ty.proofs.row_byte.Tie as tie
-use Rattle.ops_ty.proofs.row_byte.Reads as reads
-use Rattle.ops_ty.proofs.row_byte.Lts as lts
+use Rattle.ops_ty.proofs.row_byte.Goals as goal
 
-array-read-result : tie.Need-array-read-result
-array-read-result c = search rules
-
-returns : tie.Need-returns
+pub returns : goal.returns
 unfolding both binary_row
 returns c = table (λ op. (binary_row op).number) 18 (lts.m2 reads.Pre reads.Post c.args c.blocks).1.1.0 tt c.args.op (search rules)
-
-pub row-byte-spec : {M : Type 1} → statement M
-row-byte-spec = tie.close (tie.spec array-read-result returns)

@@ -1,0 +1,89 @@
+-- `ops_ty::binary_at` meets its contract: each way out is one of the laws of Ways. Assumes nothing.
+use Prim.Native.Nat.{ℕ, ◌<◌}
+use mathlib.Core.Path.{◌≡◌, sym, ◌∙◌, ap, ap₂, subst}
+use mathlib.Core.Bool.{Bool, ◌||◌}
+use Rattle.conv.specs.Types.{abstract_ty}
+use Rattle.conv.specs.Rank.{both}
+use Rattle.overload.specs.inner.Code.{code_of}
+use Rattle.table.specs.Denote.{type_at}
+use Rattle.table.proofs.FormedLaws.{formed-at}
+use Rattle.held.specs.Held.{number_of, mark_of}
+use Rattle.ruled.specs.Call.{operand_ty}
+use Rattle.ruled.proofs.Outcomes.{gave-as, gave-refused}
+use Rattle.ruled.proofs.Loaded.{offered, not-offered}
+use Rattle.ops_ty.proofs.Ways.{binary-unknown, binary-left, binary-right, binary-clash, binary-row}
+use Rattle.ops_ty.proofs.binary_at.Goals.{After-clashes-2, After-code_at-x, After-code_at-y}
+use Rattle.ops_ty.proofs.binary_at.Goals as goal
+
+pub returns-then-op-ge-BINARY_OPS : goal.returns-then-op-ge-BINARY_OPS
+returns-then-op-ge-BINARY_OPS c =
+    let a = c.args in
+    gave-as (binary-unknown a.place.0 a.words.now a.n a.op (operand_ty a.words.now a.a) (operand_ty a.words.now a.b) (mark_of a.a) (mark_of a.b) c.if-op-ge-BINARY_OPS.true) (gave-refused _ _ a.words.now a.n c.refused.ensures)
+
+pub code_at-x-requires : goal.code_at-x-requires
+code_at-x-requires c = (c.requires.0, subst (λ (k : ℕ). k < c.args.n) (sym c.number.ensures) c.requires.1)
+
+-- the operands' numbers
+left_is : (c : After-code_at-x) → c.code_at-x.result ≡ code_of (operand_ty c.args.words.now c.args.a)
+left_is c = c.code_at-x.ensures ∙ ap (λ (t : ℕ). code_of (type_at c.args.words.now t)) c.number.ensures
+
+pub returns-then-x-eq-REFERENCE : goal.returns-then-x-eq-REFERENCE
+returns-then-x-eq-REFERENCE c =
+    let a = c.args in
+    gave-as
+    (binary-left a.place.0 a.words.now a.n a.op (operand_ty a.words.now a.a) (operand_ty a.words.now a.b) (mark_of a.a) (mark_of a.b) c.if-op-ge-BINARY_OPS.false
+    (offered a.words.now a.n c.requires.0 (number_of a.a) c.requires.1 _ (left_is (goal.at.returns-then-x-eq-REFERENCE c).After-code_at-x) c.if-x-eq-REFERENCE.true))
+    (gave-refused _ _ a.words.now a.n c.refused-then-x-eq-REFERENCE.ensures)
+
+pub code_at-y-requires : goal.code_at-y-requires
+code_at-y-requires c = (c.requires.0, subst (λ (k : ℕ). k < c.args.n) (sym c.number-2.ensures) c.requires.2)
+
+right_is : (c : After-code_at-y) → c.code_at-y.result ≡ code_of (operand_ty c.args.words.now c.args.b)
+right_is c = c.code_at-y.ensures ∙ ap (λ (t : ℕ). code_of (type_at c.args.words.now t)) c.number-2.ensures
+
+pub returns-then-y-eq-REFERENCE : goal.returns-then-y-eq-REFERENCE
+returns-then-y-eq-REFERENCE c =
+    let a = c.args in
+    gave-as
+    (binary-right a.place.0 a.words.now a.n a.op (operand_ty a.words.now a.a) (operand_ty a.words.now a.b) (mark_of a.a) (mark_of a.b) c.if-op-ge-BINARY_OPS.false
+    (not-offered a.words.now a.n c.requires.0 (number_of a.a) c.requires.1 _ (left_is (goal.at.returns-then-y-eq-REFERENCE c).After-code_at-x) c.if-x-eq-REFERENCE.false)
+    (offered a.words.now a.n c.requires.0 (number_of a.b) c.requires.2 _ (right_is (goal.at.returns-then-y-eq-REFERENCE c).After-code_at-y) c.if-y-eq-REFERENCE.true))
+    (gave-refused _ _ a.words.now a.n c.refused-then-y-eq-REFERENCE.ensures)
+
+pub clashes-requires : goal.clashes-requires
+clashes-requires c = (c.requires.0, c.requires.1)
+
+pub clashes-requires-2 : goal.clashes-requires-2
+clashes-requires-2 c = (c.requires.0, c.requires.2)
+
+-- whether one of them is running and abstract
+clash : (c : After-clashes-2) → (c.clashes.result || c.clashes-2.result) ≡ (both (mark_of c.args.a) (abstract_ty (operand_ty c.args.words.now c.args.a)) || both (mark_of c.args.b) (abstract_ty (operand_ty c.args.words.now c.args.b)))
+clash c = ap₂ (λ (x y : Bool). x || y) c.clashes.ensures c.clashes-2.ensures
+
+pub returns-then-clashes : goal.returns-then-clashes
+returns-then-clashes c =
+    let a = c.args in
+    gave-as
+    (binary-clash a.place.0 a.words.now a.n a.op (operand_ty a.words.now a.a) (operand_ty a.words.now a.b) (mark_of a.a) (mark_of a.b) c.if-op-ge-BINARY_OPS.false
+    (not-offered a.words.now a.n c.requires.0 (number_of a.a) c.requires.1 _ (left_is (goal.at.returns-then-clashes c).After-code_at-x) c.if-x-eq-REFERENCE.false)
+    (not-offered a.words.now a.n c.requires.0 (number_of a.b) c.requires.2 _ (right_is (goal.at.returns-then-clashes c).After-code_at-y) c.if-y-eq-REFERENCE.false)
+    (sym (clash (goal.at.returns-then-clashes c).After-clashes-2) ∙ c.if-clashes.true))
+    (gave-refused _ _ a.words.now a.n c.refused-then-clashes.ensures)
+
+pub binary_row-requires : goal.binary_row-requires
+binary_row-requires c = c.if-op-ge-BINARY_OPS.false
+
+pub judge_codes-requires : goal.judge_codes-requires
+judge_codes-requires c = c.requires.0
+
+pub returns : goal.returns
+returns c =
+    let a = c.args in
+    gave-as
+    (binary-row a.place.0 a.words.now a.n a.op (operand_ty a.words.now a.a) (operand_ty a.words.now a.b) (mark_of a.a) (mark_of a.b) c.if-op-ge-BINARY_OPS.false
+    (not-offered a.words.now a.n c.requires.0 (number_of a.a) c.requires.1 _ (left_is (goal.at.returns c).After-code_at-x) c.if-x-eq-REFERENCE.false)
+    (not-offered a.words.now a.n c.requires.0 (number_of a.b) c.requires.2 _ (right_is (goal.at.returns c).After-code_at-y) c.if-y-eq-REFERENCE.false)
+    (sym (clash (goal.at.returns c).After-clashes-2) ∙ c.if-clashes.false)
+    (formed-at a.words.now a.n c.requires.0 (number_of a.a) c.requires.1) (formed-at a.words.now a.n c.requires.0 (number_of a.b) c.requires.2)
+    _ _ _ c.binary_row.ensures (left_is (goal.at.returns c).After-code_at-x) (right_is (goal.at.returns c).After-code_at-y) _ (ap₂ (λ (x y : Bool). x || y) c.running.ensures c.running-2.ensures))
+    c.judge_codes.ensures
