@@ -14,7 +14,6 @@ use Rattle.ruled.proofs.Loaded.{by_number}
 use Rattle.ops_ty.specs.Ops.{unary_ruling}
 use Rattle.ops_ty.specs.inner.Turn.{judge_from}
 use Rattle.ops_ty.proofs.Ways.{unary-offered, unary-unknown, unary-reference, unary-clash, unary-address, unary-indirection, unary-row}
-use Rattle.ops_ty.proofs.unary_at.Lts.View.{up-After-code_at-x}
 use Rattle.ops_ty.proofs.unary_at.Goals.{After-code_at-x, After-is_offered}
 use Rattle.ops_ty.proofs.unary_at.Goals as goal
 
@@ -33,7 +32,7 @@ code_is c = c.code_at-x.ensures ∙ ap (λ (t : ℕ). code_of (type_at c.args.wo
 offers : (c : After-is_offered) → offends (unary_ruling c.args.op) (operand_ty c.args.words.now c.args.a ∷ []) ≡ c.is_offered.result
 offers c =
     let a = c.args in
-    unary-offered a.op (operand_ty a.words.now a.a) c.code_at-x.result (by_number a.words.now a.n c.requires.0 (number_of a.a) c.requires.1 c.code_at-x.result (code_is (up-After-code_at-x _ _ _ c.before.before)))
+    unary-offered a.op (operand_ty a.words.now a.a) c.code_at-x.result (by_number a.words.now a.n c.requires.0 (number_of a.a) c.requires.1 c.code_at-x.result (code_is c.before))
     ∙ sym c.is_offered.ensures
 
 pub returns-then-is_offered : goal.returns-then-is_offered
