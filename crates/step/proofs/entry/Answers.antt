@@ -1,0 +1,6 @@
+-- `step::entry` meets its contract: the four numbers, widened. Assumes nothing.
+use mathlib.Core.Path.{refl}
+use Rattle.step.proofs.entry.Goals as goal
+
+pub returns : goal.returns
+returns c = rw (c.wide32.ensures, c.wide32-2.ensures, c.wide32-3.ensures) refl
