@@ -6,7 +6,7 @@ use mathlib.Core.List.{List, [], ◌∷◌}
 use mathlib.Core.Bool.{Bool, true, false}
 use native.Mathlib.Omega.{arith}
 use lib.ListN.{length}
-use denote.Ref.{MutBor}
+use denote.Ref.{Bor}
 use Rattle.frame.specs.declared.Placed.{Placed}
 use Rattle.frame.specs.Frame.{is_item, items_from, header_size}
 use Rattle.frame.proofs.FrameLaws.{framed}
@@ -53,5 +53,5 @@ pub visits : (r : Reader) → Visits r (ahead r)
 visits r = runs (length r.sheet.now) r (omega arith)
 
 -- from the start: one list, and it is that of the sheet's items from byte 3 on
-pub from_start : (sheet : MutBor (List ℕ)) {l : List Placed} → Visits (start_of sheet) l → l ≡ items_from sheet.now header_size
+pub from_start : (sheet : Bor (List ℕ)) {l : List Placed} → Visits (start_of sheet) l → l ≡ items_from sheet.now header_size
 from_start sheet v = visited v
