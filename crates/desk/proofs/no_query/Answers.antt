@@ -2,12 +2,8 @@
 use mathlib.Core.Path.{refl}
 use native.Mathlib.Omega.{arith}
 use Rattle.why.specs.inner.Asks.{Tells, asked_pieces}
-use Rattle.desk.proofs.no_query.Statement.{statement}
-use Rattle.desk.proofs.no_query.Tie as tie
+use Rattle.desk.proofs.no_query.Goals as goal
 
-returns : tie.Need-returns
+pub returns : goal.returns
 unfolding Tells asked_pieces
 returns c = λ vals words. record { asking = record { tells = tt; order = omega arith; fits = omega arith }; pieces = refl }
-
-pub no-query-spec : {M : Type 1} → statement M
-no-query-spec = tie.close (tie.spec returns)
