@@ -1,0 +1,14 @@
+-- `swartabelk::swartabelk_binary` meets its contract: the answer of `type_binary_op` fits and is told in numbers. Assumes nothing.
+use Rattle.ops_ty.specs.Ops.{type_binary_op}
+use Rattle.swartabelk.proofs.Fitting.{binary-fits, replied}
+use mathlib.Core.Path.{refl}
+use native.Mathlib.Omega.{arith}
+use Rattle.swartabelk.proofs.swartabelk_binary.Goals as goal
+
+pub reply_of-requires : goal.reply_of-requires
+reply_of-requires c = binary-fits _ c.word-n.result (omega (arith, c.word-n.ensures, c.ranges.used)) _ _ _ _ _ c.type_binary_op-typed.ensures
+
+pub returns : goal.returns
+returns c = let a = c.args in
+    replied (λ i. type_binary_op a.words.now (c.word-n.ensures i) (c.word-o.ensures i) a.a a.b) refl
+    c.type_binary_op-typed.ensures c.reply_of.ensures
