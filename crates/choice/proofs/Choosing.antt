@@ -6,14 +6,14 @@ use mathlib.Core.Bool.{Bool, true, false, ◌&&◌, not, cond}
 use mathlib.Core.List.{List, [], ◌∷◌, map}
 use native.Mathlib.Nat.{le_of_suc-le-suc, not-suc-le-zero}
 use native.Mathlib.Omega.{arith}
-use lib.Dec.{T, ltb}
+use lib.Dec.{T}
 use lib.ListN.{length, get_or, take}
 use lib.Seq.{length-take-le, get_or-take}
 use Rattle.conv.specs.Types.{Ty}
 use Rattle.conv.specs.Rank.{both}
 use Rattle.overload.specs.Overload.{Overload, or, fits, no_more, less, same_overload, yields, all_yield, is_preferred}
-use Rattle.overload.specs.Marks.{any_abstract, sifted}
-use Rattle.overload.specs.Rows.{Row, row_at, overloads_of, operand_count}
+use Rattle.overload.specs.Marks.{sifted}
+use Rattle.overload.specs.Rows.{row_at, overloads_of, operand_count}
 use Rattle.overload.specs.inner.Code.{kept, operand}
 use Rattle.overload.proofs.Judge.{same-overload, self-overload}
 use Rattle.listing.specs.Listing.{no_overload, overload_at, Params}

@@ -1,14 +1,14 @@
 -- At most one family of a row fits: for any two and any sizes of theirs some parameter takes no operand of both, by its shape or by its component. Computed over
 -- all rows. So demand 3 holds of a row as it does of its families. Assumes nothing.
-use Rattle.std.proofs.Common.{◌≡◌, ℕ, zero, suc, ◌<◌, Bool, true, false, not, T, eqb, ltb, ◌⊎◌, List, [], ◌∷◌, map, length, get_or, sym, refl, ◌∙◌, subst, inl, inr, ⊎_elim, le_of_suc-le-suc, not-suc-le-zero, arith, eqb→eq, T_not, ltb-false, ltb-true, eqb-true}
+use Rattle.std.proofs.Common.{◌≡◌, ℕ, zero, suc, ◌<◌, Bool, true, false, not, T, eqb, ltb, List, [], ◌∷◌, map, length, get_or, sym, refl, ◌∙◌, subst, ⊎_elim, le_of_suc-le-suc, not-suc-le-zero, arith, eqb→eq, T_not, ltb-false, ltb-true, eqb-true}
 use mathlib.Core.List.{Memᴰ}
 use borrow.Author.Tests.{eqb-false}
 use Rattle.conv.specs.Types.{Ty}
-use Rattle.conv.specs.Rank.{both, Shape, rank_of, form_of, shape_of, component_of, same_shape, converts}
+use Rattle.conv.specs.Rank.{both, Shape, rank_of, component_of, same_shape}
 use Rattle.conv.proofs.Finite.{both_left, both_right, both-pair, all, below}
 use Rattle.conv.proofs.Made.{same-shape-self}
 use Rattle.overload.specs.Overload.{Overload, or, fits, listed, Preferred}
-use Rattle.overload.specs.Rows.{Size, Component, Pattern, Family, Row, form_at, component_at, pattern_ty, overload, of_family, rows, no_row, overloads_of, of_row, row_at}
+use Rattle.overload.specs.Rows.{Size, Component, Pattern, Family, Row, form_at, component_at, pattern_ty, of_family, rows, no_row, of_row, row_at}
 use Rattle.overload.specs.inner.Code.{member, reaches, no_family}
 use Rattle.overload.proofs.Preference.{Settled, Sized, fine, all_fine, or_cases, or_left, or_right, form_small, from-small}
 use Rattle.overload.proofs.Families.{Good, good-in, every, every-at, every_in}

@@ -2,25 +2,23 @@
 -- overload under which no operand costs more, by WGSL's conversion ranks, than under any other fitting overload; every other costs more at
 -- some operand." Proved of any family that passes the test, and of any row: where an overload fits the one of the first T and the first I, in the order
 -- of preference, at which the operands fit is preferred to every other, and no other family of the row fits. Assumes nothing.
-use Rattle.std.proofs.Common.{◌≡◌, ℕ, zero, suc, ◌+◌, ◌*◌, ◌<◌, ◌≤◌, Bool, true, false, not, T, eqb, ltb, leb, ◌≢◌, ◌⊎◌, List, [], ◌∷◌, map, length, get_or, sym, refl, ap, ◌∙◌, subst, ap₂, inl, inr, ⊎_elim, le_of_suc-le-suc, not-suc-le-zero, arith, eqb→eq, ltb→lt, lt→ltb, leb→le, T_not, eqb-true}
+use Rattle.std.proofs.Common.{◌≡◌, ℕ, ◌<◌, Bool, true, false, not, T, eqb, ltb, leb, ◌≢◌, ◌⊎◌, List, [], ◌∷◌, map, length, sym, refl, ap, ◌∙◌, subst, ap₂, inl, inr, ⊎_elim, eqb-true}
 use mathlib.Core.List.{Memᴰ}
 use borrow.Author.Tests.{eqb-false}
 use Rattle.conv.specs.Types.{Ty}
-use Rattle.conv.specs.Rank.{both, none, rank_of, form_of, shape_of, component_of, same_shape, converts}
-use Rattle.conv.proofs.Finite.{both_left, both_right, both-pair, all, below}
+use Rattle.conv.specs.Rank.{both, none, converts}
+use Rattle.conv.proofs.Finite.{both_left, both_right, both-pair}
 use Rattle.conv.proofs.Ranks.{order}
-use Rattle.conv.proofs.Made.{same-shape-self}
 use Rattle.overload.specs.Overload.{Overload, or, fits, listed, Preferred, Resolved}
-use Rattle.overload.specs.Overload.Judged.{gives, none_fits}
-use Rattle.overload.specs.Rows.{Size, Component, Pattern, Family, Row, form_at, component_at, pattern_ty, overload, of_family, rows, no_row, overloads_of, of_row, row_at}
+use Rattle.overload.specs.Overload.Judged.{none_fits}
+use Rattle.overload.specs.Rows.{Size, Component, Pattern, Family, component_at, pattern_ty, overload, of_family}
 use Rattle.overload.specs.Rows.Component.{of_t, of_i, exp_t, just}
-use Rattle.overload.specs.inner.Code as code
-use Rattle.overload.specs.inner.Code.{member, first_with, preference, reaches, no_family, forms_at, place_of, stop_of, no_place}
-use Rattle.overload.proofs.Preference.{Sized, Upto, Beats, beats-T, beats-I, fine, all_fine, is_i, some, is_t, one_only, not-before, or_cases, or_left, or_right, form_small, from-small}
+use Rattle.overload.specs.inner.Code.{member, first_with, preference}
+use Rattle.overload.proofs.Preference.{Sized, Upto, Beats, beats-T, beats-I, is_i, some, is_t, one_only, not-before, or_cases}
 use Rattle.overload.proofs.First.{none_passes, first_passes, first-upto}
-use Rattle.overload.proofs.Families.{Good, Fair, good-in, every, every-at, every_in}
-use Rattle.overload.proofs.Fitting.{size_of_xs, size-of-fit, count-of-fit, forms-of-fit, shape-of-fit, component-of-fit, first_ty, last_ty}
-use Rattle.overload.proofs.Listing.{Of, of-family, to-family, listed_of, to-listed}
+use Rattle.overload.proofs.Families.{Good}
+use Rattle.overload.proofs.Fitting.{size_of_xs, size-of-fit, count-of-fit}
+use Rattle.overload.proofs.Listing.{Of, of-family, to-family}
 
 -- A FAMILY at operands
 

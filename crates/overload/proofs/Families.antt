@@ -1,17 +1,16 @@
 -- What holds of every family, and of each of its sizes: one computed test over all of them. Assumes nothing.
-use Rattle.std.proofs.Common.{◌≡◌, ℕ, zero, suc, ◌<◌, ◌≤◌, Bool, true, false, T, eqb, ltb, leb, List, [], ◌∷◌, ◌++◌, length, get_or, sym, refl, ap, ◌∙◌, subst, ⊎_elim, le_of_suc-le-suc, not-suc-le-zero, arith, eqb→eq, ltb→lt, leb→le, eq-eqb}
+use Rattle.std.proofs.Common.{◌≡◌, ℕ, zero, suc, ◌<◌, ◌≤◌, Bool, true, false, T, eqb, ltb, leb, List, [], ◌∷◌, ◌++◌, length, get_or, sym, refl, ◌∙◌, subst, ⊎_elim, eqb→eq, ltb→lt, leb→le, eq-eqb}
 use mathlib.Core.List.Memᴰ
 use mathlib.Core.List.{Memᴰ}
 use Rattle.conv.specs.Rank.{both, Shape, form_of, columns_of, rows_of, same_shape}
 use Rattle.conv.specs.Rank.Shape.{one, vector, matrix, other}
 use Rattle.conv.proofs.Finite.{both_left, both_right, both-pair, implies, modus}
 use Rattle.overload.specs.Overload.{or}
-use Rattle.overload.specs.Rows as rows
-use Rattle.overload.specs.Rows.{Size, size, Component, Pattern, Family, form_at, N, Row, rows, row_at, no_row}
+use Rattle.overload.specs.Rows.{Size, size, Component, Pattern, Family, form_at, Row, rows, row_at, no_row}
 use Rattle.overload.specs.Rows.Component.{of_t, of_i, exp_t, just}
 use Rattle.overload.specs.inner.Code as code
 use Rattle.overload.specs.inner.Code.{shape_no, size_no, size_of_no, same_size, mem_size, member, family_of, families, no_family, first_param, last_param, pivot_no, size_at, joined}
-use Rattle.overload.proofs.Preference.{Sized, all_float, fine, all_fine, is_t, is_i, some, or_cases, or_left, or_right}
+use Rattle.overload.proofs.Preference.{Sized, all_float, all_fine, is_t, is_i, some, or_cases}
 
 -- shapes and sizes that pass the test are one
 

@@ -1,16 +1,15 @@
 -- What the fitting of operands says of their shapes: they are the parameters'. So they give the size of a family. Assumes nothing.
-use Rattle.std.proofs.Common.{◌≡◌, ℕ, zero, suc, ◌+◌, ◌-◌, ◌*◌, ◌<◌, ◌≤◌, Bool, true, false, T, eqb, ltb, List, [], ◌∷◌, map, length, get_or, sym, refl, ap, ◌∙◌, subst, le_of_suc-le-suc, not-suc-le-zero, arith, eqb→eq, eqb-true}
-use mathlib.Core.List.{Memᴰ}
+use Rattle.std.proofs.Common.{◌≡◌, ℕ, zero, suc, ◌+◌, ◌-◌, ◌*◌, ◌<◌, Bool, true, false, T, eqb, ltb, List, [], ◌∷◌, map, length, get_or, sym, refl, ap, ◌∙◌, subst, le_of_suc-le-suc, not-suc-le-zero, arith, eqb-true}
 use lib.ListN.{length-map}
 use borrow.Author.Tests.{eqb-false}
 use Rattle.conv.specs.Types.{Ty}
 use Rattle.conv.specs.Types.Ty.{scalar}
-use Rattle.conv.specs.Rank.{pick, both, none, rank_of, Shape, form_of, shape_of, component_of, same_shape, converts}
+use Rattle.conv.specs.Rank.{pick, none, rank_of, form_of, shape_of, component_of, same_shape, converts}
 use Rattle.conv.specs.Rank.Shape.{one}
 use Rattle.conv.proofs.Finite.{both_left, both_right}
 use Rattle.overload.specs.Overload.{Overload, fits}
-use Rattle.overload.specs.Rows.{Size, Family, Pattern, form_at, component_at, pattern_ty, overload, N}
-use Rattle.overload.specs.inner.Code.{shape_of_no, shape_no, size_of_no, size_no, first_param, last_param, forms_at, reaches}
+use Rattle.overload.specs.Rows.{Size, Family, Pattern, form_at, component_at, pattern_ty, N}
+use Rattle.overload.specs.inner.Code.{shape_of_no, shape_no, size_of_no, first_param, last_param, forms_at, reaches}
 use Rattle.overload.proofs.Preference.{Sized, fine, all_fine, slot-cost, pick-test, pick-rank}
 use Rattle.overload.proofs.Families.{Good, Fair, size_by, shape-eq}
 use Rattle.overload.proofs.Listing.{Of}

@@ -1,10 +1,9 @@
 -- The lines of the tables: what a number has as its entries, by tests that antt computes. Assumes nothing.
-use Rattle.std.proofs.Common.{◌≡◌, ℕ, zero, suc, ◌+◌, ◌*◌, ◌/◌, ◌<◌, ◌≤◌, Bool, T, eqb, ltb, List, [], length, get_or, sym, refl, ap, ◌∙◌, subst, not-suc-le-zero, arith, eqb→eq, ltb→lt, lt→ltb}
+use Rattle.std.proofs.Common.{◌≡◌, ℕ, ◌+◌, ◌*◌, ◌<◌, ◌≤◌, T, eqb, ltb, List, [], length, get_or, sym, ap, ◌∙◌, subst, not-suc-le-zero, eqb→eq, ltb→lt, lt→ltb}
 use lib.ListN.{get_or-eq_default}
 use Rattle.conv.specs.Rank.{both}
 use Rattle.conv.proofs.Finite.{both_left, both_right, implies, modus, same, same-eq, all, below, below₂}
 use Rattle.overload.specs.Rows.{Size, Family, Row, rows, row_at, no_row, operand_count}
-use Rattle.overload.specs.inner.Code as code
 use Rattle.overload.specs.inner.Code.{no_family, family_of, families, start_of, place_of, stop_of, encode, asked_of, entry, bit, has, member, sets, set_of, size_lists, sizes_of, mem_size, size_of_no, slot_t, RowLine, Word, Starts, Sizes, Scalars, Reached}
 use Rattle.overload.proofs.Listing.{row-family}
 

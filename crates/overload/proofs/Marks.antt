@@ -1,22 +1,22 @@
 -- K3 over the rows. At an overload of a family its parameters are abstract exactly where they follow T and T is abstract, so what K3 drops goes by T. Where an operand is running,
 -- and none is both running and abstract, the fitting overloads that remain are those without an abstract parameter: what the engine looks for. With const operands nothing is
 -- dropped. What is dropped never leaves a call without a fitting overload that had one. Assumes nothing.
-use Rattle.std.proofs.Common.{◌≡◌, ℕ, zero, suc, ◌<◌, Bool, true, false, cond, not, T, eqb, ltb, ◌⊎◌, List, [], ◌∷◌, map, length, sym, refl, ap, ◌∙◌, subst, ap₂, inl, inr, ⊎_elim, arith, T_not, ltb-false, ltb-true}
+use Rattle.std.proofs.Common.{◌≡◌, ℕ, ◌<◌, Bool, true, false, cond, not, T, eqb, ltb, List, [], ◌∷◌, map, length, sym, refl, ap, ◌∙◌, subst, ap₂, ⊎_elim, arith, T_not, ltb-false, ltb-true}
 use mathlib.Core.List.{Memᴰ}
 use Rattle.conv.specs.Types.{Ty, is_abstract, abstract_ty, exponent}
 use Rattle.conv.specs.Types.Ty.{scalar, vec, mat, array, runtime, atomic, ptr, ref, frexp, modf, exchange}
 use Rattle.conv.specs.Rank.{pick, both, none, rank_of, Shape, form_of, shape_of, component_of, same_shape, by_component, same_ty, conversion_rank, converts, made}
 use Rattle.conv.specs.Rank.Shape.{one, vector, matrix, other}
-use Rattle.conv.proofs.Finite.{both_left, both_right, both-pair, implies, modus, below, below₂}
+use Rattle.conv.proofs.Finite.{both_left, both_right, both-pair, implies, modus, below₂}
 use Rattle.conv.proofs.Ranks.{rank-to}
 use Rattle.conv.proofs.Made.{same-ty}
 use Rattle.overload.specs.Overload.{Overload, or, fits, listed, Judged, Resolved, judge}
 use Rattle.overload.specs.Marks.{any_running, any_abstract, dropped, remains, passing, sifted, remaining, remaining_in, running_abstract}
 use Rattle.overload.specs.Rows.{Size, Component, Pattern, Family, Row, form_at, component_at, pattern_ty, overload, of_family, rows, no_row, row_at, overloads_of, of_row, judge_row}
 use Rattle.overload.specs.Rows.Component.{of_t, of_i, exp_t, just}
-use Rattle.overload.specs.inner.Code.{member, reaches, no_family, family_of, families, kept, judge_kept, left_t}
+use Rattle.overload.specs.inner.Code.{member, reaches, no_family, family_of, families, kept, judge_kept}
 use Rattle.overload.proofs.Preference.{Sized, fine, all_fine, some, or_cases, or_left, or_right, Settled, same-resolved, same-settled, slot-cost, pick-test, pick-rank, from-small}
-use Rattle.overload.proofs.Families.{Good, good-in, every, every-at, every_in, every-member, joined-every}
+use Rattle.overload.proofs.Families.{Good, good-in, every, every-at, every-member, joined-every}
 use Rattle.overload.proofs.Listing.{Of, of-family, to-family, listed_of, to-listed}
 use Rattle.overload.proofs.Sieve.{ByT, to-sifted, of-sifted, all-sifted}
 use Rattle.overload.proofs.Apart.{family_at, some-preferred}

@@ -1,12 +1,12 @@
 -- Demand 3 for calls on atomics, for workgroupUniformLoad (document 02, K5) and for array_length (K6), whose overloads are described: one for each pointer type that the rule takes.
 -- Assumes nothing.
 use Rattle.std.proofs.Common.{◌≡◌, ℕ, zero, suc, ◌<◌, Bool, true, false, cond, not, ◌&&◌, ◌||◌, T, eqb, leb, ◌≢◌, ◌⊎◌, List, [], ◌∷◌, sym, refl, ap, ◌∙◌, subst, inl, inr, ⊎_elim, arith, lt-ltb, eqb-true}
-use Rattle.conv.specs.Types.{Ty, i32, u32, workgroup, storage, read, read_write, is_abstract, abstract_ty, is_value, is_runtime, holds_atomic, formed}
+use Rattle.conv.specs.Types.{Ty, i32, u32, workgroup, storage, read, read_write, is_abstract, abstract_ty, is_value, is_runtime, formed}
 use Rattle.conv.specs.Types.Ty.{scalar, vec, mat, array, runtime, atomic, ptr, ref, frexp, modf, exchange}
-use Rattle.conv.specs.Rank.{both, Shape, shape_of, component_of, tag_of, is_pointer, first_of, second_of, element_of}
+use Rattle.conv.specs.Rank.{shape_of, component_of, tag_of, is_pointer, first_of, second_of, element_of}
 use Rattle.conv.specs.Rank.Shape.{other}
 use Rattle.conv.proofs.Made.{remake, remade}
-use Rattle.overload.specs.Overload.{Overload, or, fits, Judged, Resolved}
+use Rattle.overload.specs.Overload.{Overload, or, fits, Resolved}
 use Rattle.overload.specs.Overload.Judged.{gives, none_fits}
 use Rattle.overload.specs.Marks.{any_abstract}
 use Rattle.overload.specs.Rows.{to_atomic, values, atomic_of, is_atomic, loadable, loaded, uniform_load_of, to_runtime, array_length_of, takes_atomic, atomic_in, judge_atomic, takes_load, judge_load, takes_length, judge_length}

@@ -1,14 +1,14 @@
 -- The sets at which operands fit a family, narrowed operand by operand: what is joined and left so far, with the operands that are left, fits as the whole does.
 -- Assumes nothing.
-use Rattle.std.proofs.Common.{◌≡◌, ℕ, zero, suc, ◌+◌, ◌*◌, ◌/◌, ◌%◌, ◌<◌, ◌≤◌, Bool, true, false, not, T, eqb, ltb, ◌≢◌, List, [], ◌∷◌, map, length, get_or, drop, sym, refl, ap, ◌∙◌, subst, ap₂, le_of_suc-le-suc, add-one, arith, ltb→lt, drop_of_length-le, drop-cons, eq-eqb, ne_eqb}
+use Rattle.std.proofs.Common.{◌≡◌, ℕ, zero, suc, ◌+◌, ◌*◌, ◌/◌, ◌%◌, ◌<◌, ◌≤◌, Bool, true, false, T, eqb, ltb, ◌≢◌, List, [], ◌∷◌, map, length, get_or, drop, sym, refl, ap, ◌∙◌, subst, le_of_suc-le-suc, add-one, arith, ltb→lt, drop_of_length-le, drop-cons, eq-eqb, ne_eqb}
 use lib.Bits.{bit_and}
-use Rattle.conv.specs.Rank.{pick, both, none, converts}
+use Rattle.conv.specs.Rank.{both, converts}
 use Rattle.conv.proofs.Finite.{both_left, both_right}
-use Rattle.overload.specs.Overload.{or, fits}
+use Rattle.overload.specs.Overload.{fits}
 use Rattle.overload.specs.Rows.{Size, Pattern, Form, Component, form_at, component_at, pattern_ty, N}
-use Rattle.overload.specs.inner.Code.{shape_no, operand, size_of_no, mem_size, form_no, form_of_no, component_no, component_of_no, pattern_of, asked_of, family_of, digit_of, has, reaches, allows, slot_t, slot_i, fits_at}
-use Rattle.overload.proofs.Preference.{Sized, fine}
-use Rattle.overload.proofs.Families.{Good, good, Fair, every, mem-size}
+use Rattle.overload.specs.inner.Code.{shape_no, operand, size_of_no, mem_size, form_of_no, component_of_no, pattern_of, asked_of, family_of, digit_of, has, reaches, allows, slot_t, slot_i, fits_at}
+use Rattle.overload.proofs.Preference.{fine}
+use Rattle.overload.proofs.Families.{good, Fair, every, mem-size}
 use Rattle.overload.proofs.Fitting.{fine-at}
 use Rattle.overload.proofs.Sets.{has-and, has-none, has_all}
 use Rattle.overload.proofs.Slots.{form-back, form-below, component-back, component-below, form-digit, component-digit, slot-no, slot-sets, slot-T-is, slot-I-any, allows-all, allows-none}

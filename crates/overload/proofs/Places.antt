@@ -1,5 +1,5 @@
 -- The forms of the first and last operands give the place in a row of the families that may fit: computed over every row, family and size. Assumes nothing.
-use Rattle.std.proofs.Common.{◌≡◌, ℕ, zero, suc, ◌+◌, ◌<◌, ◌≤◌, Bool, true, false, not, T, eqb, ltb, leb, ◌≢◌, ◌⊎◌, List, [], ◌∷◌, length, get_or, sym, refl, ap, ◌∙◌, subst, inl, inr, ⊎_elim, le_of_suc-le-suc, not-suc-le-zero, arith, eqb→eq, ltb→lt, leb→le, T_not, eq-eqb}
+use Rattle.std.proofs.Common.{◌≡◌, ℕ, zero, suc, ◌+◌, ◌<◌, ◌≤◌, Bool, true, false, not, T, eqb, ltb, leb, ◌≢◌, ◌⊎◌, List, [], ◌∷◌, length, get_or, refl, subst, inl, inr, ⊎_elim, le_of_suc-le-suc, not-suc-le-zero, arith, eqb→eq, ltb→lt, leb→le, T_not, eq-eqb}
 use mathlib.Core.List.{Memᴰ}
 use Rattle.conv.specs.Rank.{pick, both}
 use Rattle.conv.proofs.Finite.{both_left, both_right}

@@ -2,7 +2,7 @@
 -- overload of the earlier choices, in the order of preference, beats that of the later ones wherever both fit. Assumes nothing.
 use Rattle.std.proofs.Common.{◌≡◌, ℕ, ◌<◌, Bool, true, false, cond, T, eqb, ltb, leb, ◌⊎◌, List, [], ◌∷◌, map, length, sym, refl, ap, ◌∙◌, subst, inl, inr, ⊎_elim, arith, le→leb, eqb→eq, ltb→lt, leb→le, ltb-false, ltb-true}
 use Rattle.conv.specs.Types.{Ty, is_float, is_abstract, exponent}
-use Rattle.conv.specs.Rank.{pick, both, none, rank_of, form_of, shape_of, component_of, same_shape, conversion_rank, converts, made}
+use Rattle.conv.specs.Rank.{pick, both, none, rank_of, form_of, shape_of, component_of, same_shape, conversion_rank, converts}
 use Rattle.conv.proofs.Finite.{both_left, both_right, both-pair, implies, modus, below₃}
 use Rattle.conv.proofs.Ranks.{rank-from, order, rises}
 use Rattle.conv.proofs.Made.{made-rank}

@@ -1,5 +1,5 @@
 -- The ways out of the engine, each as a judgment of demand 3: first of one family, then of a row. Assumes nothing.
-use Rattle.std.proofs.Common.{◌≡◌, ℕ, zero, suc, ◌+◌, ◌-◌, ◌*◌, ◌/◌, ◌%◌, ◌<◌, ◌≤◌, Bool, true, false, T, eqb, ltb, ◌≢◌, ◌⊎◌, List, [], ◌∷◌, map, length, get_or, sym, refl, ap, ◌∙◌, subst, ap₂, inl, inr, ⊎_elim, le_of_suc-le-suc, eq-or-lt_of_le, add-one, arith, eqb→eq, ltb→lt, ltb-false, ltb-true, le-ltb, eq-eqb, ne_eqb, eqb-true}
+use Rattle.std.proofs.Common.{◌≡◌, ℕ, zero, suc, ◌+◌, ◌-◌, ◌*◌, ◌/◌, ◌%◌, ◌<◌, ◌≤◌, Bool, true, false, T, eqb, ltb, ◌≢◌, List, [], ◌∷◌, map, length, get_or, sym, refl, ap, ◌∙◌, subst, ⊎_elim, le_of_suc-le-suc, eq-or-lt_of_le, add-one, arith, eqb→eq, ltb→lt, le-ltb, eq-eqb, ne_eqb}
 use mathlib.Core.List.Memᴰ
 use mathlib.Core.List.{Memᴰ}
 use lib.Dec.{eqb_refl}
@@ -7,20 +7,19 @@ use lib.Bits.{bit_and}
 use lib.ListN.{length-map}
 use borrow.Author.Tests.{eqb-false}
 use Rattle.conv.specs.Types.{Ty}
-use Rattle.conv.specs.Types.Ty.{scalar, frexp, modf}
+use Rattle.conv.specs.Types.Ty.{frexp, modf}
 use Rattle.conv.specs.Rank.{pick, both, none, Shape, form_of, shape_of, same_shape, made}
 use Rattle.conv.specs.Rank.Shape.{one, other}
-use Rattle.conv.proofs.Finite.{both_left, both-pair, implies, modus, below}
+use Rattle.conv.proofs.Finite.{both-pair, implies, modus, below}
 use Rattle.conv.proofs.Made.{shape-made, same-shape-self}
-use Rattle.overload.specs.Overload.{Overload, or, fits, listed, Resolved}
+use Rattle.overload.specs.Overload.{Overload, fits, listed, Resolved}
 use Rattle.overload.specs.Overload.Judged.{none_fits}
 use Rattle.overload.specs.Marks.{passing}
-use Rattle.overload.specs.Rows.{Size, size, Form, Wrap, Family, Component, form_at, component_at, pattern_ty, overload, wrapped, of_family, of_row, row_at, rows, overloads_of}
+use Rattle.overload.specs.Rows.{Size, size, Form, Wrap, Family, Component, form_at, component_at, pattern_ty, overload, wrapped, of_family, of_row, row_at}
 use Rattle.overload.specs.Rows.Form.{sized, left}
 use Rattle.overload.specs.Rows.Component.{of_t, of_i, exp_t, just}
 use Rattle.overload.specs.Rows.Wrap.{bare, in_frexp, in_modf}
-use Rattle.overload.specs.inner.Code as code
-use Rattle.overload.specs.inner.Code.{shape_of_no, shape_no, operand, size_no, size_of_no, same_size, mem_size, sizes_of, form_no, form_of_no, component_no, wrap_no, asked_of, family_of, first_param, last_param, pivot_no, size_at, encode, digit_of, has, member, set_of, first_with, preference, fits_at, first_x, last_x, forms_of, place_of, stop_of, no_place, kept, out_of, tried_of, judged_of}
+use Rattle.overload.specs.inner.Code.{shape_of_no, shape_no, operand, size_no, size_of_no, same_size, mem_size, sizes_of, form_no, form_of_no, component_no, wrap_no, asked_of, family_of, first_param, last_param, pivot_no, size_at, encode, digit_of, has, member, first_with, preference, fits_at, first_x, last_x, forms_of, place_of, stop_of, no_place, kept, out_of, tried_of, judged_of}
 use Rattle.overload.specs.declared.Out.{Out}
 use Rattle.overload.specs.declared.Tried.{Tried}
 use Rattle.overload.specs.declared.Tried.TheVariants.{Fits, Not}
@@ -31,7 +30,7 @@ use Rattle.overload.proofs.First.{same_first}
 use Rattle.overload.proofs.Families.{Good, good, good-in, Fair, plain_c, size_by, only_no, mem-size, shape-eq}
 use Rattle.overload.proofs.Fitting.{nobody, first_ty, last_ty, size_of_xs, forms-of-fit, first-shape, last-shape}
 use Rattle.overload.proofs.Listing.{of-family, listed_of}
-use Rattle.overload.proofs.Demand3.{Fitted, takes, count-apart, size-apart, no-T, no-I, small-T, small-I, first-preferred}
+use Rattle.overload.proofs.Demand3.{takes, count-apart, size-apart, no-T, no-I, small-T, small-I, first-preferred}
 use Rattle.overload.proofs.Sieve.{left_set, narrow, narrow_good, narrow-resolved}
 use Rattle.overload.proofs.Marks.{kept_of}
 use Rattle.overload.proofs.Apart.{family_at, row-of-family}

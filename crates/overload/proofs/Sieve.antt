@@ -1,6 +1,6 @@
 -- What remains of a family by a test that goes by T is a family again, whose set has the concrete T alone where the test asks for them. So what is proved of families holds
 -- of what K3 leaves of them. Assumes nothing.
-use Rattle.std.proofs.Common.{◌≡◌, ℕ, ◌+◌, ◌<◌, ◌≤◌, Bool, true, false, cond, not, T, eqb, leb, ◌⊎◌, List, [], ◌∷◌, map, length, sym, refl, ap, ◌∙◌, subst, ap₂, inl, inr, ⊎_elim, arith, le→leb, eqb→eq, leb→le}
+use Rattle.std.proofs.Common.{◌≡◌, ℕ, ◌≤◌, Bool, true, false, cond, not, T, eqb, leb, List, [], ◌∷◌, length, sym, refl, ap, ◌∙◌, subst, ⊎_elim, arith, le→leb, eqb→eq, leb→le}
 use mathlib.Core.List.Memᴰ
 use mathlib.Core.List.{Memᴰ}
 use Rattle.conv.specs.Types.{Ty, is_float, is_abstract}
@@ -10,10 +10,10 @@ use Rattle.overload.specs.Overload.{Overload, or, listed, Preferred, Judged, Res
 use Rattle.overload.specs.Marks.{passing, sifted}
 use Rattle.overload.specs.Rows.{Size, Pattern, Family, overload, of_family}
 use Rattle.overload.specs.Rows.Component.{of_t, of_i, exp_t, just}
-use Rattle.overload.specs.inner.Code.{member, pivot_no, size_at, left_t}
+use Rattle.overload.specs.inner.Code.{member, pivot_no, left_t}
 use Rattle.overload.proofs.Preference.{all_float, fine, all_fine, is_t, some, or_cases, or_left, or_right, same-preferred, same-resolved}
 use Rattle.overload.proofs.Families.{Good, Fair}
-use Rattle.overload.proofs.Listing.{Of, of-family, to-family}
+use Rattle.overload.proofs.Listing.{of-family, to-family}
 
 -- WHAT PASSES A TEST, of a list
 

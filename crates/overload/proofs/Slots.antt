@@ -1,18 +1,17 @@
 -- One parameter in the code's numbers: what an operand's conversion to it comes to, and the join of scalars. Assumes nothing.
-use Rattle.std.proofs.Common.{◌≡◌, ℕ, zero, suc, ◌+◌, ◌*◌, ◌/◌, ◌%◌, ◌<◌, Bool, true, false, cond, not, T, eqb, ltb, ◌≢◌, List, [], ◌∷◌, get_or, sym, refl, ap, ◌∙◌, subst, ap₂, le_of_suc-le-suc, not-suc-le-zero, arith, ltb→lt, lt-ltb, eq-eqb, ne_eqb, eqb-true}
+use Rattle.std.proofs.Common.{◌≡◌, ℕ, zero, suc, ◌+◌, ◌*◌, ◌/◌, ◌%◌, ◌<◌, Bool, true, false, cond, not, T, eqb, ltb, ◌≢◌, List, get_or, sym, refl, ap, ◌∙◌, ap₂, le_of_suc-le-suc, not-suc-le-zero, arith, ltb→lt, lt-ltb, eq-eqb, ne_eqb, eqb-true}
 use borrow.Author.Tests.{eqb-false}
-use Rattle.conv.specs.Rank.{pick, both, none, rank_of, Shape, form_of, component_of, same_shape, conversion_rank, converts, made, common_of, accepts}
+use Rattle.conv.specs.Rank.{pick, both, none, rank_of, Shape, component_of, same_shape, converts, made, common_of, accepts}
 use Rattle.conv.specs.Rank.Shape.{one, vector, matrix, other}
 use Rattle.conv.proofs.Finite.{same, same-eq, below₃}
 use Rattle.conv.proofs.Ranks.{join, rank-from}
 use Rattle.conv.proofs.Made.{shape-made}
 use Rattle.overload.specs.Overload.{or}
-use Rattle.overload.specs.Rows.{Form, Component, Pattern, form_at, component_at, pattern_ty, N}
+use Rattle.overload.specs.Rows.{Form, Component, form_at, component_at, pattern_ty, N}
 use Rattle.overload.specs.Rows.Form.{sized, single, vec_c, vec_r, left, right, turned}
 use Rattle.overload.specs.Rows.Component.{of_t, of_i, exp_t, just}
 use Rattle.overload.specs.inner.Code.{shape_of_no, shape_no, operand, size_of_no, form_no, form_of_no, component_no, component_of_no, pattern_of, asked_of, family_of, encode, digit_of, reaches, allows, slot_t, slot_i}
 use Rattle.overload.proofs.Preference.{Sized, fine, slot-cost}
-use Rattle.overload.proofs.Families.{plain_c}
 
 -- THE NUMBERS OF A PATTERN give it back
 

@@ -1,6 +1,6 @@
 -- Document 02, K3: operands are known early, as const-expressions, or only when running. WGSL "Overload Resolution": "a candidate is dropped when some operand has an
 -- abstract type after conversion and another operand is not a const-expression". Assumes nothing.
-use Rattle.std.specs.Prelude.{Bool, true, false, cond, not, T, List, [], ◌∷◌}
+use Rattle.std.specs.Prelude.{Bool, false, cond, not, T, List, [], ◌∷◌}
 use Rattle.conv.specs.Types.{Ty, abstract_ty}
 use Rattle.conv.specs.Rank.{both}
 use Rattle.overload.specs.Overload.{Overload, or}

@@ -9,7 +9,6 @@ use Rattle.overload.specs.Overload.Judged.{gives, none_fits}
 use Rattle.overload.specs.Marks.{running_abstract}
 use Rattle.overload.specs.Rows.{Ruling, judge_by}
 use Rattle.table.specs.Table.{Sound}
-use Rattle.table.specs.Placing.{turned_down}
 use Rattle.table.specs.Lacking.{Longer, Grown}
 use Rattle.answer.specs.declared.Reason.TheVariants.{NoOverload, Reference, RunningAbstract}
 use Rattle.table.proofs.Growing.{grown-refused, grown-silent, grown-test, grown-entering}

@@ -6,19 +6,19 @@ use mathlib.Core.Bool.{Bool, true, false, cond}
 use mathlib.Core.List.{List, ◌++◌}
 use native.Mathlib.Omega.{arith}
 use lib.Dec.{leb, eqb}
-use lib.ListN.{length, get_or, length-append, get_or-append}
+use lib.ListN.{length, length-append, get_or-append}
 use borrow.Author.Tests.{le-leb, lt-leb, leb-true, leb-false, eq-eqb}
 use Rattle.conv.specs.Types.{Ty}
 use Rattle.conv.specs.Types.Ty.{scalar, vec, mat, array, runtime, atomic, ptr, ref, frexp, modf, exchange}
 use Rattle.conv.specs.Rank.{same_ty}
-use Rattle.answer.specs.Answer.{reason_no, numbers_of, lacking_of, refuse}
+use Rattle.answer.specs.Answer.{reason_no, numbers_of, refuse}
 use Rattle.answer.specs.declared.Reason.{Reason}
 use Rattle.answer.specs.declared.Reason.TheVariants.{NoRoom, Template, Unsound}
 use Rattle.answer.specs.declared.Answer.{Answer}
 use Rattle.answer.specs.declared.Answer.TheVariants.{NoValue}
 use Rattle.table.specs.Table.{stride, ceiling, or_else, entry_at, entry_key, soundb, allowedb, Sound}
 use Rattle.table.specs.Denote.{type_at, ty_of}
-use Rattle.table.specs.Enter.{free, lacking, enter_type_reply, enter_type_words}
+use Rattle.table.specs.Enter.{free}
 use Rattle.table.specs.Placing.{stands_in, Standing, or_next, placed_over, placed, Outcome, turned_down, entering, enter_type}
 use Rattle.table.specs.Lacking.{Longer, Lacks, Grown}
 use Rattle.table.specs.declared.Entry.{Entry}

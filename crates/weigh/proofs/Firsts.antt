@@ -7,7 +7,7 @@ use native.Mathlib.Nat.{le_of_suc-le-suc, not-suc-le-zero}
 use native.Mathlib.Omega.{arith}
 use lib.Dec.{ltb, leb-suc-suc}
 use lib.ListN.{length, get_or}
-use borrow.Author.Tests.{lt-ltb, le-ltb}
+use borrow.Author.Tests.{lt-ltb}
 use Rattle.conv.specs.Types.{Ty, abstract_ty}
 use Rattle.conv.specs.Rank.{both, converts}
 use Rattle.overload.specs.Overload.{or, fits}

@@ -3,20 +3,18 @@ use Prim.Native.Nat.{ℕ, suc, ◌+◌, ◌/◌, ◌%◌, ◌≤◌, ◌<◌}
 use mathlib.Core.Path.{◌≡◌, refl, sym, ◌∙◌, ap}
 use mathlib.Core.Logic.{◌≢◌}
 use mathlib.Core.Bool.{Bool, true, false, ◌||◌, cond}
-use mathlib.Core.List.{List, [], ◌∷◌, map}
+use mathlib.Core.List.{List, map}
 use native.Mathlib.Numerals.{add-one}
-use native.Mathlib.Nat.{add-zero}
 use native.Mathlib.Omega.{arith}
 use lib.Dec.{T, eqb, ltb, leb}
 use lib.ListN.{length, get_or, drop, drop_of_length-le}
 use lib.Seq.{drop-cons}
-use borrow.Author.Tests.{eq-eqb, ne_eqb, lt-ltb, le-ltb, le-leb, lt-leb}
+use borrow.Author.Tests.{eq-eqb, ne_eqb, lt-ltb, le-leb, lt-leb}
 use Rattle.conv.specs.Types.{abstract_ty, is_abstract}
-use Rattle.conv.specs.Rank.{pick, both, none, rank_of, form_of, same_shape, component_of, conversion_rank, converts, made}
+use Rattle.conv.specs.Rank.{pick, both, none, rank_of, form_of, same_shape, component_of, conversion_rank, made}
 use Rattle.overload.specs.Overload.{or, no_more, less}
-use Rattle.overload.specs.Rows.{form_at}
-use Rattle.overload.specs.inner.Code.{shape_of_no, shape_no, size_of_no, form_of_no, asked_of, operand}
-use Rattle.overload.proofs.Slots.{shape-test, by_shape}
+use Rattle.overload.specs.inner.Code.{shape_of_no, operand}
+use Rattle.overload.proofs.Slots.{by_shape}
 use Rattle.weigh.specs.Weigh.{first_by, first_miss}
 use Rattle.conv.proofs.Finite.{both_left, both_right, same, same-eq, below, below₂}
 use Rattle.conv.proofs.Made.{made-rank, shape-made}

@@ -1,5 +1,5 @@
 -- `choice::chosen` meets its contract. The loop's invariant: none passed is chosen. Assumes nothing.
-use Prim.Native.Nat.{ℕ, ◌-◌}
+use Prim.Native.Nat.{ℕ}
 use mathlib.Core.Path.{◌≡◌, sym, ◌∙◌}
 use mathlib.Core.Bool.{false}
 use mathlib.Core.List.{map}

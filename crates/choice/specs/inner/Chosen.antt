@@ -1,5 +1,5 @@
 -- Which overload of a row is chosen, where one operand is running or none: as `is_chosen` of `reasons/specs/Reasons.antt` has it by the marks. Assumes nothing.
-use Rattle.std.specs.Prelude.{ℕ, Bool, not, List}
+use Rattle.std.specs.Prelude.{Bool, not, List}
 use Rattle.conv.specs.Types.{Ty}
 use Rattle.conv.specs.Rank.{both}
 use Rattle.overload.specs.Overload.{Overload, or, yields, is_preferred}

@@ -1,5 +1,4 @@
 -- `entering::put_scalars` meets its contract: after i turns the first i scalars stand. Assumes nothing.
-use Prim.Native.Nat.{◌-◌}
 use mathlib.Core.Path.{◌≡◌, refl}
 use native.Mathlib.Omega.{arith}
 use native.Mathlib.Numerals.{add-one}

@@ -1,6 +1,6 @@
 -- `listing::params` meets its contract. The loop carries `Left`: the overload stands in one of the families that are left, at the place that is left. Assumes nothing.
 use native.Mathlib.Omega.{arith}
-use Prim.Native.Nat.{ℕ, ◌+◌, ◌-◌, ◌<◌}
+use Prim.Native.Nat.{ℕ, ◌+◌, ◌<◌}
 use mathlib.Core.Path.{◌≡◌, sym, ◌∙◌, ap, subst}
 use lib.ListN.{length}
 use Rattle.overload.specs.Rows.{Family, of_family, row_at}

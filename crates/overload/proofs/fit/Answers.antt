@@ -1,5 +1,5 @@
 -- `overload::fit` meets its contract. The loop carries `Narrowed`: what is joined and left so far, with the operands that are left, fits as the whole does. Assumes nothing.
-use Rattle.std.proofs.Common.{◌≡◌, ℕ, ◌+◌, ◌-◌, ◌*◌, ◌/◌, ◌%◌, ◌<◌, ◌≤◌, eqb, get_or, sym, ap, ◌∙◌, subst, ⊎_elim, arith}
+use Rattle.std.proofs.Common.{◌≡◌, ℕ, ◌+◌, ◌*◌, ◌/◌, ◌%◌, ◌<◌, ◌≤◌, eqb, get_or, sym, ap, ◌∙◌, subst, ⊎_elim, arith}
 use Rattle.conv.specs.Rank.{pick, none}
 use Rattle.overload.specs.inner.Code.{asked_of, digit_of}
 use Rattle.overload.proofs.Slots.{other-shape, same-shape}
@@ -128,15 +128,15 @@ loop-i-preserved c =
     let p = c.requires in
     let l = c.loop-i in
     elim c.if-of-ge-OF_T.branch [
-      then-of-ge-OF_T+else-j w ↦
-        narrowed-as w.j-is w.m-is w.v-is
-        (next-T a.f a.n a.xs.now p.1 p.2 p.4 l.j l.m l.v l.i l.invariant c.loop-i-test.true (byte (goal.at.loop-i-preserved c).After-component-s) (shape (goal.at.loop-i-preserved c).Else-s) (nine (goal.at.loop-i-preserved c).After-digit-of w.if-of-ge-OF_T.true) w.join-j.result
-        (λ t h. rw (s-is (goal.at.loop-i-preserved c).Else-s) at (w.join-j.ensures.1 t h)) (⊎_elim (λ e. absurd (w.if-j.false e)) (λ l. l) w.join-j.ensures.0))
-    | else-of-ge-OF_T w ↦
-        narrowed-as w.j-is w.m-is w.v-is
-        (next-other a.f a.n a.xs.now p.1 p.2 p.4 l.j l.m l.v l.i l.invariant c.loop-i-test.true (byte (goal.at.loop-i-preserved c).After-component-s) (shape (goal.at.loop-i-preserved c).Else-s) w.reached-m.result w.second_slot-v.result
-        (λ t h. rw (of_is (goal.at.loop-i-preserved c).After-digit-of, s-is (goal.at.loop-i-preserved c).Else-s) at (w.reached-m.ensures t h))
-        (λ i h. rw (of_is (goal.at.loop-i-preserved c).After-digit-of, s-is (goal.at.loop-i-preserved c).Else-s) at (w.second_slot-v.ensures i h)))
+      | then-of-ge-OF_T+else-j w ↦
+          narrowed-as w.j-is w.m-is w.v-is
+          (next-T a.f a.n a.xs.now p.1 p.2 p.4 l.j l.m l.v l.i l.invariant c.loop-i-test.true (byte (goal.at.loop-i-preserved c).After-component-s) (shape (goal.at.loop-i-preserved c).Else-s) (nine (goal.at.loop-i-preserved c).After-digit-of w.if-of-ge-OF_T.true) w.join-j.result
+          (λ t h. rw (s-is (goal.at.loop-i-preserved c).Else-s) at (w.join-j.ensures.1 t h)) (⊎_elim (λ e. absurd (w.if-j.false e)) (λ l. l) w.join-j.ensures.0))
+      | else-of-ge-OF_T w ↦
+          narrowed-as w.j-is w.m-is w.v-is
+          (next-other a.f a.n a.xs.now p.1 p.2 p.4 l.j l.m l.v l.i l.invariant c.loop-i-test.true (byte (goal.at.loop-i-preserved c).After-component-s) (shape (goal.at.loop-i-preserved c).Else-s) w.reached-m.result w.second_slot-v.result
+          (λ t h. rw (of_is (goal.at.loop-i-preserved c).After-digit-of, s-is (goal.at.loop-i-preserved c).Else-s) at (w.reached-m.ensures t h))
+          (λ i h. rw (of_is (goal.at.loop-i-preserved c).After-digit-of, s-is (goal.at.loop-i-preserved c).Else-s) at (w.second_slot-v.ensures i h)))
     ]
 
 pub allowed-requires : goal.allowed-requires

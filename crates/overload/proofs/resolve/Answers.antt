@@ -1,5 +1,5 @@
 -- `overload::resolve` meets its contract: its judgment meets demand 3, and so is the one that the definition gives. The loop carries `Trying`: the families that are tried so far do not fit. Assumes nothing.
-use Rattle.std.proofs.Common.{◌≡◌, ℕ, ◌+◌, ◌-◌, ◌*◌, map, ap, ◌∙◌, subst, arith}
+use Rattle.std.proofs.Common.{◌≡◌, ℕ, ◌+◌, ◌*◌, map, ap, ◌∙◌, subst, arith}
 use Rattle.conv.specs.Rank.{form_of}
 use Rattle.overload.specs.Overload.{Resolved, listed}
 use Rattle.overload.specs.Marks.{passing}

@@ -1,6 +1,6 @@
 -- How the code numbers what Rows writes: shapes, operands, sizes, patterns, sets of T, families. Of these only `operand`, `code_of`, `out_of` and `judged_of`
 -- stand in promises to the crates above; the rest says what the tables of the code hold. Assumes nothing.
-use Rattle.std.specs.Prelude.{◌≡◌, ℕ, ◌+◌, ◌-◌, ◌*◌, ◌/◌, ◌%◌, ◌^◌, ◌<◌, Bool, false, cond, not, T, List, [], ◌∷◌, ◌++◌, map, length, get_or, take, ◌==◌, nat_eq, nat_le, nat_lt, slice_index, slice_index_or}
+use Rattle.std.specs.Prelude.{◌≡◌, ℕ, ◌+◌, ◌-◌, ◌*◌, ◌/◌, ◌%◌, ◌^◌, ◌<◌, Bool, false, cond, not, List, [], ◌∷◌, ◌++◌, map, length, get_or, take, ◌==◌, nat_eq, nat_le, nat_lt, slice_index, slice_index_or}
 use Rattle.conv.specs.Types.{Ty, is_width, is_abstract, bool, i32, u32, f32}
 use Rattle.conv.specs.Types.Ty.{frexp, modf}
 use Rattle.conv.specs.Rank.{pick, both, none, rank_of, Shape, form_of, columns_of, rows_of, same_shape, shape_of, component_of, is_reference, made}

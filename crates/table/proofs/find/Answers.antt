@@ -1,7 +1,6 @@
 -- `table::find` meets its contract. The loop has found nothing yet. Assumes nothing.
 use mathlib.Core.Path.{◌≡◌, sym, ◌∙◌, ap}
 use mathlib.Core.Bool.{true, false}
-use Prim.Native.Nat.{◌-◌}
 use native.Mathlib.Omega.{arith}
 use Rattle.table.specs.Table.{entry_at, sameb}
 use Rattle.table.specs.declared.Entry.{Entry}

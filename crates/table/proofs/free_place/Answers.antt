@@ -2,7 +2,6 @@
 use native.Mathlib.Omega.{arith}
 use mathlib.Core.Bool.{true, false}
 use mathlib.Core.Path.{◌≡◌, refl, sym, ◌∙◌, ap}
-use Prim.Native.Nat.{◌-◌}
 use Rattle.table.proofs.SlotLaws.{slot-below, walk_start, walk-hit, walk-rise, walk_step, walk_end}
 use Rattle.table.specs.declared.Entry.{Entry}
 use Rattle.table.specs.Table.{sameb, entry_at}

@@ -6,7 +6,6 @@ use lib.ListN.{length-set}
 use native.Mathlib.Omega.{arith}
 use mathlib.Core.Logic.{◌≢◌}
 use mathlib.Core.Path.{◌∙◌, sym}
-use Prim.Native.Nat.{◌-◌}
 use Rattle.table.proofs.SlotLaws.{based-scalars}
 use Rattle.table.proofs.KindLaws.{split}
 use Rattle.table.proofs.put_bases.Goals as goal

@@ -1,5 +1,4 @@
 -- `table::rest_good` meets its contract. The loop has passed good entries alone, which stand on their ways. Assumes nothing.
-use Prim.Native.Nat.{◌-◌}
 use mathlib.Core.Path.{◌≡◌, sym, ◌∙◌}
 use mathlib.Core.Bool.{true, false}
 use native.Mathlib.Omega.{arith}

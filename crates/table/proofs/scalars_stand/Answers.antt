@@ -1,5 +1,4 @@
 -- `table::scalars_stand` meets its contract. The loop has passed scalars alone. Assumes nothing.
-use Prim.Native.Nat.{◌-◌}
 use mathlib.Core.Path.{◌≡◌, sym, ◌∙◌, ap}
 use mathlib.Core.Bool.{true, false}
 use native.Mathlib.Omega.{arith}

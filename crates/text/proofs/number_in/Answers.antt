@@ -1,6 +1,5 @@
 -- `text::number_in` meets its contract. The loop's invariant: the digits before `i` are read and make `n`, which has 32 bits. Where a byte is no digit, or
 -- the digits make more, the text is no number whatever follows. Assumes nothing.
-use Prim.Native.Nat.{◌-◌}
 use Rattle.text.proofs.Numbers.{nothing, none_read, all_read, below-zero, above-nine, too_large, digit-read}
 use Rattle.text.proofs.number_in.Goals as goal
 

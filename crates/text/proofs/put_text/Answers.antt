@@ -1,5 +1,4 @@
 -- `text::put_text` meets its contract. The loop's invariant: the first j bytes of the text stand there. Assumes nothing.
-use Prim.Native.Nat.{◌-◌}
 use mathlib.Core.Path.{◌≡◌, refl, ◌∙◌, ap}
 use native.Mathlib.Omega.{arith}
 use lib.ListN.{length, take}

@@ -1,5 +1,4 @@
 -- `weigh::beats` meets its contract. The loop's invariant: what is left decides, with whether one of those passed costs less. Assumes nothing.
-use Prim.Native.Nat.{◌-◌}
 use mathlib.Core.Path.{refl, sym, ◌∙◌}
 use native.Mathlib.Omega.{arith}
 use Rattle.overload.specs.Overload.{or}
