@@ -6,7 +6,7 @@ use mathlib.Core.List.{List, [], ◌∷◌}
 use lib.Dec.{T}
 use lib.ListN.{length}
 use Rattle.conv.specs.Types.{Ty}
-use Rattle.conv.specs.Rank.{both, converts}
+use Rattle.conv.specs.Rank.{converts}
 use Rattle.conv.proofs.Finite.{both_right}
 use Rattle.overload.specs.Overload.{Overload, fits}
 use Rattle.overload.specs.Rows.{values, Ruling, overloads_by, Known}

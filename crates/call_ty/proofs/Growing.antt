@@ -1,16 +1,15 @@
 -- How much room is missing (document 02, K2), of calls of builtins, on loaded operands and as single calls. Assumes nothing.
-use Prim.Native.Nat.{ℕ, zero, suc, ◌<◌}
-use mathlib.Core.Path.{◌≡◌, refl, ap}
-use mathlib.Core.Bool.{Bool, true}
-use mathlib.Core.List.{List, [], ◌∷◌, map}
+use Prim.Native.Nat.{ℕ, suc}
+use mathlib.Core.Path.{◌≡◌, refl}
+use mathlib.Core.Bool.{Bool}
+use mathlib.Core.List.{List, [], ◌∷◌}
 use native.Mathlib.Omega.{arith}
 use lib.Dec.{eqb}
 use lib.ListN.{length}
 use Rattle.conv.specs.Types.{Ty}
-use Rattle.names.specs.Names.{Rule, Named, rule_of}
+use Rattle.names.specs.Names.{Named, rule_of}
 use Rattle.names.specs.Names.Named.{rule, unknown}
 use Rattle.table.specs.Table.{Sound}
-use Rattle.table.specs.Denote.{type_at}
 use Rattle.table.specs.Lacking.{Longer, Grown}
 use Rattle.answer.specs.declared.Reason.TheVariants.{NoSuchType, Reference, Unknown, Template, Operands, RunningAbstract}
 use Rattle.table.proofs.Growing.{grown-refused, grown-silent, grown-test, grown-passed, grown-as, grown-sound, type-longer}

@@ -9,7 +9,7 @@ use lib.Dec.{ltb}
 use lib.ListN.{length, get_or, take, drop, length-map}
 use borrow.Author.Tests.{ltb-true, lt-ltb, le-ltb}
 use Rattle.held.specs.Held.{number_of, mark_of}
-use Rattle.conv.specs.Types.{Ty, abstract_ty, bool}
+use Rattle.conv.specs.Types.{abstract_ty, bool}
 use Rattle.conv.specs.Types.Ty.{scalar}
 use Rattle.conv.specs.Rank.{both, is_reference}
 use Rattle.overload.specs.Overload.{or}

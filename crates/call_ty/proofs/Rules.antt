@@ -1,11 +1,10 @@
 -- A rule of a name that wants no operand gives no value, or, in a profile above 0, a scalar: computed of every name. Assumes nothing.
 use Prim.Native.Nat.{ℕ, ◌≤◌, ◌<◌}
 use native.Mathlib.Omega.{arith}
-use mathlib.Core.Path.{◌≡◌, refl, sym, ◌∙◌, ap, subst}
-use mathlib.Core.Logic.{◌⊎◌, inl, inr}
+use mathlib.Core.Path.{◌≡◌, refl, ap, subst}
 use mathlib.Core.Bool.{Bool, true, false, ◌&&◌, ◌||◌, cond}
 use mathlib.Core.List.{List, [], ◌∷◌}
-use lib.Dec.{T, leb, ltb, leb→le}
+use lib.Dec.{T, leb, ltb}
 use borrow.Author.Tests.{leb-true, ltb-true}
 use Rattle.overload.proofs.Results.{T_true}
 use Rattle.conv.specs.Types.{Ty}
@@ -17,7 +16,7 @@ use Rattle.overload.specs.Overload.{Judged, or, fits, no_more, less, same_tys, a
 use Rattle.overload.specs.Overload.Judged.{gives, none_fits}
 use Rattle.overload.specs.Marks.{sifted, dropped}
 use Rattle.overload.specs.Rows.{form_at, component_at, wrapped, over_second, at_sizes, over_set, of_families, head_count, judge_by}
-use Rattle.names.specs.Names.{Rule, Name, names, same_bytes, within, Named, rule_in, rule_of}
+use Rattle.names.specs.Names.{Rule, Name, names, same_bytes, within, rule_in, rule_of}
 use Rattle.names.specs.Names.Rule.{ruling, storing, bitcast, barrier}
 use Rattle.names.specs.Names.Named.{rule, unknown}
 use Rattle.call_ty.specs.Calls.{operands_by, operands_of, given_by, Given}

@@ -4,7 +4,7 @@ use Prim.Native.String.{String}
 use mathlib.Core.Path.{◌≡◌, refl}
 use mathlib.Core.List.{List, [], ◌∷◌}
 use Rattle.text.specs.Text.{ascii}
-use Rattle.conv.specs.Types.{bool, abstract_int, abstract_float, i32, u32, f32, f16, is_value, formed, exp_of, abstract_ty}
+use Rattle.conv.specs.Types.{abstract_int, abstract_float, i32, u32, f16, is_value, formed, exp_of, abstract_ty}
 use Rattle.conv.specs.Types.Ty.{vec, frexp}
 use Rattle.conv.specs.Rank.{both, rank_of, shape_of, component_of, tag_of, first_of, second_of, element_of, same_ty, conversion_rank, made}
 use Rattle.overload.specs.Overload.{or, fits, no_more, less, same_tys, all_yield, is_preferred, chosen, judge}

@@ -12,9 +12,9 @@ use Rattle.conv.specs.Types.{Ty}
 use Rattle.conv.specs.Types.Ty.{scalar, exchange}
 use Rattle.overload.specs.Overload.{Judged, or}
 use Rattle.overload.specs.Marks.{any_running, running_abstract}
-use Rattle.overload.specs.Rows.{Row, row_at, operand_count, judge_atomic, judge_load, judge_length, alone, judge_by}
+use Rattle.overload.specs.Rows.{row_at, operand_count, judge_atomic, judge_load, judge_length, alone, judge_by}
 use Rattle.overload.proofs.Marks.{judge-kept}
-use Rattle.overload.specs.Rows.Ruling.{by_row, array_length}
+use Rattle.overload.specs.Rows.Ruling.{array_length}
 use Rattle.overload.proofs.Counts.{count-few}
 use Rattle.overload.specs.inner.Code.{operand, code_of, judge_kept}
 use Rattle.overload.proofs.Operands.{and_left, all_formed, codes_of, judge-types}
@@ -36,7 +36,7 @@ use Rattle.table.proofs.KindLaws.{split}
 use Rattle.table.proofs.FormedLaws.{formed-at}
 use Rattle.table.proofs.PlacingLaws.{standing-outcome}
 use Rattle.table.proofs.Giving.{gave, gave-marked}
-use Rattle.ruled.specs.Call.{operand_ty, operand_tys, any_reference, judged_outcome, without_value, silent_outcome}
+use Rattle.ruled.specs.Call.{any_reference, judged_outcome, without_value, silent_outcome}
 use Rattle.call_ty.specs.Calls.{first_in, wide_numeric, template_right, operands_by, operands_of, given_by, given_outcome, by_rule, runs_by, call_outcome, all_under, numbers, marks_of, types, type_builtin_fn}
 use Rattle.call_ty.specs.Calls.Given.{judgment}
 use Rattle.call_ty.specs.inner.Codes.{Under, numeric_code}

@@ -1,23 +1,23 @@
 -- Value operands of a call on atomics: whether each converts to the component, by its number; and what the judgment of the call comes to. Assumes nothing.
-use Prim.Native.Nat.{ℕ, zero, suc, ◌≤◌, ◌<◌}
+use Prim.Native.Nat.{ℕ, zero, suc, ◌<◌}
 use native.Mathlib.Nat.{not-suc-le-zero}
 use native.Mathlib.Omega.{arith}
 use mathlib.Core.Path.{◌≡◌, refl, sym, ◌∙◌, ap}
 use mathlib.Core.Logic.{◌≢◌}
 use mathlib.Core.Bool.{Bool, true, false, ◌&&◌, cond}
 use mathlib.Core.List.{List, [], ◌∷◌, map}
-use lib.Dec.{T, eqb, ltb, leb}
+use lib.Dec.{eqb, ltb}
 use lib.ListN.{length, get_or, length-map}
 use borrow.Author.Tests.{ltb-true, lt-ltb, le-ltb, eqb-true, eq-eqb}
-use Rattle.conv.specs.Types.{Ty, bool, i32, u32, formed, is_width}
+use Rattle.conv.specs.Types.{Ty, bool, formed, is_width}
 use Rattle.conv.specs.Types.Ty.{scalar, vec, mat, array, runtime, atomic, ptr, ref, frexp, modf, exchange}
-use Rattle.conv.specs.Rank.{pick, both, none, rank_of, Shape, shape_of, component_of, tag_of, first_of, second_of, element_of, same_ty, conversion_rank, converts}
+use Rattle.conv.specs.Rank.{pick, both, none, rank_of, shape_of, component_of, tag_of, first_of, second_of, same_ty, conversion_rank, converts}
 use Rattle.held.specs.Held.{number_of}
-use Rattle.overload.specs.Overload.{fits, Judged}
+use Rattle.overload.specs.Overload.{fits}
 use Rattle.overload.specs.Overload.Judged.{gives, none_fits}
 use Rattle.overload.specs.Rows.{values, takes_atomic, atomic_in, judge_atomic}
 use Rattle.overload.specs.inner.Code.{code_of}
-use Rattle.overload.proofs.Operands.{code-scalar, code-vec, code-mat, code_other, between, float_small, and_left, and_right}
+use Rattle.overload.proofs.Operands.{code-scalar, code-vec, code-mat, code_other, between, and_left, and_right}
 use Rattle.overload.proofs.Memory.{integer-small, integer-some, taken-formed}
 use Rattle.table.specs.Denote.{type_at}
 use Rattle.memory.specs.inner.Component.{atomic_component}

@@ -4,10 +4,10 @@ use native.Mathlib.Omega.{arith}
 use mathlib.Core.Path.{◌≡◌, refl, sym, ◌∙◌, ap}
 use mathlib.Core.Logic.{◌≢◌}
 use mathlib.Core.Bool.{true}
-use mathlib.Core.List.{List, ◌∷◌, map}
+use mathlib.Core.List.{List, ◌∷◌}
 use lib.ListN.{length}
 use Rattle.conv.specs.Types.{Ty, bool, formed}
-use Rattle.conv.specs.Types.Ty.{scalar, atomic, exchange}
+use Rattle.conv.specs.Types.Ty.{scalar, exchange}
 use Rattle.held.specs.Held.{number_of}
 use Rattle.overload.specs.Overload.{Judged}
 use Rattle.overload.specs.Overload.Judged.{gives, none_fits}
@@ -16,9 +16,9 @@ use Rattle.overload.proofs.Memory.{integer-small, exchange-formed}
 use Rattle.answer.specs.Answer.{accept}
 use Rattle.answer.specs.declared.Reason.TheVariants.{NoOverload}
 use Rattle.table.specs.Table.{kind_exchange, Sound}
-use Rattle.table.specs.Denote.{made, type_at}
+use Rattle.table.specs.Denote.{type_at}
 use Rattle.table.specs.Enter.{entry_answer, EnterDone}
-use Rattle.table.specs.Placing.{Outcome, turned_down, entering}
+use Rattle.table.specs.Placing.{turned_down, entering}
 use Rattle.table.specs.declared.Entry.{Entry}
 use Rattle.table.specs.declared.Entered.{Entered}
 use Rattle.table.proofs.TypeLaws.{made-exchange, type-scalar}

@@ -1,5 +1,5 @@
 -- `call_ty::any_clashes` meets its contract. The loop's invariant: no operand passed is both running and abstract. Assumes nothing.
-use Prim.Native.Nat.{ℕ, ◌<◌, ◌-◌}
+use Prim.Native.Nat.{ℕ, ◌<◌}
 use mathlib.Core.Path.{◌≡◌, sym, ◌∙◌, subst}
 use mathlib.Core.Bool.{false}
 use native.Mathlib.Omega.{arith}

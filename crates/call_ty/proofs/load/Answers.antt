@@ -1,5 +1,5 @@
 -- `call_ty::load` meets its contract. The loop's invariant: the codes passed are the operands' numbers, and no operand passed is a reference. Assumes nothing.
-use Prim.Native.Nat.{ℕ, ◌<◌, ◌-◌}
+use Prim.Native.Nat.{ℕ, ◌<◌}
 use mathlib.Core.Bool.{false, not}
 use mathlib.Core.Path.{◌≡◌, refl, sym, ◌∙◌, ap}
 use native.Mathlib.Omega.{arith}

@@ -1,6 +1,6 @@
 -- `names::row_of` meets its contract. The loop's invariant: no row before the low end of what is left has the name, and none from the high end on: a probe leaves out the
 -- rows on the other side of its line, since the names are sorted. The measure is how often a row is still looked at, at most eight times in all. Assumes nothing.
-use Prim.Native.Nat.{ℕ, ◌+◌, ◌/◌, ◌≤◌, ◌<◌, ◌-◌}
+use Prim.Native.Nat.{ℕ, ◌+◌, ◌/◌, ◌≤◌, ◌<◌}
 use mathlib.Core.Path.{◌≡◌, refl, subst}
 use mathlib.Core.Bool.{Bool, true, false}
 use mathlib.Core.List.{List}
