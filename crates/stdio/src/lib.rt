@@ -50,3 +50,44 @@ pub fn arg(rt: &impl Env, i: usize, buffer: &mut [u8]) -> usize
 {
     rt.arg(i, buffer).unwrap_or(0)
 }
+
+#[cfg(test)]
+mod tests {
+    use super::*;
+    use std::test::Fail;
+
+    // Gives a byte a turn, and fails once there is none.
+    #[derive(Drop)]
+    struct Failing<'a>(&'a [u8]);
+
+    impl Read for Failing<'_> {
+        fn read(&mut self, buffer: &mut [u8]) -> io::Result<usize> {
+            if self.0.is_empty() {
+                return Err(io::Error::from(io::ErrorKind::BrokenPipe));
+            }
+            let n = buffer.len().min(1);
+            self.0.read(&mut buffer[..n])
+        }
+    }
+
+    #[test]
+    fn stops_at_the_end_and_where_it_is_full(rt: HostRuntime) -> Result<(), Fail> {
+        let mut reader = b"sheet".as_slice();
+        let mut three = [0u8; 3];
+        assert_eq!(rt; read_full(&mut reader, &mut three)?, 3);
+        assert_eq!(rt; three.as_slice(), b"she".as_slice());
+        assert_eq!(rt; read_full(&mut reader, &mut three)?, 2);
+        assert_eq!(rt; three.as_slice(), b"ete".as_slice());
+        assert_eq!(rt; read_full(&mut reader, &mut three)?, 0);
+        Ok(())
+    }
+
+    #[test]
+    fn a_failed_read_is_an_error(rt: HostRuntime) -> Result<(), Fail> {
+        let mut reader = Failing(b"sheet".as_slice());
+        let mut three = [0u8; 3];
+        assert_eq!(rt; read_full(&mut reader, &mut three)?, 3);
+        assert!(rt; read_full(&mut reader, &mut three).is_err());
+        Ok(())
+    }
+}
