@@ -4,61 +4,62 @@
 
 use answer::Place;
 use frame::{HEADER, Item, Placed};
-use libc::{STDIN_FILENO, STDOUT_FILENO};
+use std::io;
 
-fn text(bytes: &[u8]) {
-    io::write_all(STDOUT_FILENO, bytes);
+fn text(rt: &impl Print, bytes: &[u8]) -> io::Result<()> {
+    rt.write_all(bytes)
 }
 
-fn number(n: usize) {
-    io::print_decimal(STDOUT_FILENO, n as u64);
+fn number(rt: &impl Print, n: usize) -> io::Result<()> {
+    print!(rt; "{n}")
 }
 
 // A byte's number after a word, and what stands between two numbers.
-fn after(word: &[u8], n: u8) {
-    text(word);
-    number(n as usize);
+fn after(rt: &impl Print, word: &[u8], n: u8) -> io::Result<()> {
+    text(rt, word)?;
+    number(rt, n as usize)
 }
 
 // The mark of a value that is pushed.
-fn mark(running: bool) {
+fn mark(rt: &impl Print, running: bool) -> io::Result<()> {
     if running {
-        text(b" running");
+        text(rt, b" running")?;
     }
+    Ok(())
 }
 
 // Writes what stands at a place, and says whether an item stands there.
-fn line(sheet: &[u8], found: Placed) -> bool {
+fn line(rt: &impl Print, sheet: &[u8], found: Placed) -> io::Result<bool> {
     let at = found.at;
-    number(at.0);
+    number(rt, at.0)?;
     let item = found.item;
     match item {
         Item::Push { ty, running } => {
-            text(b" push ");
-            number(ty.0);
-            mark(running);
+            text(rt, b" push ")?;
+            number(rt, ty.0)?;
+            mark(rt, running)?;
         }
         Item::Unary(o) => {
-            after(b" unary ", o);
+            after(rt, b" unary ", o)?;
         }
         Item::Binary(o) => {
-            after(b" binary ", o);
+            after(rt, b" binary ", o)?;
         }
         Item::Call { count, name: _ } => {
-            after(b" call ", count);
-            text(b" ");
-            text(frame::call_name(sheet, at));
+            after(rt, b" call ", count)?;
+            text(rt, b" ")?;
+            text(rt, frame::call_name(sheet, at))?;
         }
         Item::CallTemplate {
             template,
             count,
             name: _,
         } => {
-            text(b" template ");
-            number(template.0);
-            after(b" call ", count);
-            text(b" ");
-            text(frame::call_name(sheet, at));
+            text(rt, b" template ")?;
+            number(rt, template.0)?;
+            after(rt, b" call ", count)?;
+            text(rt, b" ")?;
+            text(rt, frame::call_name(sheet, at))?;
         }
         Item::Take {
             kind,
@@ -67,47 +68,46 @@ fn line(sheet: &[u8], found: Placed) -> bool {
             elem,
             running,
         } => {
-            after(b" take ", kind);
-            text(b" ");
-            number(p as usize);
-            after(b" ", q);
-            after(b" ", elem);
-            mark(running);
+            after(rt, b" take ", kind)?;
+            text(rt, b" ")?;
+            number(rt, p as usize)?;
+            after(rt, b" ", q)?;
+            after(rt, b" ", elem)?;
+            mark(rt, running)?;
         }
         Item::End => {
-            text(b" end\n");
-            return false;
+            text(rt, b" end\n")?;
+            return Ok(false);
         }
         Item::Bad => {
-            text(b" bad\n");
-            return false;
+            text(rt, b" bad\n")?;
+            return Ok(false);
         }
     }
-    text(b"\n");
-    true
+    text(rt, b"\n")?;
+    Ok(true)
 }
 
 // No more lines than bytes are written: each item but the last has two bytes at least.
-fn list(sheet: &[u8]) {
+fn list(rt: &impl Print, sheet: &[u8]) -> io::Result<()> {
     let mut at = Place(HEADER);
-    let mut left = sheet.len();
-    while 0 < left {
+    for _ in 0..sheet.len() {
         let found = reader::read(sheet, at);
-        if !line(sheet, found) {
-            return;
+        if !line(rt, sheet, found)? {
+            return Ok(());
         }
         at = found.next;
-        left -= 1;
     }
+    Ok(())
 }
 
-fn main() {
-    let mut buffer = io::large_buffer();
-    let n = io::read_full(STDIN_FILENO, &mut buffer);
+fn main(rt: HostRuntime) -> io::Result<()> {
+    let mut buffer = stdio::large_buffer();
+    let n = stdio::read_full(&mut rt.reader(), &mut buffer)?;
     let sheet = &buffer[..n];
     if frame::header(sheet) {
-        list(sheet);
+        list(&rt, sheet)
     } else {
-        text(b"header\n");
+        text(&rt, b"header\n")
     }
 }

@@ -7,6 +7,8 @@
 // operands before the last one, the last of those fastest; calls of three operands have plain types only.
 #![tactic(auto)]
 
+use std::io;
+
 // How many types there are, and how many are plain.
 const TYPES: u32 = 55;
 
@@ -199,47 +201,51 @@ fn at_group(at: usize, line: &[u8], state: State) -> State {
 }
 
 // Writes how many of the rows agreed.
-fn write_counts(what: &[u8], agreed: u64, rows: u64) {
-    io::write_all(1, what);
-    io::write_all(1, b": ");
-    io::print_decimal(1, agreed);
-    io::write_all(1, b" of ");
-    io::print_decimal(1, rows);
-    io::write_all(1, b" agreed\n");
+fn write_counts(rt: &impl Print, what: &[u8], agreed: u64, rows: u64) -> io::Result<()> {
+    rt.write_all(what)?;
+    println!(rt; ": {agreed} of {rows} agreed")
 }
 
 // At a title.
-fn at_title(line: &[u8], state: State) -> State {
-    write_counts(line, state.agreed, state.rows);
-    State {
+fn at_title(rt: &impl Print, line: &[u8], state: State) -> io::Result<State> {
+    write_counts(rt, line, state.agreed, state.rows)?;
+    Ok(State {
         from: state.from,
         to: state.to,
         count: state.count,
         index: state.index,
         agreed: 0,
         rows: 0,
-    }
+    })
 }
 
 // After the line that begins at a place.
-fn after(words: &mut [u32], used: usize, s: &[u8], at: usize, line: &[u8], state: State) -> State {
+fn after(
+    rt: &impl Print,
+    words: &mut [u32],
+    used: usize,
+    s: &[u8],
+    at: usize,
+    line: &[u8],
+    state: State,
+) -> io::Result<State> {
     if line.len() == 0 {
-        return state;
+        return Ok(state);
     }
     let first = line[0];
     if first == GROUP {
-        return at_group(at, line, state);
+        return Ok(at_group(at, line, state));
     }
     if first == TITLE {
-        return at_title(&line[1..], state);
+        return at_title(rt, &line[1..], state);
     }
     if first == SINGLE {
-        return after_single(words, used, line, state);
+        return Ok(after_single(words, used, line, state));
     }
-    after_line(words, used, s, line, state)
+    Ok(after_line(words, used, s, line, state))
 }
 
-fn replay(words: &mut [u32], s: &[u8]) {
+fn replay(rt: &impl Print, words: &mut [u32], s: &[u8]) -> io::Result<()> {
     let used = vectors::fill(words);
     let mut state = State {
         from: 0,
@@ -252,15 +258,16 @@ fn replay(words: &mut [u32], s: &[u8]) {
     let mut at = 0;
     while at < s.len() {
         let end = vectors::line_end(s, at);
-        state = after(words, used, s, at, &s[at..end], state);
+        state = after(rt, words, used, s, at, &s[at..end], state)?;
         at = end + 1;
     }
+    Ok(())
 }
 
-fn main() {
-    let mut buffer = io::large_buffer();
-    let n = io::read_full(0, &mut buffer);
+fn main(rt: HostRuntime) -> io::Result<()> {
+    let mut buffer = stdio::large_buffer();
+    let n = stdio::read_full(&mut rt.reader(), &mut buffer)?;
     let mut words = [0u32; 256];
     entering::put_scalars(&mut words);
-    replay(&mut words, &buffer[..n]);
+    replay(&rt, &mut words, &buffer[..n])
 }

@@ -11,6 +11,7 @@
 
 ghost use Rattle.std.specs.Prelude.{◌+◌, ◌<◌, ◌≤◌, length};
 
+use std::io;
 use table::{Answer, Entry, TypeNo};
 use vectors::{FIRST, OTHER};
 
@@ -210,25 +211,21 @@ fn after_row(words: &mut [u32], s: &[u8], line: &[u8], c: u8, state: State) -> S
 }
 
 // Writes how many of the rows agreed.
-fn write_counts(what: &[u8], agreed: u64, rows: u64) {
-    io::write_all(1, what);
-    io::write_all(1, b": ");
-    io::print_decimal(1, agreed);
-    io::write_all(1, b" of ");
-    io::print_decimal(1, rows);
-    io::write_all(1, b" agreed\n");
+fn write_counts(rt: &impl Print, what: &[u8], agreed: u64, rows: u64) -> io::Result<()> {
+    rt.write_all(what)?;
+    println!(rt; ": {agreed} of {rows} agreed")
 }
 
 // At a title.
-fn at_title(line: &[u8], state: State) -> State {
-    write_counts(line, state.agreed, state.rows);
-    State {
+fn at_title(rt: &impl Print, line: &[u8], state: State) -> io::Result<State> {
+    write_counts(rt, line, state.agreed, state.rows)?;
+    Ok(State {
         from: state.from,
         to: state.to,
         used: state.used,
         agreed: 0,
         rows: 0,
-    }
+    })
 }
 
 // At the line of a group, which begins at a place.
@@ -258,24 +255,31 @@ fn at_entry(words: &mut [u32], line: &[u8], state: State) -> State {
 }
 
 // After the line that begins at a place.
-fn after(words: &mut [u32], s: &[u8], at: usize, line: &[u8], state: State) -> State {
+fn after(
+    rt: &impl Print,
+    words: &mut [u32],
+    s: &[u8],
+    at: usize,
+    line: &[u8],
+    state: State,
+) -> io::Result<State> {
     if line.len() == 0 {
-        return state;
+        return Ok(state);
     }
     let first = line[0];
     if first == ENTRY {
-        return at_entry(words, line, state);
+        return Ok(at_entry(words, line, state));
     }
     if first == GROUP {
-        return at_group(at, line, state);
+        return Ok(at_group(at, line, state));
     }
     if first == TITLE {
-        return at_title(&line[1..], state);
+        return at_title(rt, &line[1..], state);
     }
-    after_row(words, s, line, first, state)
+    Ok(after_row(words, s, line, first, state))
 }
 
-fn replay(words: &mut [u32], s: &[u8]) {
+fn replay(rt: &impl Print, words: &mut [u32], s: &[u8]) -> io::Result<()> {
     let mut state = State {
         from: 0,
         to: 0,
@@ -286,15 +290,16 @@ fn replay(words: &mut [u32], s: &[u8]) {
     let mut at = 0;
     while at < s.len() {
         let end = vectors::line_end(s, at);
-        state = after(words, s, at, &s[at..end], state);
+        state = after(rt, words, s, at, &s[at..end], state)?;
         at = end + 1;
     }
+    Ok(())
 }
 
-fn main() {
-    let mut buffer = io::large_buffer();
-    let n = io::read_full(0, &mut buffer);
+fn main(rt: HostRuntime) -> io::Result<()> {
+    let mut buffer = stdio::large_buffer();
+    let n = stdio::read_full(&mut rt.reader(), &mut buffer)?;
     let mut words = [0u32; 512];
     entering::put_scalars(&mut words);
-    replay(&mut words, &buffer[..n]);
+    replay(&rt, &mut words, &buffer[..n])
 }

@@ -8,6 +8,7 @@ ghost use Rattle.std.specs.Prelude.{◌≡◌, ◌≤◌, length};
 ghost use Rattle.names.specs.inner.Table.{name_table};
 
 use names::RuleNo;
+use std::io;
 
 const GROUP: u8 = b'#';
 
@@ -130,17 +131,17 @@ fn judged(rows: &[u8], line: &[u8]) -> Verdict
     judged_known(rows, line)
 }
 
-fn write_count(n: u64, what: &[u8]) {
-    io::print_decimal(1, n);
-    io::write_all(1, what);
+fn write_count(rt: &impl Print, n: u64, what: &[u8]) -> io::Result<()> {
+    print!(rt; "{n}")?;
+    rt.write_all(what)
 }
 
 // A group's line, with its counts.
-fn write_group(line: &[u8], tally: Tally) {
-    io::write_all(1, line);
-    write_count(tally.known, b" known, ");
-    write_count(tally.unknown, b" unknown, ");
-    write_count(tally.wrong, b" wrong\n");
+fn write_group(rt: &impl Print, line: &[u8], tally: Tally) -> io::Result<()> {
+    rt.write_all(line)?;
+    write_count(rt, tally.known, b" known, ")?;
+    write_count(rt, tally.unknown, b" unknown, ")?;
+    write_count(rt, tally.wrong, b" wrong\n")
 }
 
 fn more(n: u64) -> u64 {
@@ -172,7 +173,7 @@ fn counted(tally: Tally, verdict: Verdict) -> Tally {
     }
 }
 
-fn replay(s: &[u8]) {
+fn replay(rt: &impl Print, s: &[u8]) -> io::Result<()> {
     let rows = names::name_table();
     let mut tally = Tally {
         known: 0,
@@ -185,15 +186,16 @@ fn replay(s: &[u8]) {
         let line = &s[at..end];
         let verdict = judged(&rows, line);
         if let Verdict::Group = verdict {
-            write_group(line, tally);
+            write_group(rt, line, tally)?;
         }
         tally = counted(tally, verdict);
         at = end + 1;
     }
+    Ok(())
 }
 
-fn main() {
-    let mut buffer = io::large_buffer();
-    let n = io::read_full(0, &mut buffer);
-    replay(&buffer[..n]);
+fn main(rt: HostRuntime) -> io::Result<()> {
+    let mut buffer = stdio::large_buffer();
+    let n = stdio::read_full(&mut rt.reader(), &mut buffer)?;
+    replay(&rt, &buffer[..n])
 }

@@ -3,6 +3,7 @@
 // 55 types, as the one operand or the right one: the character of the result's type, or `.` for a refusal. All operands are known early, and so is each result.
 #![tactic(auto)]
 
+use std::io;
 use table::Typed;
 use vectors::TYPES;
 
@@ -63,13 +64,11 @@ fn replay(words: &mut [u32], s: &[u8]) -> u64 {
     agreed
 }
 
-fn main() {
-    let mut buffer = io::large_buffer();
-    let n = io::read_full(0, &mut buffer);
+fn main(rt: HostRuntime) -> io::Result<()> {
+    let mut buffer = stdio::large_buffer();
+    let n = stdio::read_full(&mut rt.reader(), &mut buffer)?;
     let mut words = [0u32; 256];
     entering::put_scalars(&mut words);
     let agreed = replay(&mut words, &buffer[..n]);
-    io::write_all(1, b"operators: ");
-    io::print_decimal(1, agreed);
-    io::write_all(1, b" of 54615 agreed\n");
+    println!(rt; "operators: {agreed} of 54615 agreed")
 }

@@ -4,7 +4,7 @@
 
 ghost use Rattle.std.specs.Prelude.{◌<◌};
 
-use libc::{STDIN_FILENO, STDOUT_FILENO};
+use std::io::{self, Read};
 
 // The longest sheet and the longest lines that are stored have fewer bytes.
 const SHEET_ROOM: usize = 131072;
@@ -18,22 +18,22 @@ fn two(a: u8, b: u8) -> u32
     (a as u32) * 256 + (b as u32)
 }
 
-fn read_number() -> u32 {
+fn read_number(reader: &mut impl Read) -> io::Result<u32> {
     let mut b = [0u8; 4];
-    io::read_full(STDIN_FILENO, &mut b);
-    two(b[0], b[1]) * 65536 + two(b[2], b[3])
+    stdio::read_full(reader, &mut b)?;
+    Ok(two(b[0], b[1]) * 65536 + two(b[2], b[3]))
 }
 
-fn read_size() -> usize {
-    cast::word(read_number())
+fn read_size(reader: &mut impl Read) -> io::Result<usize> {
+    Ok(cast::word(read_number(reader)?))
 }
 
 // Reads n bytes to the front of a buffer, or as many as it holds: how many were read.
-fn read_part(buffer: &mut [u8], n: usize) -> usize {
+fn read_part(reader: &mut impl Read, buffer: &mut [u8], n: usize) -> io::Result<usize> {
     if buffer.len() < n {
-        return io::read_full(STDIN_FILENO, buffer);
+        return stdio::read_full(reader, buffer);
     }
-    io::read_full(STDIN_FILENO, &mut buffer[0..n])
+    stdio::read_full(reader, &mut buffer[0..n])
 }
 
 // Whether the first n bytes of a buffer are a part's.
@@ -41,7 +41,7 @@ fn begins(buffer: &[u8], n: usize, part: &[u8]) -> bool {
     if buffer.len() < n {
         return false;
     }
-    check::same(&buffer[0..n], part)
+    &buffer[0..n] == part
 }
 
 // Whether a sheet is answered with these lines in a profile.
@@ -63,38 +63,37 @@ fn agrees(profile: u32, sheet: &[u8], n: usize, told: &[u8], m: usize) -> bool {
 }
 
 // Whether the next sheet that is read is answered with the lines that follow it.
-fn next_agrees() -> bool {
-    let profile = read_number();
+fn next_agrees(reader: &mut impl Read) -> io::Result<bool> {
+    let profile = read_number(reader)?;
     let mut sheet = [0u8; SHEET_ROOM];
-    let n = read_part(&mut sheet, read_size());
+    let sheet_size = read_size(reader)?;
+    let n = read_part(reader, &mut sheet, sheet_size)?;
     let mut told = [0u8; LINES_ROOM];
-    let m = read_part(&mut told, read_size());
-    agrees(profile, &sheet, n, &told, m)
+    let told_size = read_size(reader)?;
+    let m = read_part(reader, &mut told, told_size)?;
+    Ok(agrees(profile, &sheet, n, &told, m))
 }
 
-fn write_wrong(i: usize) {
-    io::write_all(STDOUT_FILENO, b"another answer: sheet ");
-    io::print_decimal(STDOUT_FILENO, i as u64);
-    io::write_all(STDOUT_FILENO, b"\n");
+fn write_wrong(rt: &impl Print, i: usize) -> io::Result<()> {
+    println!(rt; "another answer: sheet {i}")
 }
 
 // How many of the sheets agree; each that does not is written by its place, counted from 0.
-fn replay(sheets: usize) -> usize {
+fn replay(rt: &impl Print, reader: &mut impl Read, sheets: usize) -> io::Result<usize> {
     let mut right = 0;
-    let mut i = 0;
-    while i < sheets {
-        if next_agrees() {
+    for i in 0..sheets {
+        if next_agrees(reader)? {
             right += 1;
         } else {
-            write_wrong(i);
+            write_wrong(rt, i)?;
         }
-        i += 1;
     }
-    right
+    Ok(right)
 }
 
-fn main() {
-    let right = replay(read_size());
-    io::print_decimal(STDOUT_FILENO, right as u64);
-    io::write_all(STDOUT_FILENO, b" sheets agree\n");
+fn main(rt: HostRuntime) -> io::Result<()> {
+    let mut reader = rt.reader();
+    let sheets = read_size(&mut reader)?;
+    let right = replay(&rt, &mut reader, sheets)?;
+    println!(rt; "{right} sheets agree")
 }

@@ -5,7 +5,7 @@
 
 ghost use Rattle.std.specs.Prelude.{◌≤◌, length};
 
-use libc::STDOUT_FILENO;
+use std::io;
 use table::{ACCESS_READ, Answer, Entry, KIND_PTR, KIND_REF, Refusal, SPACE_STORAGE};
 
 const BLANK: u8 = b' ';
@@ -29,39 +29,39 @@ struct Table {
     used: usize,
 }
 
-fn write_number(before: &[u8], x: usize) {
-    io::write_all(STDOUT_FILENO, before);
-    io::print_decimal(STDOUT_FILENO, x as u64);
+fn write_number(rt: &impl Print, before: &[u8], x: usize) -> io::Result<()> {
+    rt.write_all(before)?;
+    print!(rt; "{x}")
 }
 
 // The end of a line, and the used count.
-fn write_used(used: usize) -> usize {
-    write_number(b" entries ", used);
-    io::write_all(STDOUT_FILENO, b"\n");
-    used
+fn write_used(rt: &impl Print, used: usize) -> io::Result<usize> {
+    write_number(rt, b" entries ", used)?;
+    rt.write_all(b"\n")?;
+    Ok(used)
 }
 
-fn write_refusal(f: Refusal) -> usize {
+fn write_refusal(rt: &impl Print, f: Refusal) -> io::Result<usize> {
     let why = f.reason;
     let place = f.place;
     let used = f.used;
-    write_number(b" refused ", table::reason_no(why) as usize);
-    write_number(b" at ", place.0);
-    write_used(used)
+    write_number(rt, b" refused ", table::reason_no(why) as usize)?;
+    write_number(rt, b" at ", place.0)?;
+    write_used(rt, used)
 }
 
 // The numbers of an answer, on the rest of the line, and the used count.
-fn write_answer(r: Answer) -> usize {
+fn write_answer(rt: &impl Print, r: Answer) -> io::Result<usize> {
     match r {
         Answer::Value(t, used) => {
-            write_number(b" type ", t.0);
-            write_used(used)
+            write_number(rt, b" type ", t.0)?;
+            write_used(rt, used)
         }
         Answer::NoValue(used) => {
-            io::write_all(STDOUT_FILENO, b" none");
-            write_used(used)
+            rt.write_all(b" none")?;
+            write_used(rt, used)
         }
-        Answer::Refused(f) => write_refusal(f),
+        Answer::Refused(f) => write_refusal(rt, f),
     }
 }
 
@@ -186,17 +186,23 @@ fn answer(words: &mut [u32], n: usize, head: &[u8], args: &[i64]) -> Answer {
 }
 
 // One call in a table: its line, and the table after it.
-fn call(words: &mut [u32], t: Table, head: &[u8], args: &[i64]) -> Table {
+fn call(
+    rt: &impl Print,
+    words: &mut [u32],
+    t: Table,
+    head: &[u8],
+    args: &[i64],
+) -> io::Result<Table> {
     let size = t.size;
     let used = t.used;
     if words.len() < size {
-        return t;
+        return Ok(t);
     }
-    io::write_all(STDOUT_FILENO, head);
-    Table {
+    rt.write_all(head)?;
+    Ok(Table {
         size,
-        used: write_answer(answer(&mut words[0..size], used, head, args)),
-    }
+        used: write_answer(rt, answer(&mut words[0..size], used, head, args))?,
+    })
 }
 
 fn clear(words: &mut [u32]) {
@@ -223,33 +229,40 @@ fn table_of(words: &mut [u32], args: &[i64]) -> Table {
     }
 }
 
-fn run(words: &mut [u32], t: Table, head: &[u8], args: &[i64]) -> Table {
+fn run(
+    rt: &impl Print,
+    words: &mut [u32],
+    t: Table,
+    head: &[u8],
+    args: &[i64],
+) -> io::Result<Table> {
     if mark_of(head) == TABLE {
-        return table_of(words, args);
+        return Ok(table_of(words, args));
     }
-    call(words, t, head, args)
+    call(rt, words, t, head, args)
 }
 
-fn run_line(words: &mut [u32], t: Table, line: &[u8]) -> Table {
+fn run_line(rt: &impl Print, words: &mut [u32], t: Table, line: &[u8]) -> io::Result<Table> {
     let end = end_of(line, 0, BLANK);
     let mut args = [0i64; 8];
     let count = numbers(line, end, &mut args);
-    run(words, t, &line[0..end], &args[0..count])
+    run(rt, words, t, &line[0..end], &args[0..count])
 }
 
-fn replay(words: &mut [u32], s: &[u8]) {
+fn replay(rt: &impl Print, words: &mut [u32], s: &[u8]) -> io::Result<()> {
     let mut t = Table { size: 0, used: 0 };
     let mut at = 0;
     while at < s.len() {
         let end = end_of(s, at, LINE_END);
-        t = run_line(words, t, &s[at..end]);
+        t = run_line(rt, words, t, &s[at..end])?;
         at = end + 1;
     }
+    Ok(())
 }
 
-fn main() {
+fn main(rt: HostRuntime) -> io::Result<()> {
     let mut words = [0u32; 1024];
-    let mut buffer = io::large_buffer();
-    let n = io::read_full(0, &mut buffer);
-    replay(&mut words, &buffer[..n]);
+    let mut buffer = stdio::large_buffer();
+    let n = stdio::read_full(&mut rt.reader(), &mut buffer)?;
+    replay(&rt, &mut words, &buffer[..n])
 }

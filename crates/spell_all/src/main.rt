@@ -4,8 +4,8 @@
 
 ghost use Rattle.std.specs.Prelude.{◌<◌};
 
-use libc::STDOUT_FILENO;
 use spell::Spelled;
+use std::io;
 use table::{
     ACCESS_READ, ACCESS_READ_WRITE, ACCESS_WRITE, Answer, Entry, KIND_ARRAY, KIND_ATOMIC,
     KIND_EXCHANGE, KIND_FREXP, KIND_MAT, KIND_MODF, KIND_PTR, KIND_REF, KIND_RUNTIME, KIND_VEC,
@@ -96,23 +96,23 @@ fn word(k: usize, j: usize) -> u32
 }
 
 // The used count after entering one entry.
-fn enter(words: &mut [u32], n: usize, e: Entry) -> usize {
+fn enter(rt: &impl Print, words: &mut [u32], n: usize, e: Entry) -> io::Result<usize> {
     let r = entering::enter_type(words, n, e);
     match r {
-        Answer::Value(_, m) => m,
-        Answer::NoValue(m) => m,
+        Answer::Value(_, m) => Ok(m),
+        Answer::NoValue(m) => Ok(m),
         Answer::Refused(_) => {
-            io::write_all(STDOUT_FILENO, b"not entered\n");
-            n
+            rt.write_all(b"not entered\n")?;
+            Ok(n)
         }
     }
 }
 
-fn fill(words: &mut [u32], n: usize) -> usize {
+fn fill(rt: &impl Print, words: &mut [u32], n: usize) -> io::Result<usize> {
     let mut used = n;
-    let mut k = 0;
-    while k < COUNT {
+    for k in 0..COUNT {
         used = enter(
+            rt,
             words,
             used,
             Entry {
@@ -121,77 +121,73 @@ fn fill(words: &mut [u32], n: usize) -> usize {
                 q: word(k, 2),
                 elem: word(k, 3),
             },
-        );
-        k += 1;
+        )?;
     }
-    used
+    Ok(used)
 }
 
 // The first k bytes, and the end of the line.
-fn write_line(out: &[u8], k: usize) {
+fn write_line(rt: &impl Print, out: &[u8], k: usize) -> io::Result<()> {
     if k <= out.len() {
-        io::write_all(STDOUT_FILENO, &out[0..k]);
+        rt.write_all(&out[0..k])?;
     }
-    io::write_all(STDOUT_FILENO, b"\n");
+    rt.write_all(b"\n")
 }
 
-fn write_digit(d: usize) {
+fn write_digit(rt: &impl Print, d: usize) -> io::Result<()> {
     let b = [(48 + d % 10) as u8];
-    io::write_all(STDOUT_FILENO, &b);
+    rt.write_all(&b)
 }
 
 // A number below a thousand.
-fn write_number(x: usize) {
+fn write_number(rt: &impl Print, x: usize) -> io::Result<()> {
     if 100 <= x {
-        write_digit(x / 100);
+        write_digit(rt, x / 100)?;
     }
     if 10 <= x {
-        write_digit(x / 10);
+        write_digit(rt, x / 10)?;
     }
-    write_digit(x);
+    write_digit(rt, x)
 }
 
 // The numbers of a reply: the length, or the refusal's number, its place and the used count.
-fn write_reply(r: Spelled) {
+fn write_reply(rt: &impl Print, r: Spelled) -> io::Result<()> {
     match r {
         Spelled::Length(k) => {
-            io::write_all(STDOUT_FILENO, b"length ");
-            write_number(k);
+            rt.write_all(b"length ")?;
+            write_number(rt, k)
         }
         Spelled::Refused(f) => {
             let why = f.reason;
             let place = f.place;
-            io::write_all(STDOUT_FILENO, b"refused ");
-            write_number(table::reason_no(why) as usize);
-            io::write_all(STDOUT_FILENO, b" at ");
-            write_number(place.0);
-            io::write_all(STDOUT_FILENO, b" used ");
-            write_number(f.used);
+            rt.write_all(b"refused ")?;
+            write_number(rt, table::reason_no(why) as usize)?;
+            rt.write_all(b" at ")?;
+            write_number(rt, place.0)?;
+            rt.write_all(b" used ")?;
+            write_number(rt, f.used)
         }
     }
 }
 
 // The spelling of entry i on a line of its own.
-fn show(words: &[u32], n: usize, i: usize) {
+fn show(rt: &impl Print, words: &[u32], n: usize, i: usize) -> io::Result<()> {
     let mut out = [b'.'; 80];
     let r = spell::spell(words, n, TypeNo(i), &mut out);
     match r {
-        Spelled::Length(k) => {
-            write_line(&out, k);
-        }
+        Spelled::Length(k) => write_line(rt, &out, k),
         Spelled::Refused(_) => {
-            write_reply(r);
-            write_line(&out, 0);
+            write_reply(rt, r)?;
+            write_line(rt, &out, 0)
         }
     }
 }
 
-fn show_all(words: &[u32], n: usize) {
-    let mut i = 0;
-    while i < n {
-        show(words, n, i);
-        i += 1;
+fn show_all(rt: &impl Print, words: &[u32], n: usize) -> io::Result<()> {
+    for i in 0..n {
+        show(rt, words, n, i)?;
     }
+    Ok(())
 }
 
 // Spells entry i into the first `room` bytes of an output, or into all of it where it has no more.
@@ -203,27 +199,27 @@ fn spell_part(words: &[u32], n: usize, i: usize, out: &mut [u8], room: usize) ->
 }
 
 // What entry i comes to in the first `room` bytes of an output of dots: the reply, and the whole output afterwards.
-fn ask(words: &[u32], n: usize, i: usize, room: usize) {
+fn ask(rt: &impl Print, words: &[u32], n: usize, i: usize, room: usize) -> io::Result<()> {
     let mut out = [b'.'; 24];
     let r = spell_part(words, n, i, &mut out, room);
-    write_reply(r);
-    io::write_all(STDOUT_FILENO, b" ");
-    write_line(&out, 24);
+    write_reply(rt, r)?;
+    rt.write_all(b" ")?;
+    write_line(rt, &out, 24)
 }
 
-fn main() {
+fn main(rt: HostRuntime) -> io::Result<()> {
     let mut words = [0u32; 1024];
     entering::put_scalars(&mut words);
-    let n = fill(&mut words, 7);
-    show_all(&words, n);
+    let n = fill(&rt, &mut words, 7)?;
+    show_all(&rt, &words, n)?;
     // ptr<storage,u32,read>, of 21 bytes
-    ask(&words, n, 38, 24);
-    ask(&words, n, 38, 21);
-    ask(&words, n, 38, 20);
-    ask(&words, n, 38, 0);
+    ask(&rt, &words, n, 38, 24)?;
+    ask(&rt, &words, n, 38, 21)?;
+    ask(&rt, &words, n, 38, 20)?;
+    ask(&rt, &words, n, 38, 0)?;
     // no such number, with room and without
-    ask(&words, n, n, 24);
-    ask(&words, n, n, 0);
+    ask(&rt, &words, n, n, 24)?;
+    ask(&rt, &words, n, n, 0)?;
     // no sound table
-    ask(&words, 6, 38, 0);
+    ask(&rt, &words, 6, 38, 0)
 }
