@@ -2,7 +2,7 @@
 use Prim.Native.Nat.{ℕ, suc, ◌≤◌, ◌<◌}
 use mathlib.Core.Path.{◌≡◌, refl, sym, ◌∙◌, ap, subst}
 use mathlib.Core.Bool.{Bool, true, false, cond}
-use mathlib.Core.List.{List, [], ◌∷◌, map}
+use mathlib.Core.List.{List, ◌∷◌, map}
 use native.Mathlib.Omega.{arith}
 use lib.ListN.{length, get_or, length-map}
 use Rattle.conv.specs.Types.{Ty, formed}
@@ -12,8 +12,7 @@ use Rattle.table.specs.Denote.{type_at}
 use Rattle.table.proofs.FormedLaws.{formed-at}
 use Rattle.overload.specs.Overload.Judged.{none_fits}
 use Rattle.overload.specs.Rows.{values, takes_atomic, atomic_in, judge_by}
-use Rattle.call_ty.specs.Calls.{numbers, marks_of, operands_by}
-use Rattle.call_ty.specs.inner.Codes.{Under}
+use Rattle.call_ty.specs.Calls.{marks_of, operands_by}
 use Rattle.call_ty.proofs.Lists.{number_at, others, others-count, types-by}
 use Rattle.weigh.specs.Weigh.{first_miss}
 use Rattle.reasons.specs.Reasons.{type_in, first_wanted, wanted_line, value_line, broken_line}

@@ -1,6 +1,5 @@
 -- The rules that are not listed, by their numbers: what each wants of its first operand; values from a place on. Assumes nothing.
-use Prim.Native.Nat.{ℕ, zero, suc, ◌+◌, ◌≤◌, ◌<◌}
-use Prim.Native.String.{String}
+use Prim.Native.Nat.{ℕ, zero, suc, ◌≤◌, ◌<◌}
 use mathlib.Core.Path.{◌≡◌, refl, sym, ◌∙◌, ap, subst}
 use mathlib.Core.Logic.{◌≢◌, ◌⊎◌, inl, inr}
 use mathlib.Core.Bool.{Bool, true, false, ◌&&◌, ◌||◌, cond}
@@ -8,11 +7,11 @@ use mathlib.Core.List.{List, [], ◌∷◌, map}
 use native.Mathlib.Nat.{le_of_suc-le-suc, not-suc-le-zero}
 use native.Mathlib.Omega.{arith}
 use lib.Dec.{T, eqb, ltb}
-use lib.ListN.{length, get_or, length-map}
-use borrow.Author.Tests.{eq-eqb, ne_eqb, le-ltb, eqb-true, eqb-false, ltb-true, ltb-false}
+use lib.ListN.{length, get_or}
+use borrow.Author.Tests.{ne_eqb, le-ltb, eqb-true, eqb-false, ltb-true, ltb-false}
 use Rattle.conv.specs.Types.{Ty, bool, i32, u32, formed}
 use Rattle.conv.specs.Types.Ty.{scalar, exchange}
-use Rattle.conv.specs.Rank.{both, converts}
+use Rattle.conv.specs.Rank.{converts}
 use Rattle.held.specs.Held.{number_of}
 use Rattle.text.specs.Text.{ascii}
 use Rattle.table.specs.Denote.{type_at}

@@ -1,4 +1,4 @@
--- DOCUMENT 02, K6, "ldexp and array_length by the book. Make both ruled": demand 3 of both, by the bytes of their names, in either profile; and the calls that the request speaks of, over a
+-- DOCUMENT 02, K6, "ldexp and arrayLength by the book. Make both ruled": demand 3 of both, by the bytes of their names, in either profile; and the calls that the request speaks of, over a
 -- table of literal words. Assumes nothing.
 use Prim.Native.Nat.{ℕ, ◌<◌}
 use Prim.Native.String.{String}
@@ -31,7 +31,7 @@ use Rattle.call_ty.specs.Calls.{template_right, operands_by, operands_of, given_
 use Rattle.call_ty.specs.inner.Codes.{Under}
 use Rattle.call_ty.proofs.Demand3.{builtin-demand-3}
 
--- BOTH ARE RULED; the result of array_length is running even so
+-- BOTH ARE RULED; the result of arrayLength is running even so
 
 module _ (profile : ℕ) (there : profile < profiles) where
   pub ldexp-ruled : rule_of profile (ascii "ldexp") ≡ rule (ruling (by_row scaling)) false

@@ -52,7 +52,7 @@ base_builtin_fn profile w n name tplt args =
     (turned_down NoSuchType 0 w n))
     (turned_down Unsound 0 w n)
 
--- THE MARK OF A NAME ALONE: "Derivatives, barriers, array_length and subgroup or quad calls give running results even so"; these and no other (`names/proofs/Document.antt`,
+-- THE MARK OF A NAME ALONE: "Derivatives, barriers, arrayLength and subgroup or quad calls give running results even so"; these and no other (`names/proofs/Document.antt`,
 -- `running-names`)
 abbrev pub runs_even_so : Named → Bool
 runs_even_so unknown = false

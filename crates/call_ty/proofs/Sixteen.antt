@@ -45,7 +45,7 @@ call name args = type_builtin_fn 0 table 8 (ascii name) [] args
 abbrev pub gives : ℕ → Outcome
 gives t = record { answer = accept t 8; words = table }
 
--- sqrt(AbstractInt): AbstractFloat. reverse_bits(AbstractInt): i32. frexp(vec2 AbstractFloat): `exp` is vec2 AbstractInt.
+-- sqrt(AbstractInt): AbstractFloat. reverseBits(AbstractInt): i32. frexp(vec2 AbstractFloat): `exp` is vec2 AbstractInt.
 -- clamp(AbstractInt, AbstractFloat, f16): f16. dpdx(f16): 8. sign(u32): 8
 pub record Six : Type 0 where
   pub sqrt : call "sqrt" (abstract_int ∷ []) ≡ gives abstract_float

@@ -105,7 +105,7 @@ by_rule place w n (rule r runs) ts us ms =
 abbrev pub call_outcome : ℕ → ℕ → List ℕ → ℕ → List ℕ → List Ty → List Ty → List Bool → Outcome
 call_outcome profile place w n name ts us ms = by_rule place w n (rule_of profile name) ts us ms
 
--- "a result is const when all operands are. Derivatives, barriers, array_length and subgroup or quad calls give running results even so"
+-- "a result is const when all operands are. Derivatives, barriers, arrayLength and subgroup or quad calls give running results even so"
 unfoldable pub runs_by : Named → List Bool → Bool
 runs_by unknown ms = false
 runs_by (rule r runs) ms = or runs (any_running ms)

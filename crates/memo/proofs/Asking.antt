@@ -21,7 +21,7 @@ use Rattle.table.proofs.PlacingLaws.{standing-outcome}
 use Rattle.table.proofs.Giving.{gave-whole}
 use Rattle.names.specs.Names.{Named, rule_of}
 use Rattle.names.specs.Names.Named.{rule}
-use Rattle.names.specs.inner.Table.{numbered, StandsAt, rule_at, replied}
+use Rattle.names.specs.inner.Table.{numbered, rule_at, replied}
 use Rattle.names.specs.declared.RuleNo.TheVariants.{Is}
 use Rattle.names.proofs.Found.{stands-rule}
 use Rattle.names.proofs.Rules.{said-rule}

@@ -1,6 +1,6 @@
 -- The memo: a digit says the number and the mark of an operand, a slot says what it holds, what it holds stays true while the table grows, and a value that typing gave may be noted. Assumes nothing.
 use Prim.Native.Nat.{ℕ, zero, suc, ◌+◌, ◌*◌, ◌%◌, ◌<◌, ◌≤◌}
-use mathlib.Core.Path.{◌≡◌, refl, sym, ◌∙◌, ap, subst}
+use mathlib.Core.Path.{◌≡◌, refl, sym, ◌∙◌, ap}
 use mathlib.Core.Logic.{◌⊎◌, inl, inr, ◌≢◌}
 use mathlib.Core.Bool.{Bool, true, false}
 use mathlib.Core.List.{List, [], ◌∷◌}
@@ -17,7 +17,6 @@ use Rattle.overload.specs.Rows.Ruling.{by_row}
 use Rattle.overload.specs.Marks.{running_abstract}
 use Rattle.overload.proofs.Rulings.{row-formed, ruling-formed}
 use Rattle.overload.proofs.Operands.{all_formed}
-use Rattle.overload.proofs.Results.{gives-formed}
 use Rattle.names.specs.Names.{Rule}
 use Rattle.names.specs.Names.Rule.{ruling}
 use Rattle.names.specs.Names.Named.{rule}

@@ -1,4 +1,4 @@
-// Calls on memory: those on atomics, workgroupUniformLoad and array_length. Their overloads are described, one for each pointer type that the rule takes: the pointer's entry is read, and
+// Calls on memory: those on atomics, workgroupUniformLoad and arrayLength. Their overloads are described, one for each pointer type that the rule takes: the pointer's entry is read, and
 // nothing is searched.
 #![tactic(auto)]
 
@@ -174,7 +174,7 @@ pub fn uniform_load(words: &[u32], n: usize, place: Place, a: u32) -> Answer
     load_at(words, n, place, held::number(a).0)
 }
 
-// array_length of the type at t: u32, of a pointer in space storage that may be read, to an array without count.
+// arrayLength of the type at t: u32, of a pointer in space storage that may be read, to an array without count.
 fn length_at(words: &[u32], n: usize, place: Place, t: usize) -> Answer
     requires { Sound words.now n × (t < n) }
     ensures { Gave (judged_outcome place.0 words.now n (judge_length (type_at words.now t))) result words.now }

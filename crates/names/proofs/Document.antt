@@ -31,7 +31,7 @@ pub among : List ℕ → List (List ℕ) → Bool
 among s [] = false
 among s (w ∷ ws) = same_bytes w s || among s ws
 
--- document 02, K3: "Derivatives, barriers, array_length and subgroup or quad calls give running results even so". These of document 01's names, since a barrier gives none
+-- document 02, K3: "Derivatives, barriers, arrayLength and subgroup or quad calls give running results even so". These of document 01's names, since a barrier gives none
 pub running_even_so : List (List ℕ)
 running_even_so = words (ascii "dpdx dpdy fwidth dpdxCoarse dpdyCoarse fwidthCoarse dpdxFine dpdyFine fwidthFine arrayLength")
 
@@ -96,7 +96,7 @@ ruled =
     ++ (ruled_by one_bool "all any"
     ++ ruled_by selecting "select"))))))))))))))))))))))))))))))))))
 
--- "Crate rules, 6"; of these, document 02, K6, "ldexp and array_length by the book. Make both ruled": so 4
+-- "Crate rules, 6"; of these, document 02, K6, "ldexp and arrayLength by the book. Make both ruled": so 4
 pub crate_rules : List Name
 crate_rules = group bitcast "bitcast" ++ group barrier "storageBarrier textureBarrier workgroupBarrier"
 
@@ -180,7 +180,7 @@ pub as-document : (s : List ℕ) (R : Rule) (m : Bool) → rule_in 0 document s 
 unfolding ascii words ahead among running_even_so under ruled crate_rules by_the_book names both same_bytes within rule_in
 as-document s R m e = covered 0 document names refl s R m e
 
--- RUNNING EVEN SO are the nine derivatives, array_length, the subgroup and quad names, the calls on memory, and no other
+-- RUNNING EVEN SO are the nine derivatives, arrayLength, the subgroup and quad names, the calls on memory, and no other
 pub running-names : map (λ (r : Name). r.running) names ≡ map (λ (r : Name). among r.text (running_even_so ++ map (λ (r : Name). r.text) (memory_calls ++ subgroups))) names
 unfolding ascii words ahead among running_even_so under memory_calls subgroups names both same_bytes
 running-names = refl

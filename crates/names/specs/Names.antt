@@ -55,7 +55,7 @@ lanes text row = record { text = ascii text; profile = 1; rule = ruling (by_row 
 abbrev pub on_memory : String → Rule → Name
 on_memory text rule = record { text = ascii text; profile = 0; rule = rule; running = true }
 
--- "Derivatives, barriers, array_length and subgroup or quad calls give running results even so": the last by their profile, and no barrier has a result
+-- "Derivatives, barriers, arrayLength and subgroup or quad calls give running results even so": the last by their profile, and no barrier has a result
 abbrev pub when_running : Name → Name
 when_running r = record { text = r.text; profile = r.profile; rule = r.rule; running = true }
 

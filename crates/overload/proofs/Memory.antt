@@ -1,4 +1,4 @@
--- Demand 3 for calls on atomics, for workgroupUniformLoad (document 02, K5) and for array_length (K6), whose overloads are described: one for each pointer type that the rule takes.
+-- Demand 3 for calls on atomics, for workgroupUniformLoad (document 02, K5) and for arrayLength (K6), whose overloads are described: one for each pointer type that the rule takes.
 -- Assumes nothing.
 use Rattle.std.proofs.Common.{◌≡◌, ℕ, zero, suc, ◌<◌, Bool, true, false, cond, not, ◌&&◌, ◌||◌, T, eqb, leb, ◌≢◌, ◌⊎◌, List, [], ◌∷◌, sym, refl, ap, ◌∙◌, subst, inl, inr, ⊎_elim, arith, lt-ltb, eqb-true}
 use Rattle.conv.specs.Types.{Ty, i32, u32, workgroup, storage, read, read_write, is_abstract, abstract_ty, is_value, is_runtime, formed}

@@ -1,5 +1,5 @@
 -- Document 02, K8, over all rows, K1, K5 and K6 included, listed and described, with and without marks: WHEREVER K3 LEAVES FITTING OVERLOADS, ONE IS PREFERRED TO EVERY OTHER LEFT.
--- Listed are the rows, K1's and K6's among them; described are the overloads of unary `&` and `*`, of K5's calls and of array_length. On any operands, types or not, whatever their
+-- Listed are the rows, K1's and K6's among them; described are the overloads of unary `&` and `*`, of K5's calls and of arrayLength. On any operands, types or not, whatever their
 -- marks: nothing is asked of them, so refusal 14 and the refusals before it play no part. `Preferred` is the definition of `specs/Overload.antt`. Assumes nothing.
 use Rattle.std.proofs.Common.{ℕ, Bool, T, List, [], sym, refl, subst}
 use Rattle.conv.specs.Types.{Ty}

@@ -579,7 +579,7 @@ takes_load x = is_pointer x && first_of x == workgroup && second_of x == read_wr
 unfoldable pub judge_load : Ty → Judged
 judge_load x = cond (takes_load x) (gives (loaded (element_of x))) none_fits
 
--- and one that array_length takes
+-- and one that arrayLength takes
 abbrev pub takes_length : Ty → Bool
 takes_length x = is_pointer x && first_of x == storage && (second_of x == read || second_of x == read_write) && is_runtime (element_of x)
 

@@ -1,20 +1,17 @@
 -- Spellings of scalars, vectors and matrices by their numbers; texts with something between two of them, one more at a time. Assumes nothing.
 use Prim.Native.Nat.{ℕ, zero, suc, ◌+◌, ◌-◌, ◌/◌, ◌%◌, ◌≤◌, ◌<◌}
-use mathlib.Core.Path.{◌≡◌, refl, sym, ◌∙◌, ap}
-use mathlib.Core.Bool.{Bool, cond}
+use mathlib.Core.Path.{◌≡◌, refl, ◌∙◌, ap}
 use mathlib.Core.List.{List, [], ◌∷◌, ◌++◌, map, append_assoc, append-nil}
 use native.Mathlib.Nat.{le_of_suc-le-suc, not-suc-le-zero}
 use native.Mathlib.Numerals.{add-one}
 use native.Mathlib.Omega.{arith}
-use lib.Dec.{eqb, ltb}
-use lib.ListN.{length, get_or, take, length-map, get_or-append}
-use borrow.Author.Tests.{eq-eqb, ne_eqb, lt-ltb, le-ltb}
+use lib.ListN.{length, get_or, take, length-map}
+use borrow.Author.Tests.{ne_eqb, lt-ltb, le-ltb}
 use Rattle.text.specs.Text.{ascii, decimal}
-use Rattle.conv.specs.Rank.{Shape, conversion_rank, made}
-use Rattle.conv.specs.Rank.Shape.{one, vector, matrix}
+use Rattle.conv.specs.Rank.{conversion_rank, made}
 use Rattle.overload.specs.inner.Code.{shape_of_no, operand}
 use Rattle.spell.specs.Spell.{scalar_names, named, spelling}
-use Rattle.spell.specs.inner.Parts.{texts, text_of}
+use Rattle.spell.specs.inner.Parts.{text_of}
 use Rattle.phrase.specs.Phrase.{behind, apart, ranks_of}
 use Rattle.phrase.specs.inner.Gap.{gap_at}
 

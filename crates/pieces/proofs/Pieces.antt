@@ -5,30 +5,29 @@ use mathlib.Core.Bool.{Bool, true, false, cond}
 use mathlib.Core.List.{List, [], ◌∷◌, ◌++◌, map}
 use native.Mathlib.Nat.{le_of_suc-le-suc, not-suc-le-zero}
 use native.Mathlib.Omega.{arith}
-use lib.Dec.{eqb, ltb}
+use lib.Dec.{eqb}
 use lib.ListN.{length, get_or, take, drop, length-map}
 use borrow.Author.Tests.{lt-ltb, le-ltb}
-use Rattle.held.specs.Held.{number_of, mark_of}
+use Rattle.held.specs.Held.{number_of}
 use Rattle.conv.specs.Types.{Ty}
 use Rattle.conv.specs.Rank.{both}
 use Rattle.overload.specs.Overload.{Overload, fits}
-use Rattle.overload.specs.Overload.Judged.{gives, none_fits}
-use Rattle.overload.specs.Marks.{any_running, any_abstract, running_abstract}
-use Rattle.overload.specs.Rows.{Row, row_at, overloads_of, of_row, operand_count, Ruling, judge_row, judge_by}
+use Rattle.overload.specs.Marks.{any_running, any_abstract}
+use Rattle.overload.specs.Rows.{row_at, overloads_of, of_row, operand_count, Ruling, judge_row, judge_by}
 use Rattle.overload.specs.Rows.Ruling.{by_row, address, indirection, on_atomic, comparing, uniform_load, array_length}
 use Rattle.overload.specs.inner.Code.{operand, code_of}
 use Rattle.overload.proofs.Counts.{count-few}
 use Rattle.overload.proofs.Operands.{all_formed, codes_of, params_of}
 use Rattle.text.specs.Text.{ascii}
 use Rattle.table.specs.Denote.{type_at}
-use Rattle.call_ty.specs.Calls.{operands_by, numbers, marks_of, types}
+use Rattle.call_ty.specs.Calls.{operands_by, numbers, marks_of}
 use Rattle.call_ty.proofs.Lists.{types-formed}
 use Rattle.listing.specs.Listing.{no_overload, overload_at}
 use Rattle.listing.proofs.EveryOverload.{no_other}
 use Rattle.weigh.specs.Weigh.{first_by, first_miss}
 use Rattle.phrase.specs.Phrase.{signature, ranks_text}
 use Rattle.choice.specs.inner.Chosen.{chosen_by}
-use Rattle.reasons.specs.Reasons.{line_end, miss_line, dropped_line, chosen_line, chosen_of, lost_line, broken_line, refused_pieces, accepted_pieces, pieces}
+use Rattle.reasons.specs.Reasons.{line_end, miss_line, dropped_line, chosen_line, lost_line, broken_line, refused_pieces, accepted_pieces, pieces}
 use Rattle.reasons.specs.inner.Told.{ruling_of, types_of, Told}
 use Rattle.reasons.proofs.Coded.{ranks-coded}
 use Rattle.pieces.proofs.Chosen.{chosen_at, chosen-below, some-miss, lost-coded}

@@ -2,10 +2,10 @@
 -- that does not convert to its parameter. An accepted call: the overload that its line names is left and preferred to every other left, and gives the call's type; the ranks are
 -- those of the operands' conversions. A dropped overload has a line exactly where it fits: the parameter named is the first abstract one, the operand named the first running one,
 -- and they are two. Each overload has one place. Assumes nothing.
-use Prim.Native.Nat.{ℕ, zero, suc, ◌≤◌, ◌<◌}
+use Prim.Native.Nat.{ℕ, zero, suc, ◌<◌}
 use mathlib.Core.Path.{◌≡◌, refl, sym, ◌∙◌, ap, subst}
 use mathlib.Core.Logic.{◌≢◌, ⊎_elim}
-use mathlib.Core.Bool.{Bool, true, false, not, cond}
+use mathlib.Core.Bool.{Bool, true, false, cond}
 use mathlib.Core.List.{List, [], ◌∷◌, map, Memᴰ}
 use native.Mathlib.Nat.{le_of_suc-le-suc, not-suc-le-zero}
 use native.Mathlib.Omega.{arith}
@@ -27,8 +27,7 @@ use Rattle.overload.proofs.Marks.{sifted-resolved}
 use Rattle.overload.proofs.OnePreferred.{row-one-is-preferred}
 use Rattle.overload.proofs.Counts.{one-count}
 use Rattle.overload.proofs.Sieve.{of-sifted, to-sifted}
-use Rattle.listing.specs.Listing.{no_overload, overload_at}
-use Rattle.listing.proofs.EveryOverload.{StandsAt, every-overload, no_other}
+use Rattle.listing.proofs.EveryOverload.{StandsAt, every-overload}
 use Rattle.weigh.specs.Weigh.{first_by, first_miss}
 use Rattle.weigh.proofs.Firsts.{unmissed, some-abstract, first-is, first-before}
 use Rattle.phrase.specs.Phrase.{ranks_of}

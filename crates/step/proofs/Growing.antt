@@ -1,11 +1,11 @@
 -- How much room is missing (document 02, K2), of an item of a sheet: what lacks is what its call lacks, or its take. Assumes nothing.
 use Prim.Native.Nat.{ℕ, zero, suc, ◌-◌, ◌<◌, ◌≤◌}
-use mathlib.Core.Path.{◌≡◌, refl, sym, ◌∙◌, ap, subst}
-use mathlib.Core.Bool.{Bool, true, false, ◌&&◌, cond}
+use mathlib.Core.Path.{◌≡◌, refl, sym, ◌∙◌, ap}
+use mathlib.Core.Bool.{Bool, true, false, cond}
 use mathlib.Core.List.{List, [], ◌∷◌}
 use native.Mathlib.Omega.{arith}
 use lib.Dec.{eqb, ltb, leb}
-use lib.ListN.{length, get_or, length-drop}
+use lib.ListN.{get_or, length-drop}
 use borrow.Author.Tests.{eq-eqb, ltb-true, leb-true}
 use Rattle.held.specs.Held.{number_of, mark_of}
 use Rattle.frame.specs.Frame.{marked}
@@ -31,7 +31,7 @@ use Rattle.ops_ty.proofs.Growing.{unary-at-grown, binary-at-grown}
 use Rattle.call_ty.specs.Calls.{numbers, marks_of, types, call_outcome}
 use Rattle.call_ty.specs.inner.Codes.{Under}
 use Rattle.call_ty.proofs.Growing.{types-longer, call-at-grown}
-use Rattle.step.specs.Effect.{most, State, height, operands, below, type_of, Effect, goes, silent, ends, stops, stop, onto, is_valued, having, holding, landing, push_effect, unary_effect, binary_effect, take_effect, calling, call_effect, template_effect, effect_of, entry_of, bytes_of}
+use Rattle.step.specs.Effect.{most, State, height, operands, below, type_of, Effect, goes, ends, stops, stop, onto, is_valued, landing, push_effect, unary_effect, binary_effect, take_effect, calling, call_effect, template_effect, effect_of, entry_of, bytes_of}
 use Rattle.step.specs.Lacking.{over, StopsLacking, GrownItem}
 use Rattle.step.specs.inner.Code.{Good}
 use Rattle.step.proofs.StackLaws.{value-under, under_drop}

@@ -1,6 +1,6 @@
 -- The item functions, each from the promises of the calls it makes: what a call answered can be pushed, and the stack afterwards is the item's effect.
 -- Assumes nothing.
-use Prim.Native.Nat.{ℕ, zero, suc, ◌+◌, ◌-◌, ◌<◌, ◌≤◌}
+use Prim.Native.Nat.{ℕ, ◌-◌, ◌<◌, ◌≤◌}
 use mathlib.Core.Path.{◌≡◌, refl, sym, ◌∙◌, ap}
 use mathlib.Core.Bool.{Bool, true, false, ◌&&◌, cond}
 use mathlib.Core.List.{List}
@@ -10,7 +10,7 @@ use lib.Dec.{eqb, leb}
 use borrow.Author.Tests.{leb-true}
 use Rattle.overload.proofs.Operands.{and_left}
 use Rattle.table.specs.Table.{Sound, allowedb}
-use Rattle.table.specs.Denote.{type_at, ty_of}
+use Rattle.table.specs.Denote.{ty_of}
 use Rattle.table.specs.Enter.{EnterDone, entry_answer}
 use Rattle.table.specs.Placing.{Outcome, Gave, GaveMarked, entering}
 use Rattle.table.specs.Kept.{Kept}
@@ -19,19 +19,18 @@ use Rattle.table.specs.declared.Entered.{Entered}
 use Rattle.answer.specs.declared.Place.{Place}
 use Rattle.answer.specs.declared.Reason.TheVariants.{Stack}
 use Rattle.answer.specs.declared.Answer.{Answer}
-use Rattle.answer.specs.declared.Answer.TheVariants.{Value}
 use Rattle.table.proofs.FormedLaws.{allowed-type}
 use Rattle.table.proofs.PlacingLaws.{enter-outcome}
 use Rattle.table.proofs.Keeping.{kept-entering}
 use Rattle.ruled.proofs.Outcomes.{gave-from}
 use Rattle.ops_ty.proofs.Demand1.{unary-at-kept, binary-at-kept}
-use Rattle.held.specs.Held.{number_of, mark_of}
+use Rattle.held.specs.Held.{number_of}
 use Rattle.overload.specs.Marks.{any_running}
-use Rattle.answer.specs.Answer.{has_value, marked_by}
+use Rattle.answer.specs.Answer.{has_value}
 use Rattle.answer.specs.declared.Typed.{Typed}
 use Rattle.table.proofs.Giving.{gave}
 use Rattle.call_ty.specs.Calls.{first_in, second_in, numbers, marks_of, types, call_outcome, builtin_runs}
-use Rattle.call_ty.proofs.Lists.{number_at, type-in}
+use Rattle.call_ty.proofs.Lists.{type-in}
 use Rattle.call_ty.specs.inner.Codes.{Under}
 use Rattle.call_ty.proofs.Demand1.{call-at-kept}
 use Rattle.step.specs.declared.Did.{Did}

@@ -32,7 +32,7 @@ use Rattle.call_ty.proofs.Demand1.{call-at-kept}
 use Rattle.call_ty.specs.inner.Codes.{Under}
 use Rattle.step.specs.Effect.{most, State, height, operands, below, Effect, goes, silent, ends, stops, stop, pushed, onto, having, holding, push_effect, unary_effect, binary_effect, is_valued, landing, calling, call_effect, template_effect, take_effect, effect_of, entry_of, bytes_of}
 use Rattle.step.specs.inner.Code.{Good}
-use Rattle.step.specs.Kept.{Grew, result_of, Needed}
+use Rattle.step.specs.Kept.{Grew, Needed}
 use Rattle.step.proofs.StackLaws.{value-under, under-take, under_drop}
 use Rattle.step.proofs.Answers.{has-place}
 

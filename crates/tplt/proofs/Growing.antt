@@ -1,6 +1,6 @@
 -- How much room is missing (document 02, K2), of template types. Assumes nothing.
 use Prim.Native.Nat.{ℕ, ◌<◌}
-use mathlib.Core.Path.{◌≡◌, refl, sym, ap}
+use mathlib.Core.Path.{◌≡◌, refl, ap}
 use mathlib.Core.Bool.{Bool, true, false, cond}
 use mathlib.Core.List.{List}
 use lib.Dec.{eqb}
@@ -17,7 +17,7 @@ use Rattle.table.proofs.Growing.{grown-refused, grown-passed, grown-as, grown-so
 use Rattle.tplt.specs.Heads.{head_of}
 use Rattle.tplt.specs.Params.{params_of, types_known, arguments_of, count_of}
 use Rattle.tplt.specs.Templates.{component, is_concrete, vec_parsed, is_matrix_component, mat_parsed, is_atomic_component, atomic_parsed, is_element, counted, array_of, array_of_type, array_parsed, parsed_of, type_of, outcome_of, template_outcome}
-use Rattle.tplt.specs.inner.Steps.{Below, Fit, number_in}
+use Rattle.tplt.specs.inner.Steps.{Below, number_in}
 use Rattle.tplt.specs.declared.head.Head.{Head}
 use Rattle.tplt.specs.declared.head.Head.TheVariants.{Vector, Matrix, Atomic, Array, NoHead}
 use Rattle.tplt.specs.declared.param.Arguments.{Arguments}

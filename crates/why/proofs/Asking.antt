@@ -10,8 +10,8 @@ use borrow.Author.Tests.{eq-eqb, ne_eqb}
 use mathlib.Core.Logic.{◌≢◌}
 use Rattle.conv.specs.Types.{Ty}
 use Rattle.text.specs.Text.{Put}
-use Rattle.overload.specs.Rows.{Ruling, judge_by}
-use Rattle.overload.specs.Rows.Ruling.{by_row, on_atomic}
+use Rattle.overload.specs.Rows.{Ruling}
+use Rattle.overload.specs.Rows.Ruling.{by_row}
 use Rattle.names.specs.Names.{Rule, Named, rule_of}
 use Rattle.names.specs.Names.Rule.{ruling, storing, bitcast, barrier}
 use Rattle.names.specs.Names.Named.{rule, unknown}
@@ -23,8 +23,8 @@ use Rattle.answer.specs.declared.Refusal.{Refusal}
 use Rattle.answer.specs.declared.Answer.{Answer}
 use Rattle.answer.specs.declared.Answer.TheVariants as answers
 use Rattle.table.specs.Placing.{Outcome}
-use Rattle.ops_ty.specs.Ops.{unary_ops, unary_ruling, binary_ops, binary_row, type_unary_op, type_binary_op}
-use Rattle.call_ty.specs.Calls.{operands_by, numbers, marks_of, types, type_builtin_fn}
+use Rattle.ops_ty.specs.Ops.{unary_ruling, binary_row, type_unary_op, type_binary_op}
+use Rattle.call_ty.specs.Calls.{marks_of, type_builtin_fn}
 use Rattle.spell.specs.Reply.{spelled_numbers, refuse_spelling, refusal_numbers}
 use Rattle.spell.specs.declared.Spelled.{Spelled}
 use Rattle.spell.specs.declared.Spelled.TheVariants as spelled

@@ -17,7 +17,7 @@ use Rattle.overload.specs.Rows.{Ruling, head_count, judge_by}
 use Rattle.overload.specs.Rows.Ruling.{by_row, on_atomic}
 use Rattle.names.specs.Names.{Rule, Named}
 use Rattle.names.specs.Names.Rule.{ruling, storing, bitcast, barrier}
-use Rattle.names.specs.Names.Named.{rule, unknown}
+use Rattle.names.specs.Names.Named.{rule}
 use Rattle.names.specs.Names.{rule_of}
 use Rattle.answer.specs.Answer.{reason_no}
 use Rattle.answer.specs.declared.Reason.TheVariants.{NoRoom}

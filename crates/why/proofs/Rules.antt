@@ -1,5 +1,5 @@
 -- The rulings by their numbers: those of operators, and those of the rules that names have. Assumes nothing.
-use Prim.Native.Nat.{ℕ, zero, suc, ◌<◌, ◌≤◌}
+use Prim.Native.Nat.{ℕ, zero, suc, ◌<◌}
 use native.Mathlib.Omega.{arith}
 use mathlib.Core.Path.{◌≡◌, refl, sym, ◌∙◌, ap, subst}
 use mathlib.Core.Bool.{Bool, true, false, ◌&&◌, ◌||◌, cond}
@@ -8,7 +8,7 @@ use lib.Dec.{eqb, ltb}
 use lib.ListN.{length, get_or}
 use borrow.Author.Tests.{lt-ltb, ltb-true, eqb-true}
 use Rattle.overload.specs.Rows.{Row, rows, no_row, row_at, head_count, operand_count, Ruling, Known}
-use Rattle.overload.specs.Rows.Ruling.{by_row, on_atomic, comparing, uniform_load, array_length}
+use Rattle.overload.specs.Rows.Ruling.{by_row, on_atomic, array_length}
 use Rattle.overload.proofs.Operands.{and_left, and_right}
 use Rattle.names.specs.Names.{Rule, loading, updating, exchanging, uniform_loading}
 use Rattle.names.specs.Names.Rule.{ruling, storing, bitcast, barrier}

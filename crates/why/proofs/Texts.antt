@@ -1,5 +1,5 @@
 -- A text put piece by piece, and put only where it fits. Assumes nothing.
-use Prim.Native.Nat.{ℕ, suc, ◌+◌, ◌*◌, ◌≤◌, ◌<◌}
+use Prim.Native.Nat.{ℕ, ◌+◌, ◌*◌, ◌≤◌, ◌<◌}
 use native.Mathlib.Omega.{arith}
 use native.Mathlib.Numerals.{add-one}
 use mathlib.Core.Path.{◌≡◌, refl, sym, ◌∙◌, ap, subst}
@@ -18,7 +18,7 @@ use Rattle.spell.specs.declared.Spelled.TheVariants as spelled
 use Rattle.reasons.specs.Reasons.{together}
 use Rattle.reasons.specs.inner.Told.{piece_room}
 use Rattle.why.specs.Why.{written_reply, why_bytes}
-use Rattle.why.specs.inner.Asks.{Tells, asked_pieces, asked_reply, Written, Telling, text_room, Short}
+use Rattle.why.specs.inner.Asks.{Tells, asked_pieces, asked_reply, Written, Telling}
 use Rattle.why.specs.declared.Asked.{Asked}
 use Rattle.why.specs.declared.Asked.TheVariants.{Nothing, Tell, Refused}
 

@@ -1,4 +1,4 @@
--- The rules of one operand that look at no value, by their numbers: array_length, workgroupUniformLoad, unary `&` and `*`. Assumes nothing.
+-- The rules of one operand that look at no value, by their numbers: arrayLength, workgroupUniformLoad, unary `&` and `*`. Assumes nothing.
 use Rattle.std.specs.Prelude.{ℕ, Bool, ◌||◌, eqb}
 
 abbrev pub alone : ℕ → Bool

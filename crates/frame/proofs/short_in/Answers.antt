@@ -1,6 +1,5 @@
 -- `frame::short_in` meets its contract: three bytes that the tests found are a push without a mark or an operator, and no other is (`Reading`). Assumes nothing.
 use Prim.Native.Nat.{ℕ, ◌+◌, ◌-◌}
-use mathlib.Core.Logic.{⊎_elim}
 use mathlib.Core.Path.{◌≡◌, sym, ap, ◌∙◌}
 use native.Mathlib.Omega.{arith}
 use borrow.Author.Tests.{ne_eqb}

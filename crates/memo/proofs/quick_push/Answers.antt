@@ -2,10 +2,8 @@ use Rattle.memo.proofs.QuickLaws.{quick-push}
 use mathlib.Core.Path.{refl}
 use mathlib.Core.Logic.{inl}
 use Rattle.memo.proofs.quick_push.Goals as goal
+
 -- `memo::quick_push` meets its contract: the number becomes one value more. Assumes nothing.
-use borrow.Author.Rules.{rules}
-use Rattle.memo.proofs.quick_push.Statement.{statement}
-use Rattle.memo.proofs.quick_push.Tie as tie
 
 pub returns-then-used-t : goal.returns-then-used-t
 returns-then-used-t c = λ keeps. record { went = inl (refl, refl) }

@@ -38,7 +38,7 @@ spell_args-returns t c =
     let near : c.put_opening-a.result ≤ a.at + 40 = omega (arith, c.put_opening-a.ensures.place, opening-long c.entry_at-e.result) in
     record {
       put = put-put (put-put (rw e at c.put_opening-a.ensures) (rw f at c.spell_type-b.ensures.put)) (rw e at c.put_closing.ensures);
-      upper_bound = omega (arith, c.spell_type-b.ensures.upper_bound, near, d, c.put_closing.ensures.place, closing-long c.entry_at-e.result, ap (λ (x : Entry). x.p) e, c.type_inv.words (a.i * 4 + 1))
+      upper_bound = omega (arith, c.spell_type-b.ensures.upper_bound, near, d, c.put_closing.ensures.place, closing-long c.entry_at-e.result, ap (λ (x : Entry). x.p) e, c.type_inv.words (a.i * 4 + 1));
     }
 
 pub spell_type-returns-then-e-lt-KIND_VEC : goal.spell_type-returns-then-e-lt-KIND_VEC
@@ -49,7 +49,7 @@ spell_type-returns-then-e-lt-KIND_VEC t c =
     let k : (entry_at a.words.now a.i).kind < 7 = omega (arith, c.if-e-lt-KIND_VEC.true, ap (λ (x : Entry). x.kind) e) in
     record {
       put = rw (alone a.words.now a.n p.sound a.i p.i_lt_n k) (rw e at c.put_head-mid.ensures);
-      upper_bound = omega (arith, c.put_head-mid.ensures.place, head-long c.entry_at-e.result, ap (λ (x : Entry). x.p) e, ap (λ (x : Entry). x.q) e, c.type_inv.words (a.i * 4 + 1), c.type_inv.words (a.i * 4 + 2))
+      upper_bound = omega (arith, c.put_head-mid.ensures.place, head-long c.entry_at-e.result, ap (λ (x : Entry). x.p) e, ap (λ (x : Entry). x.q) e, c.type_inv.words (a.i * 4 + 1), c.type_inv.words (a.i * 4 + 2));
     }
 
 pub spell_type-entry_at-requires : goal.spell_type-entry_at-requires
@@ -78,7 +78,7 @@ spell_type-returns-then-e t c =
     let near : c.put_head-mid.result ≤ a.at + half = omega (arith, c.put_head-mid.ensures.place, head-long c.entry_at-e.result, ap (λ (x : Entry). x.p) e, ap (λ (x : Entry). x.q) e, c.type_inv.words (a.i * 4 + 1), c.type_inv.words (a.i * 4 + 2)) in
     record {
       put = rw (with-result a.words.now a.n p.sound a.i p.i_lt_n k r) (put-put (rw e at c.put_head-mid.ensures) (rw f at c.put_fract.ensures));
-      upper_bound = omega (arith, near, c.put_fract.ensures.place, fract-long c.entry_at.result, ap (λ (x : Entry). x.p) f, ap (λ (x : Entry). x.q) f, c.type_inv.words (m * 4 + 1), c.type_inv.words (m * 4 + 2))
+      upper_bound = omega (arith, near, c.put_fract.ensures.place, fract-long c.entry_at.result, ap (λ (x : Entry). x.p) f, ap (λ (x : Entry). x.q) f, c.type_inv.words (m * 4 + 1), c.type_inv.words (m * 4 + 2));
     }
 
 pub spell_type-spell_args-requires : goal.spell_type-spell_args-requires
@@ -100,5 +100,5 @@ spell_type-returns t c =
     let near : c.put_head-mid.result ≤ a.at + half = omega (arith, c.put_head-mid.ensures.place, head-long c.entry_at-e.result, ap (λ (x : Entry). x.p) e, ap (λ (x : Entry). x.q) e, c.type_inv.words (a.i * 4 + 1), c.type_inv.words (a.i * 4 + 2)) in
     record {
       put = rw (with-args a.words.now a.n p.sound a.i p.i_lt_n k m) (put-put (rw e at c.put_head-mid.ensures) c.spell_args.ensures.put);
-      upper_bound = omega (arith, c.spell_args.ensures.upper_bound, near)
+      upper_bound = omega (arith, c.spell_args.ensures.upper_bound, near);
     }

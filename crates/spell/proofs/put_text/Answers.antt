@@ -1,6 +1,6 @@
 -- `spell::put_text` meets its contract. The loop's invariant: the first j bytes of the text stand there; a space is read at the
 -- text's end, and only there; the one text that fills its row ends with the row. Assumes nothing.
-use Prim.Native.Nat.{ℕ, ◌+◌, ◌<◌, ◌-◌}
+use Prim.Native.Nat.{ℕ, ◌+◌, ◌<◌}
 use mathlib.Core.Path.{◌≡◌, refl, sym, ◌∙◌, ap}
 use native.Mathlib.Omega.{arith}
 use lib.ListN.{length, set}

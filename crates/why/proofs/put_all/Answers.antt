@@ -1,5 +1,4 @@
 -- `why::put_all` meets its contract. The loop's invariant: the first j pieces are put. Assumes nothing.
-use Prim.Native.Nat.{◌-◌}
 use native.Mathlib.Omega.{arith}
 use Rattle.text.proofs.Puts.{put-long}
 use Rattle.why.proofs.Texts.{run-first, run-next, run-all}

@@ -1,6 +1,5 @@
 -- What the code goes by: which rule a call is told by, or what is handed on in place of a text. Assumes nothing.
 use Rattle.std.specs.Prelude.{ℕ, ◌*◌, ◌≤◌, ◌≡◌, Bool, true, false, List, []}
-use Rattle.overload.specs.Rows.{Ruling}
 use Rattle.names.specs.Names.{Rule}
 use Rattle.names.specs.Names.Rule.{ruling, storing, bitcast, barrier}
 use Rattle.answer.specs.declared.Answer.{Answer}

@@ -1,5 +1,4 @@
 -- `tplt::param::types_known` meets its contract: from a pair on, the rest is known where the whole is. Assumes nothing.
-use Prim.Native.Nat.{◌-◌}
 use mathlib.Core.Path.{refl, sym, ◌∙◌, ap}
 use native.Mathlib.Omega.{arith}
 use Rattle.tplt.specs.Params.{is_known}
