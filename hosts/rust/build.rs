@@ -1,4 +1,4 @@
-//! Links `libswartabelk.a`: of the folder that `SWARTABELK_LIB` names, or where `rt staticlib swartabelk` writes it.
+//! Links `libswartabelk.a`: of the folder that `SWARTABELK_LIB` names, or where `tools/archive` writes it.
 use std::env;
 use std::path::{Path, PathBuf};
 
@@ -20,14 +20,14 @@ fn main() {
                 "cargo::error=there is no {wanted}: SWARTABELK_LIB names the folder of {ARCHIVE}"
             );
         } else {
-            println!("cargo::error=there is no {wanted}; to write it, in the repository's first folder: rt staticlib swartabelk");
+            println!("cargo::error=there is no {wanted}; to write it, in the repository's first folder: tools/archive");
             println!("cargo::error=or SWARTABELK_LIB names the folder of an archive that you have");
         }
         return;
     }
     let machine = env::var("CARGO_CFG_TARGET_ARCH").unwrap_or_default();
     if machine != "x86_64" && named.is_none() {
-        println!("cargo::warning={ARCHIVE} of rt staticlib is for x86-64, and this is built for {machine}");
+        println!("cargo::warning={ARCHIVE} of tools/archive is for x86-64, and this is built for {machine}");
     }
     println!("cargo::rustc-link-search=native={}", folder.display());
     println!("cargo::rustc-link-lib=static=swartabelk");

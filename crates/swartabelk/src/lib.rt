@@ -1,5 +1,5 @@
-// The static library for hosts in C and in Rust: include/swartabelk.h declares it. Each function answers in a struct of numbers what the function below it
-// answers in an enum, which C does not know.
+// What hosts in C and in Rust call: include/swartabelk.h declares it, and the static library `swartabelk_c` hands it out under the same names. Each function answers
+// in a struct of numbers what the function below it answers in an enum, which C does not know.
 #![tactic(auto)]
 
 ghost use Rattle.std.specs.Prelude.{◌≡◌, false, ◌<◌, ◌^◌};
@@ -144,8 +144,7 @@ fn spelled_of(n: u32, s: Spelled) -> SpelledReply
 }
 
 // Whether the words hold a sound table of `used` entries: no value, or refusal 1.
-#[unsafe(no_mangle)]
-pub extern "C" fn swartabelk_check(words: &[u32], used: u32) -> Reply
+pub fn swartabelk_check(words: &[u32], used: u32) -> Reply
     ensures { result ≡ reply_of (marked_by false (check_answer words.now used)) }
 {
     let n = cast::word(used);
@@ -156,15 +155,7 @@ pub extern "C" fn swartabelk_check(words: &[u32], used: u32) -> Reply
 }
 
 // The type of an entry, entered where it is absent.
-#[unsafe(no_mangle)]
-pub extern "C" fn swartabelk_enter(
-    words: &mut [u32],
-    used: u32,
-    kind: u32,
-    p: u32,
-    q: u32,
-    elem: u32,
-) -> Reply
+pub fn swartabelk_enter(words: &mut [u32], used: u32, kind: u32, p: u32, q: u32, elem: u32) -> Reply
     ensures { Replied (enter_type words.old used (record { kind = kind; p = p; q = q; elem = elem })) false result words.new }
 {
     let n = cast::word(used);
@@ -174,8 +165,7 @@ pub extern "C" fn swartabelk_enter(
 }
 
 // The type of a unary operator on the operand a: a type's number, with RUNNING where it is known only when running.
-#[unsafe(no_mangle)]
-pub extern "C" fn swartabelk_unary(words: &mut [u32], used: u32, op: u32, a: u32) -> Reply
+pub fn swartabelk_unary(words: &mut [u32], used: u32, op: u32, a: u32) -> Reply
     ensures { Replied (type_unary_op words.old used op a) (unary_runs a) result words.new }
 {
     let n = cast::word(used);
@@ -185,8 +175,7 @@ pub extern "C" fn swartabelk_unary(words: &mut [u32], used: u32, op: u32, a: u32
 }
 
 // The type of a binary operator on the operands a and b.
-#[unsafe(no_mangle)]
-pub extern "C" fn swartabelk_binary(words: &mut [u32], used: u32, op: u32, a: u32, b: u32) -> Reply
+pub fn swartabelk_binary(words: &mut [u32], used: u32, op: u32, a: u32, b: u32) -> Reply
     ensures { Replied (type_binary_op words.old used op a b) (binary_runs a b) result words.new }
 {
     let n = cast::word(used);
@@ -196,8 +185,7 @@ pub extern "C" fn swartabelk_binary(words: &mut [u32], used: u32, op: u32, a: u3
 }
 
 // The type of a call of the builtin with that name in that profile, on those operands; the template list is empty where there is none.
-#[unsafe(no_mangle)]
-pub extern "C" fn swartabelk_call(
+pub fn swartabelk_call(
     words: &mut [u32],
     used: u32,
     profile: u32,
@@ -213,13 +201,7 @@ pub extern "C" fn swartabelk_call(
 }
 
 // The type of a template: a head, and its arguments as pairs of a tag and a value.
-#[unsafe(no_mangle)]
-pub extern "C" fn swartabelk_template(
-    words: &mut [u32],
-    used: u32,
-    head: &[u8],
-    args: &[i64],
-) -> Reply
+pub fn swartabelk_template(words: &mut [u32], used: u32, head: &[u8], args: &[i64]) -> Reply
     ensures { Replied (template_outcome words.old used head.now args.now) false result words.new }
 {
     let n = cast::word(used);
@@ -228,13 +210,7 @@ pub extern "C" fn swartabelk_template(
 }
 
 // The type of a whole sheet, in that profile.
-#[unsafe(no_mangle)]
-pub extern "C" fn swartabelk_sheet(
-    words: &mut [u32],
-    used: u32,
-    profile: u32,
-    sheet: &[u8],
-) -> Reply
+pub fn swartabelk_sheet(words: &mut [u32], used: u32, profile: u32, sheet: &[u8]) -> Reply
     ensures { Replied (type_sheet profile words.old used sheet.now) (sheet_runs profile words.old used sheet.now) result words.new }
 {
     let n = cast::word(used);
@@ -243,13 +219,7 @@ pub extern "C" fn swartabelk_sheet(
 }
 
 // The spelling of a type, into `out`.
-#[unsafe(no_mangle)]
-pub extern "C" fn swartabelk_spell(
-    words: &[u32],
-    used: u32,
-    ty: u32,
-    out: &mut [u8],
-) -> SpelledReply
+pub fn swartabelk_spell(words: &[u32], used: u32, ty: u32, out: &mut [u8]) -> SpelledReply
     ensures { SpelledOut words.now used ty out.old result out.new }
 {
     let n = cast::word(used);
@@ -259,8 +229,7 @@ pub extern "C" fn swartabelk_spell(
 }
 
 // Why a unary operator on the operand a is accepted, or refused with 8, into `out`.
-#[unsafe(no_mangle)]
-pub extern "C" fn swartabelk_why_unary(
+pub fn swartabelk_why_unary(
     words: &[u32],
     used: u32,
     op: u32,
@@ -276,8 +245,7 @@ pub extern "C" fn swartabelk_why_unary(
 }
 
 // Why a binary operator on the operands a and b is accepted, or refused with 8, into `out`.
-#[unsafe(no_mangle)]
-pub extern "C" fn swartabelk_why_binary(
+pub fn swartabelk_why_binary(
     words: &[u32],
     used: u32,
     op: u32,
@@ -294,8 +262,7 @@ pub extern "C" fn swartabelk_why_binary(
 }
 
 // Why a call of a builtin is accepted, or refused with 8, into `out`.
-#[unsafe(no_mangle)]
-pub extern "C" fn swartabelk_why_call(
+pub fn swartabelk_why_call(
     words: &[u32],
     used: u32,
     profile: u32,
@@ -312,8 +279,7 @@ pub extern "C" fn swartabelk_why_call(
 }
 
 // The part of the sheet that is the name of the call at a place; the empty part where no well-framed call begins.
-#[unsafe(no_mangle)]
-pub extern "C" fn swartabelk_call_name(sheet: &[u8], place: usize) -> NamePart
+pub fn swartabelk_call_name(sheet: &[u8], place: usize) -> NamePart
     ensures { result ≡ part_of (name_part sheet.now place) }
 {
     let part = frame::call_part(sheet, Place(place));

@@ -46,7 +46,7 @@
 //!
 //! # Linking
 //!
-//! The build script looks for `libswartabelk.a` in the folder that `SWARTABELK_LIB` names, or else where `rt staticlib swartabelk` writes it. The archive is for x86-64.
+//! The build script looks for `libswartabelk.a` in the folder that `SWARTABELK_LIB` names, or else where `tools/archive` writes it. The archive is for x86-64.
 #![no_std]
 #![warn(missing_docs)]
 
