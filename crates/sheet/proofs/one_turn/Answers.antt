@@ -4,9 +4,6 @@ use Rattle.frame.proofs.Parts.{whole_length, name_in}
 use Rattle.frame.specs.inner.Items.{sheet_of}
 use Rattle.sheet.proofs.one_turn.Goals as goal
 -- `sheet::one_turn` meets its contract: what the step did decides the turn. Assumes nothing.
-use borrow.Author.Rules.{rules}
-use Rattle.sheet.proofs.one_turn.Statement.{statement}
-use Rattle.sheet.proofs.one_turn.Tie as tie
 
 pub noted_step-d-requires : goal.noted_step-d-requires
 noted_step-d-requires c = let a = c.args in (c.requires.0, rw c.item_in-found.ensures (name_in a.version a.items.now a.at.0), c.requires.1, c.requires.2)

@@ -1,5 +1,4 @@
 -- `sheet::run_on` meets its contract: before every turn, what is left of the items gives what the whole items gives. Assumes nothing.
-use Prim.Native.Nat.{◌-◌}
 use mathlib.Core.Path.{sym, ◌∙◌}
 use native.Mathlib.Omega.{arith}
 use Rattle.frame.specs.inner.Items.{sheet_of}

@@ -1,5 +1,5 @@
 -- `sheet::rush` meets its contract: after every quick item, what is left gives what the items from the first place gave. Assumes nothing.
-use Prim.Native.Nat.{ℕ, ◌-◌}
+use Prim.Native.Nat.{ℕ}
 use mathlib.Core.List.{List}
 use mathlib.Core.Path.{refl, sym, ◌∙◌, subst}
 use Rattle.frame.specs.inner.Items.{sheet_of}

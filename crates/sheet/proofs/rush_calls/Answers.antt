@@ -6,7 +6,7 @@ use Rattle.frame.specs.inner.Items.{sheet_of}
 use native.Mathlib.Omega.{arith}
 use mathlib.Core.Path.{refl, sym, ◌∙◌, subst}
 use mathlib.Core.List.{List}
-use Prim.Native.Nat.{ℕ, ◌-◌}
+use Prim.Native.Nat.{ℕ}
 use Rattle.sheet.proofs.rush_calls.Goals as goal
 
 pub loop-went-init : goal.loop-went-init
