@@ -3,6 +3,7 @@ use Rattle.step.specs.inner.Code.{state_of}
 use Rattle.frame.proofs.Parts.{whole_length, name_in}
 use Rattle.frame.specs.inner.Items.{sheet_of}
 use Rattle.sheet.proofs.one_turn.Goals as goal
+
 -- `sheet::one_turn` meets its contract: what the step did decides the turn. Assumes nothing.
 
 pub noted_step-d-requires : goal.noted_step-d-requires
