@@ -4,7 +4,7 @@ use mathlib.Core.Path.{◌≡◌, refl, ◌∙◌, ap}
 use mathlib.Core.Logic.{◌⊎◌, inl, inr}
 use mathlib.Core.Bool.{Bool, true, false}
 use mathlib.Core.List.{List, []}
-use Prim.Native.Nat.{ℕ, zero, suc, ◌+◌, ◌*◌, ◌<◌, ◌≤◌}
+use Prim.Native.Nat.{ℕ, zero, suc, ◌<◌, ◌≤◌}
 use native.Mathlib.Omega.{arith}
 use native.Mathlib.Nat.{eq-or-lt_of_le, le_of_suc-le-suc, not-suc-le-zero}
 use lib.Dec.{T, eqb, eqb→eq}
@@ -71,11 +71,7 @@ below₃ m n o f t a b c ha hb hc = below o (λ c. f a b c) (below₂ m n (λ a 
 pub table : (g : ℕ → ℕ) (n : ℕ) (xs : List ℕ) → T (all n (λ k. eqb (get_or xs k 0) (g k))) → (k : ℕ) → k < n → get_or xs k 0 ≡ g k
 table g n xs t k h = eqb→eq (get_or xs k 0) (g k) (below n (λ k. eqb (get_or xs k 0) (g k)) t k h)
 
--- a flat table of m times n, and an array of arrays
-pub table₂ : (g : ℕ → ℕ → ℕ) (m n : ℕ) (xs : List ℕ) → T (all m (λ a. all n (λ b. eqb (get_or xs (a * n + b) 0) (g a b)))) → (a b : ℕ) → a < m → b < n
-    → get_or xs (a * n + b) 0 ≡ g a b
-table₂ g m n xs t a b ha hb = eqb→eq (get_or xs (a * n + b) 0) (g a b) (below₂ m n (λ a b. eqb (get_or xs (a * n + b) 0) (g a b)) t a b ha hb)
-
+-- an array of arrays
 pub board : (g : ℕ → ℕ → ℕ) (m n : ℕ) (xs : List (List ℕ)) → T (all m (λ a. all n (λ b. eqb (get_or (get_or xs a []) b 0) (g a b)))) → (a b : ℕ) → a < m → b < n
     → get_or (get_or xs a []) b 0 ≡ g a b
 board g m n xs t a b ha hb = eqb→eq (get_or (get_or xs a []) b 0) (g a b) (below₂ m n (λ a b. eqb (get_or (get_or xs a []) b 0) (g a b)) t a b ha hb)

@@ -1,4 +1,5 @@
 pub mod Finite
 pub mod Ranks
 pub mod Made
+pub mod Answered
 pub mod OneReply

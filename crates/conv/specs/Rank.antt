@@ -1,5 +1,5 @@
 -- Which types convert to which, and at what rank: WGSL "Conversion Rank", with document 01's numbers. Assumes nothing.
-use Rattle.std.specs.Prelude.{ℕ, ◌+◌, ◌/◌, ◌%◌, Bool, true, false, cond, eqb, ltb}
+use Rattle.std.specs.Prelude.{ℕ, ◌+◌, ◌/◌, ◌%◌, Bool, true, false, cond, eqb, ltb, Option, Some, None}
 use Rattle.conv.specs.Types.{Ty, abstract_int, abstract_float, i32, u32, f32, f16}
 use Rattle.conv.specs.Types.Ty.{scalar, vec, mat, array, runtime, atomic, ptr, ref, frexp, modf, exchange}
 
@@ -14,6 +14,10 @@ both false b = false
 -- the number that stands where there is no conversion
 abbrev pub none : ℕ
 none = 255
+
+-- a rank, or the number of a type, as the code answers it: nothing where there is no conversion
+abbrev pub found : ℕ → Option ℕ
+found r = cond (eqb r none) None (Some r)
 
 -- a line of the table of ranks: from x to y the rank r, else what follows
 abbrev pub line : ℕ → ℕ → ℕ → ℕ → ℕ → ℕ → ℕ

@@ -15,7 +15,7 @@ ghost use Rattle.table.specs.Placing.{Gave};
 ghost use Rattle.ruled.specs.Call.{operand_ty, operand_tys, judged_outcome, silent_outcome};
 ghost use Rattle.memory.specs.inner.Component.{Below, atomic_component};
 
-use conv::{NONE, SCALARS};
+use conv::SCALARS;
 use table::{
     ACCESS_READ, ACCESS_READ_WRITE, Answer, Entry, KIND_ATOMIC, KIND_EXCHANGE, KIND_PTR,
     KIND_RUNTIME, Place, Reason, SPACE_STORAGE, SPACE_WORKGROUP, TypeNo,
@@ -50,7 +50,7 @@ pub fn value_fits(words: &[u32], n: usize, v: u32, s: u8) -> bool
     if SCALARS <= x {
         return false;
     }
-    conv::rank(x, s) < NONE
+    conv::rank(x, s).is_some()
 }
 
 // Whether all operands do.

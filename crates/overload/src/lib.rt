@@ -14,7 +14,10 @@ ghost use Rattle.overload.specs.Marks.{passing};
 ghost use Rattle.overload.specs.inner.Code.{shape_of_no, operand, size_of_no, mem_size, asked_of, family_of, digit_of, size_at, sizes_of, has, first_with, preference, reaches, allows, slot_t, slot_i, fits_at, first_x, last_x, Word, Starts, kept, judge_kept, left_t, out_of, tried_of, judged_of};
 
 use cast::wide;
-use conv::{NONE, PLAINS, SCALARS};
+use conv::{PLAINS, SCALARS};
+
+// Where there is no component or no common type.
+const NONE: u8 = 255;
 
 // The digits of a family: the count of its parameters, its first parameter, its result, its wrapping, by which operands its size is found.
 const COUNT: usize = 0;
@@ -157,11 +160,10 @@ fn common(x: u8, j: u8, s: u8) -> u8
     ensures { ((result ≡ 255) ⊎ (result < 7)) × ((t : ℕ) → t < 7 → reaches result t ≡ both (reaches j t) (reaches s t)) }
 {
     let base = base_of(x);
-    let r = conv::convert_ty(base + j, base + s);
-    if r == NONE {
-        return NONE;
+    match conv::convert_ty(base + j, base + s) {
+        None => NONE,
+        Some(r) => r - base,
     }
-    r - base
 }
 
 // What is joined so far, with the scalar s of the operand x at T. Equal scalars need no table.

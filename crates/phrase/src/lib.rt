@@ -101,7 +101,7 @@ fn put_numbers(out: &mut [u8], at: usize, ps: &[u8], xs: &[u8]) -> usize
     let mut i = 0;
     while i < ps.len() {
         let b = put_gap(out, a, i, b" ");
-        let rank = weigh::rank(xs[i], ps[i]);
+        let rank = weigh::cost(xs[i], ps[i]);
         a = text::put_number(out, b, wide(rank));
         i += 1;
     }

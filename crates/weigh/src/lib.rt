@@ -3,27 +3,35 @@
 
 ghost use Rattle.std.specs.Prelude.{◌≡◌, map, ◌<◌, length};
 ghost use Rattle.conv.specs.Types.{abstract_ty};
-ghost use Rattle.conv.specs.Rank.{both, conversion_rank};
+ghost use Rattle.conv.specs.Rank.{both, conversion_rank, found};
 ghost use Rattle.overload.specs.Overload.{no_more, less};
 ghost use Rattle.overload.specs.inner.Code.{operand};
 ghost use Rattle.weigh.specs.Weigh.{first_by, first_miss, Shaped};
 
-use conv::{NONE, SCALARS};
+use conv::SCALARS;
 
 // The scalars that are abstract.
 const ABSTRACT_INT: u8 = 1;
 
 const ABSTRACT_FLOAT: u8 = 2;
 
-// The rank of the conversion of an operand to a parameter, or NONE.
-pub fn rank(x: u8, p: u8) -> u8
+// The rank of the conversion of an operand to a parameter.
+pub fn rank(x: u8, p: u8) -> Option<u8>
+    requires { p < 91 }
+    ensures { result ≡ found (conversion_rank (operand x) (operand p)) }
+{
+    if x / SCALARS != p / SCALARS {
+        return None;
+    }
+    conv::rank(x % SCALARS, p % SCALARS)
+}
+
+// What an operand costs at a parameter: the rank, and where it does not convert more than any rank.
+pub fn cost(x: u8, p: u8) -> u8
     requires { p < 91 }
     ensures { result ≡ conversion_rank (operand x) (operand p) }
 {
-    if x / SCALARS != p / SCALARS {
-        return NONE;
-    }
-    conv::rank(x % SCALARS, p % SCALARS)
+    rank(x, p).unwrap_or(u8::MAX)
 }
 
 // The place of the first operand that does not convert to its parameter, or how many there are.
@@ -33,7 +41,7 @@ pub fn first_miss(ps: &[u8], xs: &[u8]) -> usize
 {
     let mut i = 0;
     while i < ps.len() {
-        if rank(xs[i], ps[i]) == NONE {
+        if cost(xs[i], ps[i]) == u8::MAX {
             return i;
         }
         i += 1;
@@ -65,8 +73,8 @@ pub fn beats(xs: &[u8], ps: &[u8], qs: &[u8]) -> bool
     let mut cheaper = false;
     let mut i = 0;
     while i < xs.len() {
-        let a = rank(xs[i], ps[i]);
-        let b = rank(xs[i], qs[i]);
+        let a = cost(xs[i], ps[i]);
+        let b = cost(xs[i], qs[i]);
         if b < a {
             return false;
         }

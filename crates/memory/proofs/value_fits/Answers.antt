@@ -7,6 +7,8 @@ use Rattle.overload.specs.inner.Code.{code_of}
 use Rattle.ruled.specs.Call.{operand_ty}
 use borrow.Author.Tests.{le-ltb, lt-ltb}
 use mathlib.Core.Path.{sym, ◌∙◌, ap}
+use Rattle.std.specs.Prelude.{is_some}
+use Rattle.conv.proofs.Answered.{rank-found}
 use Rattle.memory.proofs.value_fits.Goals as goal
 
 pub returns-then-x-ge-SCALARS : goal.returns-then-x-ge-SCALARS
@@ -17,4 +19,4 @@ returns-then-x-ge-SCALARS c = let a = c.args in
 pub returns : goal.returns
 returns c = let a = c.args in
     let e = c.code_at-x.ensures ∙ ap (λ (i : _). code_of (type_at a.words.now i)) c.number.ensures in
-    rw c.rank.ensures (sym (by_code a.s (operand_ty a.words.now a.v) (formed-at a.words.now a.n c.requires.0 (number_of a.v) c.requires.1) ∙ rw (← e, lt-ltb _ 7 c.if-x-ge-SCALARS.false)))
+    c.is_some.ensures ∙ ap is_some c.rank.ensures ∙ rank-found _ _ ∙ (sym (by_code a.s (operand_ty a.words.now a.v) (formed-at a.words.now a.n c.requires.0 (number_of a.v) c.requires.1) ∙ rw (← e, lt-ltb _ 7 c.if-x-ge-SCALARS.false)))

@@ -24,8 +24,8 @@ put_gap-b-requires c = omega (arith, c.loop-i.invariant.2)
 pub bounds-xs-i : goal.bounds-xs-i
 bounds-xs-i c = omega (arith, c.requires.2)
 
-pub rank-rank-requires : goal.rank-rank-requires
-rank-rank-requires c = c.requires.1 c.loop-i.i c.loop-i-test.true
+pub cost-rank-requires : goal.cost-rank-requires
+cost-rank-requires c = c.requires.1 c.loop-i.i c.loop-i-test.true
 
 pub put_number-a-requires : goal.put_number-a-requires
 unfolding ascii
@@ -33,7 +33,7 @@ put_number-a-requires c = omega (arith, c.put_gap-b.ensures.place, gap-long c.lo
 
 pub loop-i-preserved : goal.loop-i-preserved
 unfolding ascii
-loop-i-preserved c = let a = c.args in let l = c.loop-i in let e = c.wide.ensures ∙ c.rank-rank.ensures in (omega arith, put_as (ap (λ (t : List ℕ). apart (ascii " ") (take l.i (ranked a.ps.now a.xs.now)) ++ gap_at l.i (ascii " ") ++ t) (ap decimal e ∙ sym (ranked-at a.ps.now a.xs.now c.requires.2 l.i c.loop-i-test.true)) ∙ sym (apart_next (ascii " ") (ranked a.ps.now a.xs.now) l.i (omega (arith, ranked-long a.ps.now a.xs.now c.requires.2)))) (put-put (put-put l.invariant.1 c.put_gap-b.ensures) c.put_number-a.ensures), omega (arith, c.put_gap-b.ensures.place, gap-long l.i (ascii " "), c.put_number-a.ensures.place, dec-twenty c.wide.result (omega arith), l.invariant.2))
+loop-i-preserved c = let a = c.args in let l = c.loop-i in let e = c.wide.ensures ∙ c.cost-rank.ensures in (omega arith, put_as (ap (λ (t : List ℕ). apart (ascii " ") (take l.i (ranked a.ps.now a.xs.now)) ++ gap_at l.i (ascii " ") ++ t) (ap decimal e ∙ sym (ranked-at a.ps.now a.xs.now c.requires.2 l.i c.loop-i-test.true)) ∙ sym (apart_next (ascii " ") (ranked a.ps.now a.xs.now) l.i (omega (arith, ranked-long a.ps.now a.xs.now c.requires.2)))) (put-put (put-put l.invariant.1 c.put_gap-b.ensures) c.put_number-a.ensures), omega (arith, c.put_gap-b.ensures.place, gap-long l.i (ascii " "), c.put_number-a.ensures.place, dec-twenty c.wide.result (omega arith), l.invariant.2))
 
 pub shape_of-out : goal.shape_of-out
 shape_of-out c = put-long c.loop-i.invariant.1
