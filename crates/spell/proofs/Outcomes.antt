@@ -10,7 +10,7 @@ use Rattle.table.specs.Table.{soundb, Sound}
 use Rattle.answer.specs.declared.TypeNo.{TypeNo}
 use Rattle.answer.specs.declared.Reason.TheVariants.{Unsound, NoSuchType, TooLong}
 use Rattle.table.proofs.SoundLaws.{of-sound}
-use Rattle.spell.specs.declared.Spelled.TheVariants.{Length}
+use Rattle.std.specs.Prelude.{Ok}
 use Rattle.spell.specs.Reply.{spelling_at, in_order, refuse_spelling, spell_reply, spell_numbers, spell_bytes, SpellDone}
 use Rattle.text.proofs.Puts.{over-room}
 
@@ -39,7 +39,7 @@ module _ (w : List ℕ) (n : ℕ) (t : TypeNo) (d : List ℕ) where
         record { reply = rw (x, y, z); numbers = rw (x, y, z); bytes = rw (x, y, z) }
 
     -- the length
-    pub at-fits : t.0 < n → length (spelling_at w t) ≤ length d → SpellDone w n t d (Length (length (spelling_at w t))) (sets d 0 (spelling_at w t))
+    pub at-fits : t.0 < n → length (spelling_at w t) ≤ length d → SpellDone w n t d (Ok (length (spelling_at w t))) (sets d 0 (spelling_at w t))
     unfolding spell_reply spell_numbers spell_bytes in_order
     at-fits h l =
         let x = of-sound w n s in

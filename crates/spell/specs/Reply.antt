@@ -1,14 +1,17 @@
 -- What asking for a spelling gives, and the output afterwards. Assumes nothing.
-use Rattle.std.specs.Prelude.{ℕ, ◌≡◌, cond, List, [], ◌∷◌, ◌++◌, leb, ltb, length, drop}
+use Rattle.std.specs.Prelude.{ℕ, ◌≡◌, cond, List, [], ◌∷◌, ◌++◌, leb, ltb, length, drop, Result, Ok, Err}
 use Rattle.answer.specs.Answer.{reason_no}
 use Rattle.table.specs.Table.{soundb}
 use Rattle.table.specs.Denote.{type_at}
 use Rattle.answer.specs.declared.TypeNo.{TypeNo}
 use Rattle.answer.specs.declared.Reason.{Reason}
+use Rattle.answer.specs.declared.Refusal.{Refusal}
 use Rattle.answer.specs.declared.Reason.TheVariants.{Unsound, NoSuchType, TooLong}
-use Rattle.spell.specs.declared.Spelled.{Spelled}
-use Rattle.spell.specs.declared.Spelled.TheVariants.{Length, Refused}
 use Rattle.spell.specs.Spell.{spelling}
+
+-- what asking for a spelling gives: its length, or a refusal
+abbrev pub Spelled : Type 0
+Spelled = Result ℕ Refusal
 
 -- a reply in document 01's numbers: the refusal's number, 0 for none; then the length, or the place and the used count
 pub record ReplyNumbers : Type 0 where
@@ -16,8 +19,8 @@ pub record ReplyNumbers : Type 0 where
   pub values : List ℕ
 
 abbrev pub spelled_numbers : Spelled → ReplyNumbers
-spelled_numbers (Length k) = record { refusal = 0; values = k ∷ [] }
-spelled_numbers (Refused r) = record { refusal = reason_no r.reason; values = r.place.0 ∷ r.used ∷ [] }
+spelled_numbers (Ok k) = record { refusal = 0; values = k ∷ [] }
+spelled_numbers (Err r) = record { refusal = reason_no r.reason; values = r.place.0 ∷ r.used ∷ [] }
 
 -- the spelling of number t of the table w
 abbrev pub spelling_at : List ℕ → TypeNo → List ℕ
@@ -34,11 +37,11 @@ in_order w n t out unsound beyond long done =
 
 -- "Single calls have place 0"; the used count of a refusal is n
 abbrev pub refuse_spelling : Reason → ℕ → Spelled
-refuse_spelling reason n = Refused (record { reason = reason; place = record { 0 = 0 }; used = n })
+refuse_spelling reason n = Err (record { reason = reason; place = record { 0 = 0 }; used = n })
 
 -- "The reply is its length"
 unfoldable pub spell_reply : List ℕ → ℕ → TypeNo → List ℕ → Spelled
-spell_reply w n t out = in_order w n t out (refuse_spelling Unsound n) (refuse_spelling NoSuchType n) (refuse_spelling TooLong n) (Length (length (spelling_at w t)))
+spell_reply w n t out = in_order w n t out (refuse_spelling Unsound n) (refuse_spelling NoSuchType n) (refuse_spelling TooLong n) (Ok (length (spelling_at w t)))
 
 -- the same in document 01's numbers
 abbrev pub refusal_numbers : ℕ → ℕ → ReplyNumbers

@@ -51,13 +51,6 @@ const TEXT_ACCESSES: usize = 23;
 
 const TEXT_ABSTRACT: usize = 26;
 
-// What asking for a spelling gives: its length, or a refusal.
-#[derive(Clone, Copy)]
-pub enum Spelled {
-    Length(usize),
-    Refused(Refusal),
-}
-
 // Byte j of text k, or a space past its end. The table is read here and nowhere else.
 fn text_byte(k: usize, j: usize) -> u8
     requires { (k < text_count) × (j < text_width) }
@@ -210,10 +203,10 @@ fn spell_args(words: &[u32], n: usize, i: usize, out: &mut [u8], at: usize) -> u
 }
 
 // A refusal of a single call.
-fn refused(reason: Reason, n: usize) -> Spelled
+fn refused(reason: Reason, n: usize) -> Result<usize, Refusal>
     ensures { result ≡ refuse_spelling reason n }
 {
-    Spelled::Refused(Refusal {
+    Err(Refusal {
         reason,
         place: Place(0),
         used: n,
@@ -221,7 +214,7 @@ fn refused(reason: Reason, n: usize) -> Spelled
 }
 
 // Spells type t of a sound table into `out`: its length, or a refusal, and then nothing is written.
-pub fn spell_in(words: &[u32], n: usize, t: TypeNo, out: &mut [u8]) -> Spelled
+pub fn spell_in(words: &[u32], n: usize, t: TypeNo, out: &mut [u8]) -> Result<usize, Refusal>
     requires { Sound words.now n }
     ensures { SpellDone words.now n t out.old result out.new }
 {
@@ -234,11 +227,11 @@ pub fn spell_in(words: &[u32], n: usize, t: TypeNo, out: &mut [u8]) -> Spelled
     if out.len() < len {
         return refused(Reason::TooLong, n);
     }
-    Spelled::Length(spell_type(words, n, i, out, 0))
+    Ok(spell_type(words, n, i, out, 0))
 }
 
 // For a host: spells type t of any table into `out`.
-pub fn spell(words: &[u32], n: usize, t: TypeNo, out: &mut [u8]) -> Spelled
+pub fn spell(words: &[u32], n: usize, t: TypeNo, out: &mut [u8]) -> Result<usize, Refusal>
     ensures { SpellDone words.now n t out.old result out.new }
 {
     if !table::sound(words, n) {

@@ -11,7 +11,7 @@ use Rattle.table.specs.Table.{soundb}
 use Rattle.answer.specs.declared.TypeNo.{TypeNo}
 use Rattle.table.proofs.SoundLaws.{sound-of}
 use Rattle.spell.specs.Reply.{spelling_at, in_order, spell_reply}
-use Rattle.spell.specs.declared.Spelled.{Spelled}
+use Rattle.spell.specs.Reply.{Spelled}
 use Rattle.spell.proofs.Short.{type-slim}
 use Rattle.swartabelk.specs.inner.Code.{SpelledFits}
 

@@ -10,8 +10,8 @@ use Rattle.answer.specs.declared.Answer.{Answer}
 use Rattle.answer.specs.declared.Answer.TheVariants.{Value, NoValue, Refused}
 use Rattle.answer.specs.declared.Typed.{Typed}
 use Rattle.spell.specs.Reply.{spell_reply, spell_bytes, SpellDone}
-use Rattle.spell.specs.declared.Spelled.{Spelled}
-use Rattle.spell.specs.declared.Spelled.TheVariants as spelled
+use Rattle.spell.specs.Reply.{Spelled}
+use Rattle.std.specs.Prelude.{Ok, Err}
 use Rattle.swartabelk.specs.Reply.{no_value, mark_bit, tell, reply_to, reply_of, spelled_of, SpelledOut}
 use Rattle.swartabelk.specs.declared.Reply.{Reply}
 use Rattle.swartabelk.specs.declared.SpelledReply.{SpelledReply}
@@ -50,20 +50,20 @@ module _ (d : Typed) (k : ℕ) (b : k ≡ mark_bit d.running) (r : Reply) where
   refused-told q x y e p l h = h ∙ (λ i. tell (p i) no_value (b i) q.place.0 q.used (l i)) ∙ ap like (sym e)
 
 module _ (s : Spelled) (f : SpelledFits s) where
-  pub length-fits : (k : ℕ) → s ≡ spelled.Length k → k < 2 ^ 32
+  pub length-fits : (k : ℕ) → s ≡ Ok k → k < 2 ^ 32
   unfolding SpelledFits
   length-fits k e = rw e at f
 
-  pub long-fits : (r : Refusal) → s ≡ spelled.Refused r → (r.place.0 < 2 ^ 32) × (r.used < 2 ^ 32)
+  pub long-fits : (r : Refusal) → s ≡ Err r → (r.place.0 < 2 ^ 32) × (r.used < 2 ^ 32)
   unfolding SpelledFits
   long-fits r e = rw e at f
 
 module _ (n : ℕ) (s : Spelled) (x y z : ℕ) where
-  pub length-told : (k : ℕ) → s ≡ spelled.Length k → x ≡ k → record { refusal = 0; length = x; place = 0; used = n } ≡ spelled_of n s
+  pub length-told : (k : ℕ) → s ≡ Ok k → x ≡ k → record { refusal = 0; length = x; place = 0; used = n } ≡ spelled_of n s
   unfolding spelled_of
   length-told k e p = (λ i. record { refusal = 0; length = p i; place = 0; used = n }) ∙ ap (spelled_of n) (sym e)
 
-  pub long-told : (r : Refusal) → s ≡ spelled.Refused r → x ≡ reason_no r.reason → y ≡ r.place.0 → z ≡ r.used
+  pub long-told : (r : Refusal) → s ≡ Err r → x ≡ reason_no r.reason → y ≡ r.place.0 → z ≡ r.used
       → record { refusal = x; length = 0; place = y; used = z } ≡ spelled_of n s
   unfolding spelled_of
   long-told r e p q u = (λ i. record { refusal = p i; length = 0; place = q i; used = u i }) ∙ ap (spelled_of n) (sym e)

@@ -14,8 +14,8 @@ use Rattle.answer.specs.declared.Answer.TheVariants.{Value, NoValue, Refused}
 use Rattle.ops_ty.specs.Ops.{type_unary_op, type_binary_op}
 use Rattle.call_ty.specs.Calls.{type_builtin_fn}
 use Rattle.spell.specs.Reply.{refuse_spelling}
-use Rattle.spell.specs.declared.Spelled.{Spelled}
-use Rattle.spell.specs.declared.Spelled.TheVariants as spelled
+use Rattle.spell.specs.Reply.{Spelled}
+use Rattle.std.specs.Prelude.{Ok, Err}
 use Rattle.reasons.specs.Reasons.{together}
 use Rattle.why.specs.Why.{by_answer, written_reply, why_reply, why_bytes, WhyDone}
 use Rattle.why.specs.inner.Asks.{Short}
@@ -28,13 +28,13 @@ use Rattle.swartabelk.proofs.Places.{At}
 
 module _ (n : ℕ) (l : n < 2 ^ 32) where
   refused-at : Spelled → Type 0
-  refused-at s = (r : Refusal) → s ≡ spelled.Refused r → (r.place.0 ≡ 0) × (r.used ≡ n)
+  refused-at s = (r : Refusal) → s ≡ Err r → (r.place.0 ≡ 0) × (r.used ≡ n)
 
   written_at : (text out : List ℕ) → refused-at (written_reply n text out)
   unfolding written_reply refused-at
   written_at text out = go (leb (length text) (length out))
     where
-      go : (b : Bool) → (r : Refusal) → cond b (spelled.Length (length text)) (refuse_spelling TooLong n) ≡ spelled.Refused r → (r.place.0 ≡ 0) × (r.used ≡ n)
+      go : (b : Bool) → (r : Refusal) → cond b (Ok (length text)) (refuse_spelling TooLong n) ≡ Err r → (r.place.0 ≡ 0) × (r.used ≡ n)
       go true r e = absurd (let z : ◌≡◌ {A = ℕ} 0 1 = cc in omega arith)
       go false r e =
           let z : record { reason = TooLong; place = record { 0 = 0 }; used = n } ≡ r = cc in
@@ -46,14 +46,14 @@ module _ (n : ℕ) (l : n < 2 ^ 32) where
   why-at (NoValue m) at text out = written_at text out
   why-at (Refused q) at text out = go (eqb (reason_no q.reason) 8)
     where
-      go : (b : Bool) → (r : Refusal) → cond b (written_reply n text out) (spelled.Refused q) ≡ spelled.Refused r → (r.place.0 ≡ 0) × (r.used ≡ n)
+      go : (b : Bool) → (r : Refusal) → cond b (written_reply n text out) (Err q) ≡ Err r → (r.place.0 ≡ 0) × (r.used ≡ n)
       go true r e = written_at text out r e
       go false r e = let z : q ≡ r = cc in (ap (λ (x : Refusal). x.place.0) (sym z) ∙ at.0, ap (λ (x : Refusal). x.used) (sym z) ∙ at.1)
 
   pub why-fits : (a : Answer) → At 0 n a → (ps : List (List ℕ)) (out : List ℕ) (s : Spelled) (v : List ℕ) → WhyDone n a ps out s v → Short s → SpelledFits s
   unfolding Short SpelledFits refused-at
-  why-fits a at ps out (spelled.Length k) v d h = omega arith
-  why-fits a at ps out (spelled.Refused r) v d h = let q = why-at a at (together ps) out r (sym d.reply) in (omega (arith, q.0), omega (arith, q.1))
+  why-fits a at ps out (Ok k) v d h = omega arith
+  why-fits a at ps out (Err r) v d h = let q = why-at a at (together ps) out r (sym d.reply) in (omega (arith, q.0), omega (arith, q.1))
 
 -- told in numbers, over the same count, answer and pieces
 pub told-out : {n m : ℕ} {a b : Answer} {ps qs : List (List ℕ)} {out : List ℕ} {s : Spelled} {r : SpelledReply} {v : List ℕ}

@@ -8,7 +8,7 @@ use Rattle.answer.specs.declared.Reason.TheVariants.{Unsound}
 use Rattle.answer.specs.declared.Answer.{Answer}
 use Rattle.answer.specs.declared.Typed.{Typed}
 use Rattle.answer.specs.declared.Answer.TheVariants.{NoValue}
-use Rattle.spell.specs.declared.Spelled.{Spelled}
+use Rattle.spell.specs.Reply.{Spelled}
 use Rattle.spell.specs.declared.Spelled.TheVariants.{Length, Refused}
 use Rattle.spell.specs.Reply.{spell_reply, spell_bytes}
 use Rattle.reasons.specs.Reasons.{together}

@@ -26,8 +26,8 @@ use Rattle.table.specs.Placing.{Outcome}
 use Rattle.ops_ty.specs.Ops.{unary_ruling, binary_row, type_unary_op, type_binary_op}
 use Rattle.call_ty.specs.Calls.{marks_of, type_builtin_fn}
 use Rattle.spell.specs.Reply.{spelled_numbers, refuse_spelling, refusal_numbers}
-use Rattle.spell.specs.declared.Spelled.{Spelled}
-use Rattle.spell.specs.declared.Spelled.TheVariants as spelled
+use Rattle.spell.specs.Reply.{Spelled}
+use Rattle.std.specs.Prelude.{Ok, Err}
 use Rattle.reasons.specs.Reasons.{together, refused_pieces, accepted_pieces, pieces}
 use Rattle.reasons.specs.inner.Told.{ruling_of, types_of, Told}
 use Rattle.why.specs.Why.{by_answer, tell_by, unary_pieces, binary_pieces, ruled_pieces, call_pieces, written_reply, why_reply, written_numbers, why_numbers, why_bytes, WhyDone}
@@ -60,7 +60,7 @@ module _ (w : List ℕ) (n : ℕ) (args : List ℕ) where
     refused-pieces true q f = ap (λ (x : Ruling). refused_pieces x (types_of w args)) (f refl).0
     refused-pieces false q f = refl
 
-    refused-reply : (b : Bool) (q : Refusal) (text out : List ℕ) → asked_reply n (cond b (Tell k false) (Refused q)) text out ≡ cond b (written_reply n text out) (spelled.Refused q)
+    refused-reply : (b : Bool) (q : Refusal) (text out : List ℕ) → asked_reply n (cond b (Tell k false) (Refused q)) text out ≡ cond b (written_reply n text out) (Err q)
     unfolding asked_reply
     refused-reply true q text out = refl
     refused-reply false q text out = refl
@@ -88,7 +88,7 @@ module _ (w : List ℕ) (n : ℕ) (args : List ℕ) where
   no_pieces true q = refl
   no_pieces false q = refl
 
-  no-reply : (b : Bool) (q : Refusal) (text out : List ℕ) → asked_reply n (cond b Nothing (Refused q)) text out ≡ cond b (written_reply n text out) (spelled.Refused q)
+  no-reply : (b : Bool) (q : Refusal) (text out : List ℕ) → asked_reply n (cond b Nothing (Refused q)) text out ≡ cond b (written_reply n text out) (Err q)
   unfolding asked_reply
   no-reply true q text out = refl
   no-reply false q text out = refl
@@ -226,7 +226,7 @@ written-numbers : (n : ℕ) (text out : List ℕ) → spelled_numbers (written_r
 unfolding written_reply written_numbers
 written-numbers n text out = go (leb (length text) (length out))
   where
-    go : (b : Bool) → spelled_numbers (cond b (spelled.Length (length text)) (refuse_spelling TooLong n)) ≡ cond b (record { refusal = 0; values = length text ∷ [] }) (refusal_numbers 12 n)
+    go : (b : Bool) → spelled_numbers (cond b (Ok (length text)) (refuse_spelling TooLong n)) ≡ cond b (record { refusal = 0; values = length text ∷ [] }) (refusal_numbers 12 n)
     go true = refl
     go false = refl
 
@@ -236,7 +236,7 @@ why-numbers n (answers.Value t m) text out = written-numbers n text out
 why-numbers n (answers.NoValue m) text out = written-numbers n text out
 why-numbers n (answers.Refused r) text out = go (eqb (reason_no r.reason) 8)
   where
-    go : (b : Bool) → spelled_numbers (cond b (written_reply n text out) (spelled.Refused r)) ≡ cond b (written_numbers n text out) (record { refusal = reason_no r.reason; values = r.place.0 ∷ r.used ∷ [] })
+    go : (b : Bool) → spelled_numbers (cond b (written_reply n text out) (Err r)) ≡ cond b (written_numbers n text out) (record { refusal = reason_no r.reason; values = r.place.0 ∷ r.used ∷ [] })
     go true = written-numbers n text out
     go false = refl
 

@@ -3,7 +3,7 @@ use Prim.Native.Nat.{ℕ}
 use mathlib.Core.Path.{◌≡◌, sym, ◌∙◌}
 use mathlib.Core.List.{List}
 use Rattle.answer.specs.declared.Answer.{Answer}
-use Rattle.spell.specs.declared.Spelled.{Spelled}
+use Rattle.spell.specs.Reply.{Spelled}
 use Rattle.why.specs.Why.{WhyDone}
 
 pub one-reply : {n : ℕ} {a : Answer} {ps : List (List ℕ)} {out : List ℕ} {r s : Spelled} {u v : List ℕ} → WhyDone n a ps out r u → WhyDone n a ps out s v → (r ≡ s) × (u ≡ v)

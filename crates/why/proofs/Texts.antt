@@ -13,8 +13,8 @@ use Rattle.answer.specs.declared.Refusal.{Refusal}
 use Rattle.text.specs.Text.{Put}
 use Rattle.text.proofs.Puts.{put-nothing, put-put, put_as, over-room}
 use Rattle.spell.specs.Reply.{refuse_spelling}
-use Rattle.spell.specs.declared.Spelled.{Spelled}
-use Rattle.spell.specs.declared.Spelled.TheVariants as spelled
+use Rattle.spell.specs.Reply.{Spelled}
+use Rattle.std.specs.Prelude.{Ok, Err}
 use Rattle.reasons.specs.Reasons.{together}
 use Rattle.reasons.specs.inner.Told.{piece_room}
 use Rattle.why.specs.Why.{written_reply, why_bytes}
@@ -61,7 +61,7 @@ module _ (n : ℕ) (text out : List ℕ) where
   unfolding written_reply why_bytes
   written-long l = let z = lt-leb (length text) (length out) l in record { reply = rw z; bytes = rw z }
 
-  pub written-fits : length text ≤ length out → Written n text out (spelled.Length (length text)) (sets out 0 text)
+  pub written-fits : length text ≤ length out → Written n text out (Ok (length text)) (sets out 0 text)
   unfolding written_reply why_bytes
   written-fits l = let z = le-leb (length text) (length out) l in record { reply = rw z; bytes = rw z (over-room text out l) }
 
@@ -79,6 +79,6 @@ module _ (w : List ℕ) (n : ℕ) (args : List ℕ) (asked : Asked) (out : List 
   pub tells_as : (x : Asked) → asked ≡ x → Tells w n args asked → Tells w n args x
   tells_as x e t = subst (λ (y : Asked). Tells w n args y) e t
 
-  pub tell-refused : (q : Refusal) → asked ≡ Refused q → Telling w n args asked out (spelled.Refused q) out
+  pub tell-refused : (q : Refusal) → asked ≡ Refused q → Telling w n args asked out (Err q) out
   unfolding asked_reply asked_pieces together why_bytes
   tell-refused q e = rw e (record { reply = refl; bytes = rw (le-leb 0 (length out) (omega arith)) })

@@ -16,8 +16,8 @@ use Rattle.ruled.specs.Call.{operand_ty}
 use Rattle.ops_ty.specs.Ops.{unary_ruling, binary_row, type_unary_op, type_binary_op}
 use Rattle.call_ty.specs.Calls.{numbers, marks_of, types, type_builtin_fn}
 use Rattle.spell.specs.Reply.{ReplyNumbers, spelled_numbers, refuse_spelling, refusal_numbers}
-use Rattle.spell.specs.declared.Spelled.{Spelled}
-use Rattle.spell.specs.declared.Spelled.TheVariants as spelled
+use Rattle.spell.specs.Reply.{Spelled}
+use Rattle.std.specs.Prelude.{Ok, Err}
 use Rattle.reasons.specs.Reasons.{together, refused_pieces, accepted_pieces}
 
 -- what a call answered: it is accepted; it is refused with 8; or it is refused with another number
@@ -53,10 +53,10 @@ call_pieces profile w n name tplt args =
 -- WHAT ASKING GIVES, over a table of n entries: a refusal other than 8 as the call has it; then 12, a text longer than the output; else the text's length
 
 unfoldable pub written_reply : ℕ → List ℕ → List ℕ → Spelled
-written_reply n text out = cond (leb (length text) (length out)) (spelled.Length (length text)) (refuse_spelling TooLong n)
+written_reply n text out = cond (leb (length text) (length out)) (Ok (length text)) (refuse_spelling TooLong n)
 
 unfoldable pub why_reply : ℕ → Answer → List ℕ → List ℕ → Spelled
-why_reply n a text out = by_answer a (written_reply n text out) (written_reply n text out) spelled.Refused
+why_reply n a text out = by_answer a (written_reply n text out) (written_reply n text out) Err
 
 -- the same in the documents' numbers
 unfoldable pub written_numbers : ℕ → List ℕ → List ℕ → ReplyNumbers

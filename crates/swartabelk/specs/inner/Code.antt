@@ -2,8 +2,8 @@
 use Rattle.std.specs.Prelude.{◌<◌, ◌^◌}
 use Rattle.answer.specs.declared.Answer.{Answer}
 use Rattle.answer.specs.declared.Answer.TheVariants.{Value, NoValue, Refused}
-use Rattle.spell.specs.declared.Spelled.{Spelled}
-use Rattle.spell.specs.declared.Spelled.TheVariants as spelled
+use Rattle.spell.specs.Reply.{Spelled}
+use Rattle.std.specs.Prelude.{Ok, Err}
 use Rattle.swartabelk.specs.Reply.{no_value}
 
 -- and a type's number is not the one that stands for none
@@ -13,5 +13,5 @@ Fits (NoValue n) = n < 2 ^ 32
 Fits (Refused r) = (r.place.0 < 2 ^ 32) × (r.used < 2 ^ 32)
 
 unfoldable pub SpelledFits : Spelled → Type 0
-SpelledFits (spelled.Length k) = k < 2 ^ 32
-SpelledFits (spelled.Refused r) = (r.place.0 < 2 ^ 32) × (r.used < 2 ^ 32)
+SpelledFits (Ok k) = k < 2 ^ 32
+SpelledFits (Err r) = (r.place.0 < 2 ^ 32) × (r.used < 2 ^ 32)

@@ -4,8 +4,8 @@ use Rattle.names.specs.Names.{Rule}
 use Rattle.names.specs.Names.Rule.{ruling, storing, bitcast, barrier}
 use Rattle.answer.specs.declared.Answer.{Answer}
 use Rattle.call_ty.specs.Calls.{marks_of}
-use Rattle.spell.specs.declared.Spelled.{Spelled}
-use Rattle.spell.specs.declared.Spelled.TheVariants as spelled
+use Rattle.spell.specs.Reply.{Spelled}
+use Rattle.std.specs.Prelude.{Ok, Err}
 use Rattle.reasons.specs.Reasons.{pieces, together}
 use Rattle.reasons.specs.inner.Told.{ruling_of, types_of, Told, piece_room}
 use Rattle.why.specs.Why.{written_reply, why_reply, why_bytes}
@@ -35,7 +35,7 @@ asked_pieces w args (Refused r) = []
 unfoldable pub asked_reply : ℕ → Asked → List ℕ → List ℕ → Spelled
 asked_reply n Nothing text out = written_reply n text out
 asked_reply n (Tell rule accepted) text out = written_reply n text out
-asked_reply n (Refused r) text out = spelled.Refused r
+asked_reply n (Refused r) text out = Err r
 
 -- what asking promises, of a call that answers a and whose text has the pieces ps
 pub record Asks (w : List ℕ) (n : ℕ) (args : List ℕ) (ps : List (List ℕ)) (a : Answer) (asked : Asked) : Type 0 where
@@ -57,5 +57,5 @@ abbrev pub text_room : ℕ
 text_room = 256 * piece_room
 
 unfoldable pub Short : Spelled → Type 0
-Short (spelled.Length k) = k ≤ text_room
-Short (spelled.Refused r) = Unit {0}
+Short (Ok k) = k ≤ text_room
+Short (Err r) = Unit {0}
