@@ -4,11 +4,10 @@
 
 ghost use Rattle.std.specs.Prelude.{◌<◌};
 
-use spell::Spelled;
 use std::io;
 use table::{
     ACCESS_READ, ACCESS_READ_WRITE, ACCESS_WRITE, Answer, Entry, KIND_ARRAY, KIND_ATOMIC,
-    KIND_EXCHANGE, KIND_FREXP, KIND_MAT, KIND_MODF, KIND_PTR, KIND_REF, KIND_RUNTIME, KIND_VEC,
+    KIND_EXCHANGE, KIND_FREXP, KIND_MAT, KIND_MODF, KIND_PTR, KIND_REF, KIND_RUNTIME, KIND_VEC, Refusal,
     SPACE_FUNCTION, SPACE_HANDLE, SPACE_PRIVATE, SPACE_STORAGE, SPACE_UNIFORM, SPACE_WORKGROUP,
     TypeNo,
 };
@@ -151,13 +150,13 @@ fn write_number(rt: &impl Print, x: usize) -> io::Result<()> {
 }
 
 // The numbers of a reply: the length, or the refusal's number, its place and the used count.
-fn write_reply(rt: &impl Print, r: Spelled) -> io::Result<()> {
+fn write_reply(rt: &impl Print, r: Result<usize, Refusal>) -> io::Result<()> {
     match r {
-        Spelled::Length(k) => {
+        Ok(k) => {
             rt.write_all(b"length ")?;
             write_number(rt, k)
         }
-        Spelled::Refused(f) => {
+        Err(f) => {
             let why = f.reason;
             let place = f.place;
             rt.write_all(b"refused ")?;
@@ -175,8 +174,8 @@ fn show(rt: &impl Print, words: &[u32], n: usize, i: usize) -> io::Result<()> {
     let mut out = [b'.'; 80];
     let r = spell::spell(words, n, TypeNo(i), &mut out);
     match r {
-        Spelled::Length(k) => write_line(rt, &out, k),
-        Spelled::Refused(_) => {
+        Ok(k) => write_line(rt, &out, k),
+        Err(_) => {
             write_reply(rt, r)?;
             write_line(rt, &out, 0)
         }
@@ -191,7 +190,7 @@ fn show_all(rt: &impl Print, words: &[u32], n: usize) -> io::Result<()> {
 }
 
 // Spells entry i into the first `room` bytes of an output, or into all of it where it has no more.
-fn spell_part(words: &[u32], n: usize, i: usize, out: &mut [u8], room: usize) -> Spelled {
+fn spell_part(words: &[u32], n: usize, i: usize, out: &mut [u8], room: usize) -> Result<usize, Refusal> {
     if out.len() < room {
         return spell::spell(words, n, TypeNo(i), out);
     }

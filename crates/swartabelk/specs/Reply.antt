@@ -9,7 +9,7 @@ use Rattle.answer.specs.declared.Answer.{Answer}
 use Rattle.answer.specs.declared.Typed.{Typed}
 use Rattle.answer.specs.declared.Answer.TheVariants.{NoValue}
 use Rattle.spell.specs.Reply.{Spelled}
-use Rattle.spell.specs.declared.Spelled.TheVariants.{Length, Refused}
+use Rattle.std.specs.Prelude.{Ok, Err}
 use Rattle.spell.specs.Reply.{spell_reply, spell_bytes}
 use Rattle.reasons.specs.Reasons.{together}
 use Rattle.why.specs.Why.{why_reply, why_bytes}
@@ -51,8 +51,8 @@ check_answer w n = cond (soundb w n) (NoValue n) (refuse Unsound 0 n)
 
 -- a spelling: the refusal's number, 0 for none; the length, 0 where it is refused; the place; the used count
 unfoldable pub spelled_of : ℕ → Spelled → SpelledReply
-spelled_of n (Length k) = record { refusal = 0; length = k; place = 0; used = n }
-spelled_of n (Refused r) = record { refusal = reason_no r.reason; length = 0; place = r.place.0; used = r.used }
+spelled_of n (Ok k) = record { refusal = 0; length = k; place = 0; used = n }
+spelled_of n (Err r) = record { refusal = reason_no r.reason; length = 0; place = r.place.0; used = r.used }
 
 -- what it promises: the reply, and every byte of the output afterwards
 pub record SpelledOut (w : List ℕ) (n t : ℕ) (out : List ℕ) (r : SpelledReply) (after : List ℕ) : Type 0 where

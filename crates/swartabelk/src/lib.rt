@@ -15,8 +15,7 @@ ghost use Rattle.why.specs.Why.{unary_pieces, binary_pieces, call_pieces};
 ghost use Rattle.swartabelk.specs.Reply.{mark_bit, tell, reply_of, Replied, check_answer, spelled_of, SpelledOut, ToldOut, part_of};
 ghost use Rattle.swartabelk.specs.inner.Code.{Fits, SpelledFits};
 
-use spell::Spelled;
-use table::{Answer, Entry, Place, Reason, TypeNo, Typed};
+use table::{Answer, Entry, Place, Reason, Refusal, TypeNo, Typed};
 
 // The type of a reply that has no value, or is a refusal.
 pub const NO_VALUE: u32 = 0xFFFF_FFFF;
@@ -119,18 +118,18 @@ fn const_reply(a: Answer) -> Reply
 }
 
 // A spelling's reply in numbers, over a table of n entries.
-fn spelled_of(n: u32, s: Spelled) -> SpelledReply
+fn spelled_of(n: u32, s: Result<usize, Refusal>) -> SpelledReply
     requires { SpelledFits s }
     ensures { result ≡ spelled_of n s }
 {
     match s {
-        Spelled::Length(k) => SpelledReply {
+        Ok(k) => SpelledReply {
             refusal: 0,
             length: narrow(k),
             place: 0,
             used: n,
         },
-        Spelled::Refused(r) => {
+        Err(r) => {
             let reason = r.reason;
             let place = r.place;
             SpelledReply {

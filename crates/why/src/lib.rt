@@ -16,7 +16,6 @@ ghost use Rattle.why.specs.inner.Asks.{has_ruling, Tells, asked_pieces, Asks, Wr
 ghost use Rattle.why.specs.declared.Asked.TheVariants as asks;
 
 use names::RuleNo;
-use spell::Spelled;
 use table::{Answer, Place, Reason, Refusal};
 
 // The number of the refusal that is told about.
@@ -218,7 +217,7 @@ fn put_all(words: &[u32], n: usize, asked: Asked, args: &[u32], out: &mut [u8]) 
 }
 
 // The text, or 12, and then nothing is written: a first run into no bytes gives the length.
-fn put_fitting(words: &[u32], n: usize, asked: Asked, args: &[u32], out: &mut [u8]) -> Spelled
+fn put_fitting(words: &[u32], n: usize, asked: Asked, args: &[u32], out: &mut [u8]) -> Result<usize, Refusal>
     requires { Tells words.now n args.now asked }
     ensures written { Written n (together (asked_pieces words.now args.now asked)) out.old result out.new }
     ensures short { Short result }
@@ -226,17 +225,17 @@ fn put_fitting(words: &[u32], n: usize, asked: Asked, args: &[u32], out: &mut [u
     let none = 0;
     let len = put_all(words, n, asked, args, &mut out[..none]);
     if out.len() < len {
-        return Spelled::Refused(Refusal {
+        return Err(Refusal {
             reason: Reason::TooLong,
             place: Place(0),
             used: n,
         });
     }
-    Spelled::Length(put_all(words, n, asked, args, out))
+    Ok(put_all(words, n, asked, args, out))
 }
 
 // What there is to tell of a call, told.
-fn tell(words: &[u32], n: usize, asked: Asked, args: &[u32], out: &mut [u8]) -> Spelled
+fn tell(words: &[u32], n: usize, asked: Asked, args: &[u32], out: &mut [u8]) -> Result<usize, Refusal>
     requires { Tells words.now n args.now asked }
     ensures telling { Telling words.now n args.now asked out.old result out.new }
     ensures short { Short result }
@@ -244,12 +243,12 @@ fn tell(words: &[u32], n: usize, asked: Asked, args: &[u32], out: &mut [u8]) -> 
     match asked {
         Asked::Nothing => put_fitting(words, n, asked, args, out),
         Asked::Tell { rule, accepted } => put_fitting(words, n, asked, args, out),
-        Asked::Refused(r) => Spelled::Refused(r),
+        Asked::Refused(r) => Err(r),
     }
 }
 
 // For a host: why a unary operator is accepted or refused with 8, into `out`.
-pub fn why_unary(words: &[u32], n: usize, op: usize, a: u32, out: &mut [u8]) -> Spelled
+pub fn why_unary(words: &[u32], n: usize, op: usize, a: u32, out: &mut [u8]) -> Result<usize, Refusal>
     ensures why_done { WhyDone n (type_unary_op words.now n op a).answer (unary_pieces words.now n op a) out.old result out.new }
     ensures short { Short result }
 {
@@ -259,7 +258,7 @@ pub fn why_unary(words: &[u32], n: usize, op: usize, a: u32, out: &mut [u8]) -> 
 }
 
 // For a host: the same of a binary operator.
-pub fn why_binary(words: &[u32], n: usize, op: usize, a: u32, b: u32, out: &mut [u8]) -> Spelled
+pub fn why_binary(words: &[u32], n: usize, op: usize, a: u32, b: u32, out: &mut [u8]) -> Result<usize, Refusal>
     ensures why_done { WhyDone n (type_binary_op words.now n op a b).answer (binary_pieces words.now n op a b) out.old result out.new }
     ensures short { Short result }
 {
@@ -277,7 +276,7 @@ pub fn why_call(
     tplt: &[u32],
     args: &[u32],
     out: &mut [u8],
-) -> Spelled
+) -> Result<usize, Refusal>
     ensures why_done { WhyDone n (type_builtin_fn profile words.now n name.now tplt.now args.now).answer (call_pieces profile words.now n name.now tplt.now args.now) out.old result out.new }
     ensures short { Short result }
 {
