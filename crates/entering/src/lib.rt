@@ -1,14 +1,13 @@
 // Entering: a type that is absent from the table becomes its next entry.
 #![tactic(auto)]
 
-ghost use Rattle.std.specs.Prelude.{◌≡◌, ◌+◌, ◌*◌, ◌≤◌, length};
+ghost use Rattle.std.specs.Prelude.{◌≡◌, ◌+◌, ◌*◌, ◌≤◌, length, None};
 ghost use Rattle.table.specs.Table.{stride, scalars, ceiling, put_entry, find_in, Sound};
 ghost use Rattle.table.specs.Enter.{with_scalars, free, container, EnterDone, EnterTwoDone, entry_answer};
 ghost use Rattle.table.specs.Placing.{enter_type, Gave};
-ghost use Rattle.table.specs.declared.Found.TheVariants.{Nothing};
 
 use table::{
-    Answer, CEILING, Entered, Entry, Found, Place, Reason, SCALARS, STRIDE, TypeNo, accepted,
+    Answer, CEILING, Entered, Entry, Lacks, Place, Reason, SCALARS, STRIDE, TypeNo, accepted,
     allowed, find, refused, sound,
 };
 
@@ -58,22 +57,22 @@ fn free_of(words: &[u32], n: usize) -> usize
 }
 
 // The number of e, which is entered where it is absent.
-pub fn enter(words: &mut [u32], n: usize, e: Entry) -> Entered
+pub fn enter(words: &mut [u32], n: usize, e: Entry) -> Result<Entered, Lacks>
     requires { Sound words.old n }
     ensures { EnterDone words.old n e result words.new }
 {
-    let f = find(words, n, e);
-    match f {
-        Found::At(t) => Entered::There(t, n),
-        Found::Nothing => {
-            let room = free_of(words, n);
-            if room < 1 {
-                return Entered::Lacks((1 - room) as u32);
-            }
-            put_entry(words, n, e);
-            Entered::There(TypeNo(n), n + 1)
-        }
+    if let Some(ty) = find(words, n, e) {
+        return Ok(Entered { ty, used: n });
     }
+    let room = free_of(words, n);
+    if room < 1 {
+        return Err(Lacks((1 - room) as u32));
+    }
+    put_entry(words, n, e);
+    Ok(Entered {
+        ty: TypeNo(n),
+        used: n + 1,
+    })
 }
 
 // `outer` with the element t.
@@ -90,38 +89,40 @@ fn container_of(outer: Entry, t: usize) -> Entry
 }
 
 // The number of the container `outer` over `inner`, which is absent: both are entered, or neither where room lacks for one.
-fn enter_both(words: &mut [u32], n: usize, inner: Entry, outer: Entry) -> Entered
-    requires { Sound words.old n × (find_in words.old n inner ≡ Nothing) }
+fn enter_both(words: &mut [u32], n: usize, inner: Entry, outer: Entry) -> Result<Entered, Lacks>
+    requires { Sound words.old n × (find_in words.old n inner ≡ None) }
     ensures { EnterTwoDone words.old n inner outer result words.new }
 {
     let room = free_of(words, n);
     if room < 2 {
-        return Entered::Lacks((2 - room) as u32);
+        return Err(Lacks((2 - room) as u32));
     }
     put_entry(words, n, inner);
     put_entry(words, n + 1, container_of(outer, n));
-    Entered::There(TypeNo(n + 1), n + 2)
+    Ok(Entered {
+        ty: TypeNo(n + 1),
+        used: n + 2,
+    })
 }
 
 // The number of the container `outer` over `inner`: each is entered where it is absent, or neither where room lacks for one.
-pub fn enter_two(words: &mut [u32], n: usize, inner: Entry, outer: Entry) -> Entered
+pub fn enter_two(words: &mut [u32], n: usize, inner: Entry, outer: Entry) -> Result<Entered, Lacks>
     requires { Sound words.old n }
     ensures { EnterTwoDone words.old n inner outer result words.new }
 {
-    let f = find(words, n, inner);
-    match f {
-        Found::At(t) => enter(words, n, container_of(outer, t.0)),
-        Found::Nothing => enter_both(words, n, inner, outer),
+    match find(words, n, inner) {
+        Some(t) => enter(words, n, container_of(outer, t.0)),
+        None => enter_both(words, n, inner, outer),
     }
 }
 
 // The answer of a call at a place by the reply of entering.
-pub fn answer_of(place: Place, n: usize, r: Entered) -> Answer
+pub fn answer_of(place: Place, n: usize, r: Result<Entered, Lacks>) -> Answer
     ensures { result ≡ entry_answer place.0 r n }
 {
     match r {
-        Entered::There(t, m) => accepted(t, m),
-        Entered::Lacks(k) => refused(Reason::NoRoom(k), place, n),
+        Ok(e) => accepted(e.ty, e.used),
+        Err(e) => refused(Reason::NoRoom(e.0), place, n),
     }
 }
 

@@ -20,7 +20,9 @@ use Rattle.table.specs.Denote.{type_at}
 use Rattle.table.specs.Enter.{entry_answer, EnterDone}
 use Rattle.table.specs.Placing.{turned_down, entering}
 use Rattle.table.specs.declared.Entry.{Entry}
+use Rattle.std.specs.Prelude.{Result}
 use Rattle.table.specs.declared.Entered.{Entered}
+use Rattle.table.specs.declared.Lacks.{Lacks}
 use Rattle.table.proofs.TypeLaws.{made-exchange, type-scalar}
 use Rattle.table.proofs.FormedLaws.{clean, formed-at}
 use Rattle.table.proofs.EnterLaws.{ty-made, allow}
@@ -68,7 +70,7 @@ module _ (place : ℕ) (w : List ℕ) (n : ℕ) (s : Sound w n) where
     silent-some h = ap (silent_outcome place w n) (some-here w (operand_ty w a) vs scalar first-formed c is h)
 
     -- the result of a compare is entered
-    pub gives-exchange : c ≢ bool → (r : Entered) (v : List ℕ) → EnterDone w n (record { kind = kind_exchange; p = 0; q = 0; elem = c }) r v
+    pub gives-exchange : c ≢ bool → (r : Result Entered Lacks) (v : List ℕ) → EnterDone w n (record { kind = kind_exchange; p = 0; q = 0; elem = c }) r v
         → record { answer = entry_answer place r n; words = v } ≡ judged_outcome place w n (judged exchange)
     unfolding judged_outcome clean
     gives-exchange h r v d =

@@ -19,7 +19,9 @@ use Rattle.table.specs.Enter.{EnterDone, entry_answer}
 use Rattle.table.specs.Placing.{turned_down, entering}
 use Rattle.answer.specs.declared.Reason.TheVariants.{NoOverload}
 use Rattle.table.specs.declared.Entry.{Entry}
+use Rattle.std.specs.Prelude.{Result}
 use Rattle.table.specs.declared.Entered.{Entered}
+use Rattle.table.specs.declared.Lacks.{Lacks}
 use Rattle.table.proofs.TypeLaws.{type-ptr, type-ref, kind-above, made-ptr, made-ref, row_at}
 use Rattle.table.proofs.FormedLaws.{formed-at, clean}
 use Rattle.table.proofs.EnterLaws.{allow, ty-made}
@@ -77,7 +79,7 @@ module _ (place : ℕ) (w : List ℕ) (n : ℕ) (s : Sound w n) (t : ℕ) (l : t
     ptr-formed : e.p ≢ handle → formed (ptr e.p e.q (type_at w e.elem)) ≡ true
     ptr-formed h = pointer-formed e.p e.q (type_at w e.elem) (sym (ap formed ref-type) ∙ formed-at w n s t l) h
 
-    ref-enter : e.p ≢ handle → (r : Entered) (v : List ℕ) → EnterDone w n (under kind_ptr e) r v
+    ref-enter : e.p ≢ handle → (r : Result Entered Lacks) (v : List ℕ) → EnterDone w n (under kind_ptr e) r v
         → record { answer = entry_answer place r n; words = v } ≡ judged_outcome place w n (judge_address (type_at w t))
     unfolding judged_outcome clean
     ref-enter h r v d =
@@ -106,7 +108,7 @@ module _ (place : ℕ) (w : List ℕ) (n : ℕ) (s : Sound w n) (t : ℕ) (l : t
     ref-formed : formed (ref e.p e.q (type_at w e.elem)) ≡ true
     ref-formed = reference-formed e.p e.q (type_at w e.elem) (sym (ap formed ptr-type) ∙ formed-at w n s t l)
 
-    ptr-enter : (r : Entered) (v : List ℕ) → EnterDone w n (under kind_ref e) r v
+    ptr-enter : (r : Result Entered Lacks) (v : List ℕ) → EnterDone w n (under kind_ref e) r v
         → record { answer = entry_answer place r n; words = v } ≡ judged_outcome place w n (judge_indirection (type_at w t))
     unfolding judged_outcome clean
     ptr-enter r v d =
@@ -138,7 +140,7 @@ module _ (place : ℕ) (w : List ℕ) (n : ℕ) (s : Sound w n) (t : ℕ) (l : t
     turn-handle k h =
         ⊎_elim (λ q. ref-handle (k ∙ q.0) h ∙ ap (λ (j : ℕ). judged_outcome place w n (judge_from j (type_at w t))) (sym q.0)) (λ q. absurd (ptr-space (k ∙ q.0) h)) turns
 
-    pub turn-enter : e.kind ≡ from → e.p ≢ handle → (r : Entered) (v : List ℕ) → EnterDone w n (under to e) r v
+    pub turn-enter : e.kind ≡ from → e.p ≢ handle → (r : Result Entered Lacks) (v : List ℕ) → EnterDone w n (under to e) r v
         → record { answer = entry_answer place r n; words = v } ≡ judged_outcome place w n (judge_from from (type_at w t))
     unfolding judge_from
     turn-enter k h r v d =

@@ -19,8 +19,10 @@ use Rattle.answer.specs.declared.Place.{Place}
 use Rattle.table.specs.Placing.{turned_down, Outcome, Gave, entering, entry_of}
 use Rattle.answer.specs.declared.Answer.{Answer}
 use Rattle.table.specs.declared.Entry.{Entry}
+use Rattle.std.specs.Prelude.{Result}
 use Rattle.table.specs.declared.Entered.{Entered}
-use Rattle.table.specs.declared.Entered.TheVariants.{There}
+use Rattle.table.specs.declared.Lacks.{Lacks}
+use Rattle.table.specs.Enter.{there}
 use Rattle.table.proofs.TypeLaws.{type-scalar, made-frexp, made-modf}
 use Rattle.table.proofs.FormedLaws.{clean}
 use Rattle.table.proofs.EnterLaws.{allow, allow-vec, allow-mat, ty-made}
@@ -61,7 +63,7 @@ module _ (place : ℕ) (w : List ℕ) (n : ℕ) (s : Sound w n) (x : ℕ) where
     unfolding made
     vec-type = ty-made w (vec_entry x) (omega arith) ∙ sym (operand-vec x low high)
 
-  plain-big : 28 ≤ x → x < 91 → formed (operand x) ≡ true → (r : Entered) (v : List ℕ) → EnterDone w n (mat_entry x) r v
+  plain-big : 28 ≤ x → x < 91 → formed (operand x) ≡ true → (r : Result Entered Lacks) (v : List ℕ) → EnterDone w n (mat_entry x) r v
       → record { answer = entry_answer place r n; words = v } ≡ entering place w n (operand x)
   unfolding made formed
   plain-big l h f r v d =
@@ -74,13 +76,13 @@ module _ (place : ℕ) (w : List ℕ) (n : ℕ) (s : Sound w n) (x : ℕ) where
       ∙ ap (entering place w n) (ty-made w (mat_entry x) (omega arith) ∙ sym e)
 
   -- A SCALAR, A VECTOR OR A MATRIX
-  pub plain-outcome : formed (operand x) ≡ true → T (not (is_runtime (operand x))) → (r : Entered) (v : List ℕ) → PlainDone w n x r v
+  pub plain-outcome : formed (operand x) ≡ true → T (not (is_runtime (operand x))) → (r : Result Entered Lacks) (v : List ℕ) → PlainDone w n x r v
       → record { answer = entry_answer place r n; words = v } ≡ entering place w n (operand x)
   plain-outcome f k r v d =
       split (ltb x 7)
       (λ b.
       let l = ltb-true x 7 b in
-      let a : r ≡ There (record { 0 = x }) n = d.reply ∙ rw b in
+      let a : r ≡ there (record { 0 = x }) n = d.reply ∙ rw b in
       let c : v ≡ w = d.words ∙ rw b in
       (λ i. record { answer = entry_answer place (a i) n; words = c i })
       ∙ sym (standing-outcome place w n s x (operand x) (omega (arith, s.low)) (type-scalar w x l ∙ sym (operand-scalar x l))))
@@ -106,7 +108,7 @@ module _ (place : ℕ) (w : List ℕ) (n : ℕ) (s : Sound w n) (x : ℕ) where
       (clear : (k : ℕ) → clean (result_entry kind k) ≡ true) (holds : holder (result_entry kind 0) ≡ true)
       (words : (t : Ty) (k : ℕ) → entry_of (made (result_entry kind 0) t) k ≡ container (result_entry kind 0) k)
       (fract : (t : Ty) → formed (R t) ≡ true → is_fract t ≡ true) where
-    pub result-outcome : formed (R (operand x)) ≡ true → (r : Entered) (v : List ℕ) → ResultDone w n kind x r v
+    pub result-outcome : formed (R (operand x)) ≡ true → (r : Result Entered Lacks) (v : List ℕ) → ResultDone w n kind x r v
         → record { answer = entry_answer place r n; words = v } ≡ entering place w n (R (operand x))
     result-outcome f r v d =
         split (ltb x 7)
@@ -131,13 +133,13 @@ module _ (place : ℕ) (w : List ℕ) (n : ℕ) (s : Sound w n) (x : ℕ) where
 -- the two of them
 
 module _ (place : ℕ) (w : List ℕ) (n : ℕ) (s : Sound w n) (x : ℕ) where
-  pub frexp-outcome : formed (frexp (operand x)) ≡ true → (r : Entered) (v : List ℕ) → ResultDone w n kind_frexp x r v
+  pub frexp-outcome : formed (frexp (operand x)) ≡ true → (r : Result Entered Lacks) (v : List ℕ) → ResultDone w n kind_frexp x r v
       → record { answer = entry_answer place r n; words = v } ≡ entering place w n (frexp (operand x))
   unfolding clean holder made kind_of p_of q_of formed
   frexp-outcome =
       result-outcome place w n s x kind_frexp frexp (omega arith) (λ e t k. made-frexp e t k) (λ k. refl) refl (λ t k. refl) (λ t f. and_left (is_fract t) _ f)
 
-  pub modf-outcome : formed (modf (operand x)) ≡ true → (r : Entered) (v : List ℕ) → ResultDone w n kind_modf x r v
+  pub modf-outcome : formed (modf (operand x)) ≡ true → (r : Result Entered Lacks) (v : List ℕ) → ResultDone w n kind_modf x r v
       → record { answer = entry_answer place r n; words = v } ≡ entering place w n (modf (operand x))
   unfolding clean holder made kind_of p_of q_of formed
   modf-outcome =
@@ -146,10 +148,10 @@ module _ (place : ℕ) (w : List ℕ) (n : ℕ) (s : Sound w n) (x : ℕ) where
 -- THE WAYS of entering by a number
 
 module _ (w : List ℕ) (n x : ℕ) where
-  pub plain-scalar : x < 7 → PlainDone w n x (There (record { 0 = x }) n) w
+  pub plain-scalar : x < 7 → PlainDone w n x (there (record { 0 = x }) n) w
   plain-scalar l = record { reply = rw (lt-ltb x 7 l); words = rw (lt-ltb x 7 l) }
 
-  module _ (e : Entry) (r : Entered) (v : List ℕ) where
+  module _ (e : Entry) (r : Result Entered Lacks) (v : List ℕ) where
     pub plain-vec : 7 ≤ x → x < 28 → e ≡ vec_entry x → EnterDone w n e r v → PlainDone w n x r v
     plain-vec l h q d =
         record {

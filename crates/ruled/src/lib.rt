@@ -17,7 +17,7 @@ ghost use Rattle.ruled.specs.inner.Result.{ResultDone, PlainDone};
 
 use conv::{PLAINS, SCALARS};
 use overload::{Out, Resolution};
-use table::{Answer, Entered, Entry, Place, Reason, TypeNo};
+use table::{Answer, Entered, Entry, Lacks, Place, Reason, TypeNo};
 
 // The number of a reference, and of any other type that is neither scalar nor vector nor matrix.
 pub const REFERENCE: u8 = 98;
@@ -83,7 +83,7 @@ fn mat_entry(x: u8) -> Entry
 }
 
 // The result type of frexp or of modf, by its kind, over the type of that number.
-fn enter_result(words: &mut [u32], n: usize, kind: u32, x: u8) -> Entered
+fn enter_result(words: &mut [u32], n: usize, kind: u32, x: u8) -> Result<Entered, Lacks>
     requires { Sound words.old n }
     ensures { ResultDone words.old n kind x result words.new }
 {
@@ -113,12 +113,15 @@ fn enter_result(words: &mut [u32], n: usize, kind: u32, x: u8) -> Entered
 }
 
 // The type of that number.
-fn enter_plain(words: &mut [u32], n: usize, x: u8) -> Entered
+fn enter_plain(words: &mut [u32], n: usize, x: u8) -> Result<Entered, Lacks>
     requires { Sound words.old n }
     ensures { PlainDone words.old n x result words.new }
 {
     if x < SCALARS {
-        return Entered::There(TypeNo(x as usize), n);
+        return Ok(Entered {
+            ty: TypeNo(x as usize),
+            used: n,
+        });
     }
     if x < PLAINS {
         return entering::enter(words, n, vec_entry(x));

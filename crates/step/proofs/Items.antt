@@ -15,7 +15,9 @@ use Rattle.table.specs.Enter.{EnterDone, entry_answer}
 use Rattle.table.specs.Placing.{Outcome, Gave, GaveMarked, entering}
 use Rattle.table.specs.Kept.{Kept}
 use Rattle.table.specs.declared.Entry.{Entry}
+use Rattle.std.specs.Prelude.{Result}
 use Rattle.table.specs.declared.Entered.{Entered}
+use Rattle.table.specs.declared.Lacks.{Lacks}
 use Rattle.answer.specs.declared.Place.{Place}
 use Rattle.answer.specs.declared.Reason.TheVariants.{Stack}
 use Rattle.answer.specs.declared.Answer.{Answer}
@@ -136,7 +138,7 @@ module _ (place : Place) (count : ℕ) (vals : List ℕ) (used : ℕ) (w : List 
               ∙ bare-words place.0 w used (types w tplt) sound profile name)
 
   -- TAKE
-  module _ (e : Entry) (ok : allowedb w used e ≡ true) (h : count < most) (x : Entered) (v : List ℕ) (d : EnterDone w used e x v)
+  module _ (e : Entry) (ok : allowedb w used e ≡ true) (h : count < most) (x : Result Entered Lacks) (v : List ℕ) (d : EnterDone w used e x v)
       {a : Answer} (q : a ≡ entry_answer place.0 x used) where
     taken : Gave (entering place.0 w used (ty_of w e)) a v
     taken = gave-from q (enter-outcome place.0 w used sound e ok x v d) refl

@@ -19,8 +19,9 @@ use Rattle.table.specs.Table.{soundb, allowedb}
 use Rattle.table.specs.Enter.{free, entered, entry_answer, enter_type_reply}
 use Rattle.table.specs.Placing.{Outcome, placed, entering, enter_type}
 use Rattle.table.specs.declared.Entry.{Entry}
+use Rattle.std.specs.Prelude.{Result, Ok, Err}
 use Rattle.table.specs.declared.Entered.{Entered}
-use Rattle.table.specs.declared.Entered.TheVariants.{There, Lacks}
+use Rattle.table.specs.declared.Lacks.{Lacks}
 use Rattle.answer.specs.declared.Answer.{Answer}
 use Rattle.answer.specs.declared.Answer.TheVariants.{Value, NoValue, Refused}
 use Rattle.ruled.specs.Call.{operand_ty, any_reference, judged_outcome, silent_outcome, offends, ruled_outcome}
@@ -91,9 +92,9 @@ module _ (place : ℕ) (w : List ℕ) (n : ℕ) where
 
 -- a single call is at place 0
 module _ (w : List ℕ) (n : ℕ) where
-  entry-at : (r : Entered) → At 0 n (entry_answer 0 r n)
-  entry-at (There t m) = tt
-  entry-at (Lacks k) = (refl, refl)
+  entry-at : (r : Result Entered Lacks) → At 0 n (entry_answer 0 r n)
+  entry-at (Ok e) = tt
+  entry-at (Err e) = (refl, refl)
 
   pub enter-type-at : (e : Entry) → At 0 n (enter_type w n e).answer
   unfolding enter_type_reply

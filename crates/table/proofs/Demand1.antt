@@ -25,8 +25,7 @@ use Rattle.answer.specs.declared.TypeNo.{TypeNo}
 use Rattle.answer.specs.declared.Refusal.{Refusal}
 use Rattle.answer.specs.declared.Reason.TheVariants.{NoRoom}
 use Rattle.answer.specs.declared.Answer.TheVariants.{Value, NoValue, Refused}
-use Rattle.table.specs.declared.Found.{Found}
-use Rattle.table.specs.declared.Found.TheVariants.{At, Nothing}
+use Rattle.std.specs.Prelude.{Option, Some, None}
 use Rattle.table.proofs.SoundLaws.{and_right}
 use Rattle.table.proofs.KindLaws.{split, clash, is_scalar, float-scalar, int-scalar}
 use Rattle.table.proofs.TypeLaws.{type-scalar, scalar-number}
@@ -86,30 +85,30 @@ element-formed (exchange s) f = lt-ltb s scalars (int-scalar s f)
 -- WHETHER A TYPE STANDS
 
 module _ (w : List ℕ) (R : Ty) where
-  in_step : (n : ℕ) → stands_in w (suc n) R ≡ or_else (stands_in w n R) (cond (same_ty (type_at w n) R) (At (record { 0 = n })) Nothing)
+  in_step : (n : ℕ) → stands_in w (suc n) R ≡ or_else (stands_in w n R) (cond (same_ty (type_at w n) R) (Some (record { 0 = n })) None)
   unfolding stands_in
   in_step n = refl
 
-  in-zero : stands_in w zero R ≡ Nothing
+  in-zero : stands_in w zero R ≡ None
   unfolding stands_in
   in-zero = refl
 
-  pub stands-found : (n : ℕ) (t : TypeNo) → stands_in w n R ≡ At t → (t.0 < n) × (type_at w t.0 ≡ R)
+  pub stands-found : (n : ℕ) (t : TypeNo) → stands_in w n R ≡ Some t → (t.0 < n) × (type_at w t.0 ≡ R)
   stands-found zero t h = absurd (let q = sym in-zero ∙ h in let z : ◌≡◌ {A = ℕ} 0 1 = cc in omega arith)
   stands-found (suc n) t h = go (stands-found n t) (stands_in w n R) refl (same_ty (type_at w n) R) refl
     where
-      go : (stands_in w n R ≡ At t → (t.0 < n) × (type_at w t.0 ≡ R)) → (r : Found) → stands_in w n R ≡ r
+      go : (stands_in w n R ≡ Some t → (t.0 < n) × (type_at w t.0 ≡ R)) → (r : Option TypeNo) → stands_in w n R ≡ r
           → (b : Bool) → same_ty (type_at w n) R ≡ b → (t.0 < suc n) × (type_at w t.0 ≡ R)
-      go ih (At u) q b e =
-          let tu : At u ≡ At t = rw q at (sym (in_step n) ∙ h) in
+      go ih (Some u) q b e =
+          let tu : Some u ≡ Some t = rw q at (sym (in_step n) ∙ h) in
           let x = ih (q ∙ tu) in
           let l = x.0 in
           (omega arith, x.1)
-      go ih Nothing q true e =
-          let tu : At (record { 0 = n }) ≡ At t = rw (q, e) at (sym (in_step n) ∙ h) in
+      go ih None q true e =
+          let tu : Some (record { 0 = n }) ≡ Some t = rw (q, e) at (sym (in_step n) ∙ h) in
           let tn : n ≡ t.0 = cc in
           (omega arith, ap (type_at w) (sym tn) ∙ same-ty (type_at w n) R (rw e tt))
-      go ih Nothing q false e = absurd (let tu : Nothing ≡ At t = rw (q, e) at (sym (in_step n) ∙ h) in let z : ◌≡◌ {A = ℕ} 0 1 = cc in omega arith)
+      go ih None q false e = absurd (let tu : None ≡ Some t = rw (q, e) at (sym (in_step n) ∙ h) in let z : ◌≡◌ {A = ℕ} 0 1 = cc in omega arith)
 
 -- PLACING A TYPE
 
@@ -130,7 +129,7 @@ module _ (w : List ℕ) (n : ℕ) (s : Sound w n) where
   -- over an element that came to stand, R itself
   module _ (R : Ty) (above : is_scalar R ≡ false) (f : formed R ≡ true) where
     -- R stands already
-    found-grows : (t : TypeNo) → stands_in w n R ≡ At t → Grows w n R
+    found-grows : (t : TypeNo) → stands_in w n R ≡ Some t → Grows w n R
     found-grows t h room =
         let x = stands-found w R n t h in
         rw (placed-over w n R above ∙ over-found w n R _ t h)
@@ -150,10 +149,10 @@ module _ (w : List ℕ) (n : ℕ) (s : Sound w n) where
       ok : allowedb v m e ≡ true
       ok = allow v m g.stands.sound e (entry-clean R k above) g.stands.below (ap formed made_so ∙ f)
 
-      none : stands_in w n R ≡ Nothing → find_in v m e ≡ Nothing
+      none : stands_in w n R ≡ None → find_in v m e ≡ None
       none h = go g.newest
         where
-          go : ((m ≡ n) × (v ≡ w)) ⊎ ((n ≤ k) × (k + 1 ≡ m)) → find_in v m e ≡ Nothing
+          go : ((m ≡ n) × (v ≡ w)) ⊎ ((n ≤ k) × (k + 1 ≡ m)) → find_in v m e ≡ None
           go (inl x) =
               absent_none v m g.stands.sound e ok
               (λ i l q.
@@ -162,7 +161,7 @@ module _ (w : List ℕ) (n : ℕ) (s : Sound w n) where
               absurd (let z : ◌≡◌ {A = ℕ} 0 1 = cc in omega arith))
           go (inr x) = let a = x.0 in let b = x.1 in outer-absent v m g.stands.sound k (omega (arith, s.low)) (omega arith) e
 
-      next_grows : stands_in w n R ≡ Nothing → m + 1 - n ≤ free w n → Grown w n R (stands_at m (m + 1) (put_entry v m e))
+      next_grows : stands_in w n R ≡ None → m + 1 - n ≤ free w n → Grown w n R (stands_at m (m + 1) (put_entry v m e))
       next_grows h room =
           let up = g.stands.grows in
           let z : n + (m + 1 - n) ≡ m + 1 = omega arith in
@@ -174,9 +173,9 @@ module _ (w : List ℕ) (n : ℕ) (s : Sound w n) where
     over-grows : Grows w n (element_of R) → Grows w n R
     over-grows inner room = go (stands_in w n R) refl
       where
-        go : (r : Found) → stands_in w n R ≡ r → Grown w n R (placed w n R)
-        go (At t) h = found-grows t h room
-        go Nothing h =
+        go : (r : Option TypeNo) → stands_in w n R ≡ r → Grown w n R (placed w n R)
+        go (Some t) h = found-grows t h room
+        go None h =
             let a = placed w n (element_of R) in
             let q = placed-over w n R above ∙ over-next w n R a h in
             let room2 : a.used + 1 - n ≤ free w n = rw q at room in

@@ -14,12 +14,24 @@ use Rattle.answer.specs.Answer.{refuse}
 use Rattle.answer.specs.declared.Reason.TheVariants.{Unsound, Template}
 use Rattle.table.specs.declared.Entry.{Entry}
 use Rattle.answer.specs.declared.TypeNo.{TypeNo}
-use Rattle.table.specs.declared.Found.TheVariants.{At, Nothing}
+use Rattle.std.specs.Prelude.{Some, None, Result}
 use Rattle.table.specs.declared.Entered.{Entered}
-use Rattle.table.specs.declared.Entered.TheVariants.{There, Lacks}
+use Rattle.table.specs.declared.Lacks.{Lacks}
+use Rattle.table.specs.Enter.{there, lacks}
 use Rattle.table.proofs.TableLaws.{elem_of}
 use Rattle.table.proofs.SoundLaws.{and_left, and_right, find-miss}
 use Rattle.table.proofs.Giving.{gave}
+
+-- equal replies of entering say the same
+pub there_same : {t u : TypeNo} {m k : ℕ} → there t m ≡ there u k → (t ≡ u) × (m ≡ k)
+there_same {t} {u} {m} {k} h =
+    let e : ◌≡◌ {A = Entered} (record { ty = t; used = m }) (record { ty = u; used = k }) = cc in
+    (ap (λ (x : Entered). x.ty) e, ap (λ (x : Entered). x.used) e)
+
+pub lacks_same : {k j : ℕ} → lacks k ≡ lacks j → k ≡ j
+lacks_same {k} {j} h =
+    let e : ◌≡◌ {A = Lacks} (record { 0 = k }) (record { 0 = j }) = cc in
+    ap (λ (x : Lacks). x.0) e
 
 -- room for k entries more is room under the ceiling and in the slice
 pub free-room : (w : List ℕ) (n k : ℕ) → 1 ≤ k → k ≤ free w n → (n + k ≤ ceiling) × ((n + k) * stride ≤ length w)
@@ -31,31 +43,31 @@ free-room w n k one h = go (leb ceiling (length w / stride)) refl h
     go false t h = let l : length w / stride < ceiling = leb-false _ _ t in (omega arith, omega arith)
 
 module _ (w : List ℕ) (n : ℕ) (e : Entry) where
-  pub missing_at : (t : TypeNo) → find_in w n e ≡ At t → missing w n e ≡ 0
+  pub missing_at : (t : TypeNo) → find_in w n e ≡ Some t → missing w n e ≡ 0
   unfolding missing
   missing_at t h = rw h
 
-  pub missing-none : find_in w n e ≡ Nothing → missing w n e ≡ 1
+  pub missing-none : find_in w n e ≡ None → missing w n e ≡ 1
   unfolding missing
   missing-none h = rw h
 
   -- the three ways of entering one entry
-  pub enter-found : (t : TypeNo) → find_in w n e ≡ At t → EnterDone w n e (There t n) w
+  pub enter-found : (t : TypeNo) → find_in w n e ≡ Some t → EnterDone w n e (there t n) w
   unfolding entered enter_words
   enter-found t h =
       let m = missing_at t h in
       let z : n ≡ n + 0 = omega arith in
       let k = le-leb 0 (free w n) (omega arith) in
-      record { reply = rw (m, k, h) (ap (There t) z); words = rw (m, k, h) }
+      record { reply = rw (m, k, h) (ap (there t) z); words = rw (m, k, h) }
 
-  pub enter-full : find_in w n e ≡ Nothing → free w n < 1 → EnterDone w n e (Lacks (1 - free w n)) w
+  pub enter-full : find_in w n e ≡ None → free w n < 1 → EnterDone w n e (lacks (1 - free w n)) w
   unfolding entered enter_words
   enter-full h f =
       let m = missing-none h in
       let k = lt-leb 1 (free w n) f in
       record { reply = rw (m, k); words = rw (m, k) }
 
-  pub enter-new : find_in w n e ≡ Nothing → 1 ≤ free w n → EnterDone w n e (There (record { 0 = n }) (n + 1)) (put_entry w n e)
+  pub enter-new : find_in w n e ≡ None → 1 ≤ free w n → EnterDone w n e (there (record { 0 = n }) (n + 1)) (put_entry w n e)
   unfolding entered enter_words
   enter-new h f =
       let m = missing-none h in
@@ -77,7 +89,7 @@ elem_below w n s i l k low up = go (ltb i scalars) refl (s.rows i l)
         omega arith
 
 -- the next number has no container: an absent element means an absent container
-pub outer-absent : (w : List ℕ) (n : ℕ) → Sound w n → (k : ℕ) → scalars ≤ k → n ≤ k + 1 → (outer : Entry) → find_in w n (container outer k) ≡ Nothing
+pub outer-absent : (w : List ℕ) (n : ℕ) → Sound w n → (k : ℕ) → scalars ≤ k → n ≤ k + 1 → (outer : Entry) → find_in w n (container outer k) ≡ None
 outer-absent w n s k low up outer =
     find-miss w (container outer k) n
     (λ i l q.
@@ -87,7 +99,7 @@ outer-absent w n s k low up outer =
 
 module _ (w : List ℕ) (n : ℕ) (inner outer : Entry) where
   -- an element that stands already: its container is entered alone
-  pub two-found : (t : TypeNo) → find_in w n inner ≡ At t → (r : Entered) (v : List ℕ) → EnterDone w n (container outer t.0) r v → EnterTwoDone w n inner outer r v
+  pub two-found : (t : TypeNo) → find_in w n inner ≡ Some t → (r : Result Entered Lacks) (v : List ℕ) → EnterDone w n (container outer t.0) r v → EnterTwoDone w n inner outer r v
   unfolding entered_two enter_two_words missing_two outer_over entered enter_words
   two-found t h r v d =
       let m = missing_at w n inner t h in
@@ -96,7 +108,7 @@ module _ (w : List ℕ) (n : ℕ) (inner outer : Entry) where
       let y : n + 0 ≡ n = omega arith in
       record { reply = rw (m, h, z, y) d.reply; words = rw (m, h, z, y) d.words }
 
-  module _ (s : Sound w n) (h : find_in w n inner ≡ Nothing) where
+  module _ (s : Sound w n) (h : find_in w n inner ≡ None) where
     over-next : outer_over w n inner outer ≡ container outer n
     unfolding outer_over
     over-next = rw h
@@ -105,14 +117,14 @@ module _ (w : List ℕ) (n : ℕ) (inner outer : Entry) where
     unfolding missing_two
     missing-both = rw (over-next, missing-none w n inner h, missing-none w n (container outer n) (outer-absent w n s n s.low (omega arith) outer))
 
-    pub two-full : free w n < 2 → EnterTwoDone w n inner outer (Lacks (2 - free w n)) w
+    pub two-full : free w n < 2 → EnterTwoDone w n inner outer (lacks (2 - free w n)) w
     unfolding entered_two enter_two_words
     two-full f =
         let k = lt-leb 2 (free w n) f in
         record { reply = rw (missing-both, k); words = rw (missing-both, k) }
 
     pub two-new : 2 ≤ free w n →
-        EnterTwoDone w n inner outer (There (record { 0 = n + 1 }) (n + 2)) (put_entry (put_entry w n inner) (n + 1) (container outer n))
+        EnterTwoDone w n inner outer (there (record { 0 = n + 1 }) (n + 2)) (put_entry (put_entry w n inner) (n + 1) (container outer n))
     unfolding entered_two enter_two_words
     two-new f =
         let k = le-leb 2 (free w n) f in
@@ -131,6 +143,6 @@ module _ (w : List ℕ) (n : ℕ) (e : Entry) where
     unfolding enter_type_reply enter_type_words
     host-forbidden k = gave (rw (h, k)) (rw (h, k))
 
-    pub host-entered : allowedb w n e ≡ true → (r : Entered) (v : List ℕ) → EnterDone w n e r v → Gave (enter_type w n e) (entry_answer 0 r n) v
+    pub host-entered : allowedb w n e ≡ true → (r : Result Entered Lacks) (v : List ℕ) → EnterDone w n e r v → Gave (enter_type w n e) (entry_answer 0 r n) v
     unfolding enter_type_reply enter_type_words
     host-entered k r v d = gave (rw (h, k, ← d.reply)) (rw (h, k) d.words)

@@ -19,15 +19,14 @@ use Rattle.conv.specs.Rank.{element_of}
 use Rattle.table.specs.Stands.Part.{whole, inside}
 use Rattle.table.specs.declared.Entry.{Entry}
 use Rattle.answer.specs.declared.TypeNo.{TypeNo}
-use Rattle.table.specs.declared.Found.{Found}
-use Rattle.table.specs.declared.Found.TheVariants.{At, Nothing}
-use Rattle.table.specs.declared.Entered.TheVariants.{There, Lacks}
+use Rattle.std.specs.Prelude.{Option, Some, None}
+use Rattle.table.specs.Enter.{there, lacks}
 use Rattle.table.proofs.TableLaws.{elem_of}
 use Rattle.table.proofs.SoundLaws.{and_left, and_right, find_at, find-unique, put-length, put_keeps, put-entry, put-sound}
 use Rattle.table.proofs.KindLaws.{split, is_scalar}
 use Rattle.table.proofs.TypeLaws.{Words, same_key, row_words, type-scalar, type-keeps, scalar-key, type-made, type-words, type-above, scalar-number, type-injective}
 use Rattle.table.proofs.FormedLaws.{clean, clean-above, allowed-formed, allowed-row}
-use Rattle.table.proofs.EnterCases.{free-room, missing_at, missing-none, enter-found, enter-full, enter-new, elem_below}
+use Rattle.table.proofs.EnterCases.{there_same, lacks_same, free-room, missing_at, missing-none, enter-found, enter-full, enter-new, elem_below}
 
 -- the type of an entry depends on its key alone
 pub ty-key : (w : List ℕ) (a b : Entry) → entry_key a ≡ entry_key b → ty_of w a ≡ ty_of w b
@@ -60,23 +59,23 @@ put-beyond w i e k l =
     simp get_or-set_other
 
 -- room is lacking exactly when fewer entries are free than are missing, and then no word changes
-pub enter-lacks : (w : List ℕ) (n : ℕ) (e : Entry) (k : ℕ) → entered w n e ≡ Lacks k → (free w n < missing w n e) × (k ≡ lacking w n (missing w n e)) × (enter_words w n e ≡ w)
+pub enter-lacks : (w : List ℕ) (n : ℕ) (e : Entry) (k : ℕ) → entered w n e ≡ lacks k → (free w n < missing w n e) × (k ≡ lacking w n (missing w n e)) × (enter_words w n e ≡ w)
 unfolding entered enter_words
 enter-lacks w n e k h =
     split (leb (missing w n e) (free w n))
     (λ b. absurd (let q = rw b at h in let z : ◌≡◌ {A = ℕ} 0 1 = cc in omega arith))
-    (λ b. (leb-false _ _ b, (let q = rw b at h in cc), rw b))
+    (λ b. (leb-false _ _ b, (let q = rw b at h in lacks_same (sym q)), rw b))
 
-pub lacks-enter : (w : List ℕ) (n : ℕ) (e : Entry) → free w n < missing w n e → entered w n e ≡ Lacks (lacking w n (missing w n e))
+pub lacks-enter : (w : List ℕ) (n : ℕ) (e : Entry) → free w n < missing w n e → entered w n e ≡ lacks (lacking w n (missing w n e))
 unfolding entered
 lacks-enter w n e h = rw (lt-leb _ _ h)
 
 -- only what is missing is added
-pub enter-count : (w : List ℕ) (n : ℕ) (e : Entry) (t : TypeNo) (m : ℕ) → entered w n e ≡ There t m → m ≡ n + missing w n e
+pub enter-count : (w : List ℕ) (n : ℕ) (e : Entry) (t : TypeNo) (m : ℕ) → entered w n e ≡ there t m → m ≡ n + missing w n e
 unfolding entered
 enter-count w n e t m h =
     split (leb (missing w n e) (free w n))
-    (λ b. let q = rw b at h in cc)
+    (λ b. let q = rw b at h in (there_same (sym q)).1)
     (λ b. absurd (let q = rw b at h in let z : ◌≡◌ {A = ℕ} 0 1 = cc in omega arith))
 
 -- an entry of the table stands for the type of its number
@@ -158,23 +157,23 @@ module _ (w : List ℕ) (n : ℕ) (s : Sound w n) where
         (type-injective w n s (elem_of w i) e.elem r (allowed-row w n s e k ok).0 (sym x.elem ∙ ap element_of q ∙ y.elem)))
 
     -- finding an entry is finding its type
-    pub found_at : (i : ℕ) → i < n → type_at w i ≡ ty_of w e → find_in w n e ≡ At (record { 0 = i })
+    pub found_at : (i : ℕ) → i < n → type_at w i ≡ ty_of w e → find_in w n e ≡ Some (record { 0 = i })
     found_at i l h = find-unique w n s i e l (key-of-type i l h)
 
-    pub at-type : (t : TypeNo) → find_in w n e ≡ At t → (t.0 < n) × (type_at w t.0 ≡ ty_of w e)
+    pub at-type : (t : TypeNo) → find_in w n e ≡ Some t → (t.0 < n) × (type_at w t.0 ≡ ty_of w e)
     at-type t h =
         let a = find_at w e n t h in
         (a.0, sym (ty_at w n s t.0 a.0) ∙ ty-key w _ _ a.1)
 
-    pub none-absent : find_in w n e ≡ Nothing → Absent w n (ty_of w e)
+    pub none-absent : find_in w n e ≡ None → Absent w n (ty_of w e)
     none-absent h i l q = let f = found_at i l q in let z : ◌≡◌ {A = ℕ} 0 1 = cc in omega arith
 
-    pub absent_none : Absent w n (ty_of w e) → find_in w n e ≡ Nothing
+    pub absent_none : Absent w n (ty_of w e) → find_in w n e ≡ None
     absent_none a = go (find_in w n e) refl
       where
-        go : (r : Found) → find_in w n e ≡ r → find_in w n e ≡ Nothing
-        go (At t) k = let d = at-type t k in absurd (a t.0 d.0 d.1)
-        go Nothing k = k
+        go : (r : Option TypeNo) → find_in w n e ≡ r → find_in w n e ≡ None
+        go (Some t) k = let d = at-type t k in absurd (a t.0 d.0 d.1)
+        go None k = k
 
     pub missing-absent : Absent w n (ty_of w e) → missing w n e ≡ 1
     missing-absent a = missing-none w n e (absent_none a)
@@ -192,7 +191,7 @@ module _ (w : List ℕ) (n : ℕ) (s : Sound w n) where
         ty-made v e h ∙ ap (made e) (type-keeps w v n k e.elem (allowed-row w n s e h ok).0) ∙ sym (ty-made w e h))
 
     -- an absent entry is no scalar, and is as its row says
-    next-ok : find_in w n e ≡ Nothing → entry_ok w n e ≡ true
+    next-ok : find_in w n e ≡ None → entry_ok w n e ≡ true
     unfolding entry_ok
     next-ok f =
         split (ltb e.kind scalars)
@@ -201,10 +200,10 @@ module _ (w : List ℕ) (n : ℕ) (s : Sound w n) where
         absurd (none-absent f e.kind (omega (arith, s.low)) (type-scalar w e.kind k ∙ sym (ty-scalar w e k))))
         (λ b. rw (le-ltb n scalars s.low) (allowed-row w n s e (ltb-false _ _ b) ok).1)
 
-    found-stands : (t : TypeNo) → find_in w n e ≡ At t → Stands w n (ty_of w e) t.0 n w
+    found-stands : (t : TypeNo) → find_in w n e ≡ Some t → Stands w n (ty_of w e) t.0 n w
     found-stands t h = let a = at-type t h in rw (← a.1) (stands_here w n s t.0 a.0)
 
-    pub new-stands : find_in w n e ≡ Nothing → n + 1 ≤ ceiling → (n + 1) * stride ≤ length w → Stands w n (ty_of w e) n (n + 1) (put_entry w n e)
+    pub new-stands : find_in w n e ≡ None → n + 1 ≤ ceiling → (n + 1) * stride ≤ length w → Stands w n (ty_of w e) n (n + 1) (put_entry w n e)
     new-stands f high room =
         let v = put_entry w n e in
         let keeps = put_keeps w n e in
@@ -222,22 +221,22 @@ module _ (w : List ℕ) (n : ℕ) (s : Sound w n) where
         }
 
     -- an accepted entering
-    pub one-stands : (t : TypeNo) (m : ℕ) → entered w n e ≡ There t m → Stands w n (ty_of w e) t.0 m (enter_words w n e)
+    pub one-stands : (t : TypeNo) (m : ℕ) → entered w n e ≡ there t m → Stands w n (ty_of w e) t.0 m (enter_words w n e)
     one-stands t m q = go (find_in w n e) refl
       where
-        go : (r : Found) → find_in w n e ≡ r → Stands w n (ty_of w e) t.0 m (enter_words w n e)
-        go (At u) f =
+        go : (r : Option TypeNo) → find_in w n e ≡ r → Stands w n (ty_of w e) t.0 m (enter_words w n e)
+        go (Some u) f =
             let d = enter-found w n e u f in
-            let tu : t ≡ u = cc in
-            let mn : m ≡ n = cc in
+            let tu : t ≡ u = (there_same (sym q ∙ sym d.reply)).0 in
+            let mn : m ≡ n = (there_same (sym q ∙ sym d.reply)).1 in
             rw (tu, mn, ← d.words) (found-stands u f)
-        go Nothing f =
+        go None f =
             split (leb 1 (free w n))
             (λ b.
             let l : 1 ≤ free w n = leb-true _ _ b in
             let d = enter-new w n e f l in
-            let tu : t ≡ record { 0 = n } = cc in
-            let mn : m ≡ n + 1 = cc in
+            let tu : t ≡ record { 0 = n } = (there_same (sym q ∙ sym d.reply)).0 in
+            let mn : m ≡ n + 1 = (there_same (sym q ∙ sym d.reply)).1 in
             let r = free-room w n 1 (omega arith) l in
             rw (tu, mn, ← d.words) (new-stands f r.0 r.1))
             (λ b.
@@ -245,20 +244,20 @@ module _ (w : List ℕ) (n : ℕ) (s : Sound w n) where
             absurd (let z : ◌≡◌ {A = ℕ} 0 1 = cc in omega arith))
 
     -- a type that stands already is found, and nothing is added
-    pub one-present : (t : ℕ) → t < n → type_at w t ≡ ty_of w e → EnterDone w n e (There (record { 0 = t }) n) w
+    pub one-present : (t : ℕ) → t < n → type_at w t ≡ ty_of w e → EnterDone w n e (there (record { 0 = t }) n) w
     one-present t l h = enter-found w n e _ (found_at t l h)
 
     -- room lacks only for a type that is absent
-    pub one-full : (k : ℕ) → entered w n e ≡ Lacks k → Absent w n (ty_of w e)
+    pub one-full : (k : ℕ) → entered w n e ≡ lacks k → Absent w n (ty_of w e)
     one-full k q i l h =
         let d = one-present i l h in
         let z : ◌≡◌ {A = ℕ} 0 1 = cc in omega arith
 
     -- the same of what `enter` promises
-    pub enter-stands : {t : TypeNo} {m : ℕ} {v : List ℕ} → EnterDone w n e (There t m) v → Stands w n (ty_of w e) t.0 m v
+    pub enter-stands : {t : TypeNo} {m : ℕ} {v : List ℕ} → EnterDone w n e (there t m) v → Stands w n (ty_of w e) t.0 m v
     enter-stands {t} {m} d = rw d.words (one-stands t m (sym d.reply))
 
-    pub enter-refuses : {k : ℕ} {v : List ℕ} → EnterDone w n e (Lacks k) v → Absent w n (ty_of w e) × (free w n < missing w n e) × (k ≡ lacking w n (missing w n e)) × (v ≡ w)
+    pub enter-refuses : {k : ℕ} {v : List ℕ} → EnterDone w n e (lacks k) v → Absent w n (ty_of w e) × (free w n < missing w n e) × (k ≡ lacking w n (missing w n e)) × (v ≡ w)
     enter-refuses {k} d =
         let f = sym d.reply in
         let x = enter-lacks w n e k f in

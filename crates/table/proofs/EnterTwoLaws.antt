@@ -16,14 +16,13 @@ use Rattle.conv.specs.Rank.{element_of}
 use Rattle.table.specs.Stands.Part.{inside}
 use Rattle.table.specs.declared.Entry.{Entry}
 use Rattle.answer.specs.declared.TypeNo.{TypeNo}
-use Rattle.table.specs.declared.Found.{Found}
-use Rattle.table.specs.declared.Found.TheVariants.{At, Nothing}
-use Rattle.table.specs.declared.Entered.TheVariants.{There, Lacks}
+use Rattle.std.specs.Prelude.{Option, Some, None}
+use Rattle.table.specs.Enter.{there, lacks}
 use Rattle.table.proofs.SoundLaws.{and_left, and_right}
 use Rattle.table.proofs.KindLaws.{split, clash, by_kind, is_scalar}
 use Rattle.table.proofs.TypeLaws.{type-keeps, elem-of, elem_in}
 use Rattle.table.proofs.FormedLaws.{clean, clean-above}
-use Rattle.table.proofs.EnterCases.{free-room, outer-absent, two-found, two-full, two-new}
+use Rattle.table.proofs.EnterCases.{there_same, lacks_same, free-room, outer-absent, two-found, two-full, two-new}
 use Rattle.table.proofs.EnterLaws.{ty-made, part_same, part-trans, allow, found_at, at-type, new-stands, one-stands, one-present}
 
 -- a container: its unused words are 0, and its elem may be of any form (no vector, matrix, atomic or result of an exchange)
@@ -93,24 +92,24 @@ stands_after {w} {u} {v} {n} {k} {m} {t} {j} {I} {R} a p b =
     }
 
 -- room is lacking exactly when fewer entries are free than are missing, and then no word changes
-pub two-lacks : (w : List ℕ) (n : ℕ) (inner outer : Entry) (k : ℕ) → entered_two w n inner outer ≡ Lacks k
+pub two-lacks : (w : List ℕ) (n : ℕ) (inner outer : Entry) (k : ℕ) → entered_two w n inner outer ≡ lacks k
     → (free w n < missing_two w n inner outer) × (k ≡ lacking w n (missing_two w n inner outer)) × (enter_two_words w n inner outer ≡ w)
 unfolding entered_two enter_two_words
 two-lacks w n inner outer k h =
     split (leb (missing_two w n inner outer) (free w n))
     (λ b. absurd (let q = rw b at h in let z : ◌≡◌ {A = ℕ} 0 1 = cc in omega arith))
-    (λ b. (leb-false _ _ b, (let q = rw b at h in cc), rw b))
+    (λ b. (leb-false _ _ b, (let q = rw b at h in lacks_same (sym q)), rw b))
 
-pub lacks-two : (w : List ℕ) (n : ℕ) (inner outer : Entry) → free w n < missing_two w n inner outer → entered_two w n inner outer ≡ Lacks (lacking w n (missing_two w n inner outer))
+pub lacks-two : (w : List ℕ) (n : ℕ) (inner outer : Entry) → free w n < missing_two w n inner outer → entered_two w n inner outer ≡ lacks (lacking w n (missing_two w n inner outer))
 unfolding entered_two
 lacks-two w n inner outer h = rw (lt-leb _ _ h)
 
 -- only what is missing is added
-pub two-count : (w : List ℕ) (n : ℕ) (inner outer : Entry) (t : TypeNo) (m : ℕ) → entered_two w n inner outer ≡ There t m → m ≡ n + missing_two w n inner outer
+pub two-count : (w : List ℕ) (n : ℕ) (inner outer : Entry) (t : TypeNo) (m : ℕ) → entered_two w n inner outer ≡ there t m → m ≡ n + missing_two w n inner outer
 unfolding entered_two
 two-count w n inner outer t m h =
     split (leb (missing_two w n inner outer) (free w n))
-    (λ b. let q = rw b at h in cc)
+    (λ b. let q = rw b at h in (there_same (sym q)).1)
     (λ b. absurd (let q = rw b at h in let z : ◌≡◌ {A = ℕ} 0 1 = cc in omega arith))
 
 module _ (w : List ℕ) (n : ℕ) (s : Sound w n) (inner outer : Entry) (ok : allowedb w n inner ≡ true) (hold : holder outer ≡ true)
@@ -127,7 +126,7 @@ module _ (w : List ℕ) (n : ℕ) (s : Sound w n) (inner outer : Entry) (ok : al
     present-type = over-type outer hold w n s k l f-at ∙ ap (made outer) q
 
   -- both are new
-  both : find_in w n inner ≡ Nothing → n + 2 ≤ ceiling → (n + 2) * stride ≤ length w →
+  both : find_in w n inner ≡ None → n + 2 ≤ ceiling → (n + 2) * stride ≤ length w →
       Stands w n (made outer (ty_of w inner)) (n + 1) (n + 2) (put_entry (put_entry w n inner) (n + 1) (container outer n))
   both h high room =
       let u = put_entry w n inner in
@@ -142,24 +141,24 @@ module _ (w : List ℕ) (n : ℕ) (s : Sound w n) (inner outer : Entry) (ok : al
       stands_after a (inside (part_same (sym (holds outer hold (ty_of w inner)).element))) (rw (ty, e) at b)
 
   -- an accepted entering
-  pub two-stands : (t : TypeNo) (m : ℕ) → entered_two w n inner outer ≡ There t m →
+  pub two-stands : (t : TypeNo) (m : ℕ) → entered_two w n inner outer ≡ there t m →
       Stands w n (made outer (ty_of w inner)) t.0 m (enter_two_words w n inner outer)
   two-stands t m q = go (find_in w n inner) refl
     where
-      go : (r : Found) → find_in w n inner ≡ r → Stands w n (made outer (ty_of w inner)) t.0 m (enter_two_words w n inner outer)
-      go (At u) h =
+      go : (r : Option TypeNo) → find_in w n inner ≡ r → Stands w n (made outer (ty_of w inner)) t.0 m (enter_two_words w n inner outer)
+      go (Some u) h =
           let a = at-type w n s inner ok u h in
           let o = container outer u.0 in
           let d = two-found w n inner outer u h (entered w n o) (enter_words w n o) (record { reply = refl; words = refl }) in
           rw (← d.words, ← present-type u.0 a.0 a.1)
           (one-stands w n s o (present-allowed u.0 a.0 a.1) t m (d.reply ∙ q))
-      go Nothing h =
+      go None h =
           split (leb 2 (free w n))
           (λ b.
           let l : 2 ≤ free w n = leb-true _ _ b in
           let d = two-new w n inner outer s h l in
-          let tu : t ≡ record { 0 = n + 1 } = cc in
-          let mn : m ≡ n + 2 = cc in
+          let tu : t ≡ record { 0 = n + 1 } = (there_same (sym q ∙ sym d.reply)).0 in
+          let mn : m ≡ n + 2 = (there_same (sym q ∙ sym d.reply)).1 in
           let r = free-room w n 2 (omega arith) l in
           rw (tu, mn, ← d.words) (both h r.0 r.1))
           (λ b.
@@ -167,7 +166,7 @@ module _ (w : List ℕ) (n : ℕ) (s : Sound w n) (inner outer : Entry) (ok : al
           absurd (let z : ◌≡◌ {A = ℕ} 0 1 = cc in omega arith))
 
   -- a container that stands already is found, and nothing is added
-  pub two-present : (t : ℕ) → t < n → type_at w t ≡ made outer (ty_of w inner) → EnterTwoDone w n inner outer (There (record { 0 = t }) n) w
+  pub two-present : (t : ℕ) → t < n → type_at w t ≡ made outer (ty_of w inner) → EnterTwoDone w n inner outer (there (record { 0 = t }) n) w
   two-present t l q =
       let g = holds outer hold (ty_of w inner) in
       let no : is_scalar (type_at w t) ≡ false = ap is_scalar q ∙ g.above in
@@ -179,16 +178,16 @@ module _ (w : List ℕ) (n : ℕ) (s : Sound w n) (inner outer : Entry) (ok : al
       (one-present w n s o (present-allowed k under at) t l (q ∙ sym (present-type k under at)))
 
   -- room lacks only for a container that is absent
-  pub two-full-absent : (k : ℕ) → entered_two w n inner outer ≡ Lacks k → Absent w n (made outer (ty_of w inner))
+  pub two-full-absent : (k : ℕ) → entered_two w n inner outer ≡ lacks k → Absent w n (made outer (ty_of w inner))
   two-full-absent k q i l h =
       let d = two-present i l h in
       let z : ◌≡◌ {A = ℕ} 0 1 = cc in omega arith
 
   -- the same of what `enter_two` promises
-  pub enter-two-stands : {t : TypeNo} {m : ℕ} {v : List ℕ} → EnterTwoDone w n inner outer (There t m) v → Stands w n (made outer (ty_of w inner)) t.0 m v
+  pub enter-two-stands : {t : TypeNo} {m : ℕ} {v : List ℕ} → EnterTwoDone w n inner outer (there t m) v → Stands w n (made outer (ty_of w inner)) t.0 m v
   enter-two-stands {t} {m} d = rw d.words (two-stands t m (sym d.reply))
 
-  pub enter-two-refuses : {k : ℕ} {v : List ℕ} → EnterTwoDone w n inner outer (Lacks k) v →
+  pub enter-two-refuses : {k : ℕ} {v : List ℕ} → EnterTwoDone w n inner outer (lacks k) v →
       Absent w n (made outer (ty_of w inner)) × (free w n < missing_two w n inner outer) × (k ≡ lacking w n (missing_two w n inner outer)) × (v ≡ w)
   enter-two-refuses {k} d =
       let f = sym d.reply in

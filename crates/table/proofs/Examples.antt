@@ -10,7 +10,7 @@ use Rattle.table.specs.Table.{kind_vec, kind_array, kind_runtime, kind_ptr, kind
 use Rattle.table.specs.Denote.{made, type_at}
 use Rattle.table.specs.Enter.{free, missing, entered, outer_over, missing_two, entered_two}
 use Rattle.table.specs.declared.Entry.{Entry}
-use Rattle.table.specs.declared.Entered.TheVariants.{There, Lacks}
+use Rattle.table.specs.Enter.{there, lacks}
 
 entry : ℕ → ℕ → ℕ → ℕ → Entry
 entry k p q e = record { kind = k; p = p; q = q; elem = e }
@@ -102,18 +102,18 @@ one_free : free spare 10 ≡ 1
 unfolding words start table spare free
 one_free = refl
 
-vector-room : entered spare 10 (entry kind_vec 4 0 f32) ≡ There (record { 0 = 10 }) 11
+vector-room : entered spare 10 (entry kind_vec 4 0 f32) ≡ there (record { 0 = 10 }) 11
 unfolding words start table spare entry entered missing free find_in
 vector-room = refl
 
-vector-stands : entered table 10 (entry kind_vec 3 0 f32) ≡ There (record { 0 = 8 }) 10
+vector-stands : entered table 10 (entry kind_vec 3 0 f32) ≡ there (record { 0 = 8 }) 10
 unfolding words start table entry entered missing free find_in
 vector-stands = refl
 
-result-full : entered_two spare 10 (entry kind_vec 4 0 f32) (entry kind_frexp 0 0 0) ≡ Lacks 1
+result-full : entered_two spare 10 (entry kind_vec 4 0 f32) (entry kind_frexp 0 0 0) ≡ lacks 1
 unfolding words start table spare entry entered_two missing_two outer_over missing free find_in
 result-full = refl
 
-result-room : entered_two spare 10 (entry kind_vec 3 0 f32) (entry kind_frexp 0 0 0) ≡ There (record { 0 = 10 }) 11
+result-room : entered_two spare 10 (entry kind_vec 3 0 f32) (entry kind_frexp 0 0 0) ≡ there (record { 0 = 10 }) 11
 unfolding words start table spare entry entered_two missing_two outer_over missing free find_in
 result-room = refl

@@ -22,8 +22,9 @@ use Rattle.table.specs.Enter.{free}
 use Rattle.table.specs.Placing.{stands_in, Standing, or_next, placed_over, placed, Outcome, turned_down, entering, enter_type}
 use Rattle.table.specs.Lacking.{Longer, Lacks, Grown}
 use Rattle.table.specs.declared.Entry.{Entry}
-use Rattle.table.specs.declared.Found.{Found}
-use Rattle.table.specs.declared.Found.TheVariants.{At, Nothing}
+use Rattle.std.specs.Prelude.{Option, Some, None}
+use Rattle.table.specs.Enter.{lacks}
+use Rattle.answer.specs.declared.TypeNo.{TypeNo}
 use Rattle.table.proofs.KindLaws.{split}
 use Rattle.table.proofs.SoundLaws.{sound-of, of-sound, keeps_entry, keeps-made, keeps-ok}
 use Rattle.table.proofs.TypeLaws.{type-keeps}
@@ -87,16 +88,16 @@ module _ (w v : List ℕ) (n k : ℕ) (l : Longer w v n k) where
   stands-longer R zero h = refl
   stands-longer R (suc m) h =
       rw (stands-longer R m (omega arith))
-      (ap (λ (t : Ty). or_else (stands_in w m R) (cond (same_ty t R) (At (record { 0 = m })) Nothing)) (type-longer m h))
+      (ap (λ (t : Ty). or_else (stands_in w m R) (cond (same_ty t R) (Some (record { 0 = m })) None)) (type-longer m h))
 
   -- a type needs as many entries
   over-longer : (R : Ty) (x x' : Standing) → x'.used ≡ x.used → (placed_over v n R x').used ≡ (placed_over w n R x).used
   unfolding placed_over
   over-longer R x x' e = rw (stands-longer R n (omega arith)) (go (stands_in w n R))
     where
-      go : (f : Found) → (or_next f n v R x').used ≡ (or_next f n w R x).used
-      go (At t) = refl
-      go Nothing = ap (λ (m : ℕ). m + 1) e
+      go : (f : Option TypeNo) → (or_next f n v R x').used ≡ (or_next f n w R x).used
+      go (Some t) = refl
+      go None = ap (λ (m : ℕ). m + 1) e
 
   used-longer : (R : Ty) → (placed v n R).used ≡ (placed w n R).used
   unfolding placed

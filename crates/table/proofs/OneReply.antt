@@ -9,8 +9,10 @@ use Rattle.table.specs.Denote.{type_at}
 use Rattle.table.specs.Placing.{Outcome, Gave, GaveMarked}
 use Rattle.table.specs.Enter.{with_scalars, EnterDone, EnterTwoDone, entry_answer}
 use Rattle.table.specs.declared.Entry.{Entry}
-use Rattle.table.specs.declared.Found.{Found}
+use Rattle.std.specs.Prelude.{Option, Result}
 use Rattle.table.specs.declared.Entered.{Entered}
+use Rattle.table.specs.declared.Lacks.{Lacks}
+use Rattle.answer.specs.declared.TypeNo.{TypeNo}
 use Rattle.answer.specs.declared.Answer.{Answer}
 use Rattle.answer.specs.declared.Typed.{Typed}
 
@@ -21,7 +23,7 @@ one p q = p ∙ sym q
 pub entry-at-one : (w : List ℕ) (i : ℕ) {a b : Entry} → a ≡ entry_at w i → b ≡ entry_at w i → a ≡ b
 entry-at-one w i x y = one x y
 
-pub find-one : (w : List ℕ) (n : ℕ) (e : Entry) {a b : Found} → a ≡ find_in w n e → b ≡ find_in w n e → a ≡ b
+pub find-one : (w : List ℕ) (n : ℕ) (e : Entry) {a b : Option TypeNo} → a ≡ find_in w n e → b ≡ find_in w n e → a ≡ b
 find-one w n e x y = one x y
 
 pub sound-one : (w : List ℕ) (n : ℕ) {a b : Bool} → a ≡ soundb w n → b ≡ soundb w n → a ≡ b
@@ -36,14 +38,14 @@ abstract-at-one w t x y = one x y
 pub put-scalars-one : (w : List ℕ) {u v : List ℕ} → u ≡ with_scalars scalars w → v ≡ with_scalars scalars w → u ≡ v
 put-scalars-one w p q = one p q
 
-pub enter_one : {w : List ℕ} {n : ℕ} {e : Entry} {a b : Entered} {u v : List ℕ} → EnterDone w n e a u → EnterDone w n e b v → (a ≡ b) × (u ≡ v)
+pub enter_one : {w : List ℕ} {n : ℕ} {e : Entry} {a b : Result Entered Lacks} {u v : List ℕ} → EnterDone w n e a u → EnterDone w n e b v → (a ≡ b) × (u ≡ v)
 enter_one x y = (one x.reply y.reply, one x.words y.words)
 
-pub enter-two-one : {w : List ℕ} {n : ℕ} {inner outer : Entry} {a b : Entered} {u v : List ℕ} →
+pub enter-two-one : {w : List ℕ} {n : ℕ} {inner outer : Entry} {a b : Result Entered Lacks} {u v : List ℕ} →
     EnterTwoDone w n inner outer a u → EnterTwoDone w n inner outer b v → (a ≡ b) × (u ≡ v)
 enter-two-one x y = (one x.reply y.reply, one x.words y.words)
 
-pub answer-of-one : (place n : ℕ) (r : Entered) {a b : Answer} → a ≡ entry_answer place r n → b ≡ entry_answer place r n → a ≡ b
+pub answer-of-one : (place n : ℕ) (r : Result Entered Lacks) {a b : Answer} → a ≡ entry_answer place r n → b ≡ entry_answer place r n → a ≡ b
 answer-of-one place n r x y = one x y
 
 -- what meets a call's promise is one; so of `enter_type`

@@ -22,10 +22,10 @@ use Rattle.table.specs.Placing.{stands_in, Standing, stands_at, entry_of, placed
 use Rattle.table.specs.declared.Entry.{Entry}
 use Rattle.answer.specs.declared.TypeNo.{TypeNo}
 use Rattle.answer.specs.declared.Reason.TheVariants.{NoRoom}
-use Rattle.table.specs.declared.Found.{Found}
-use Rattle.table.specs.declared.Found.TheVariants.{At, Nothing}
+use Rattle.std.specs.Prelude.{Option, Some, None, Result}
 use Rattle.table.specs.declared.Entered.{Entered}
-use Rattle.table.specs.declared.Entered.TheVariants.{There, Lacks}
+use Rattle.table.specs.declared.Lacks.{Lacks}
+use Rattle.table.specs.Enter.{there, lacks}
 use Rattle.table.proofs.KindLaws.{split, is_scalar}
 use Rattle.table.proofs.TypeLaws.{type-scalar, type-injective, type-words, elem_in, elem-of}
 use Rattle.table.proofs.FormedLaws.{allowed-row}
@@ -36,35 +36,35 @@ use Rattle.table.proofs.EnterLaws.{ty-made, ty-scalar, entry-words, at-type, non
 -- A TYPE'S NUMBER
 
 module _ (w : List ℕ) (R : Ty) where
-  stands-none : (n : ℕ) → Absent w n R → stands_in w n R ≡ Nothing
+  stands-none : (n : ℕ) → Absent w n R → stands_in w n R ≡ None
   unfolding stands_in
   stands-none zero a = refl
   stands-none (suc n) a = go (same_ty (type_at w n) R) refl (stands-none n (λ i l. a i (omega arith)))
     where
-      go : (b : Bool) → same_ty (type_at w n) R ≡ b → stands_in w n R ≡ Nothing → or_else (stands_in w n R) (cond (same_ty (type_at w n) R) (At (record { 0 = n })) Nothing) ≡ Nothing
+      go : (b : Bool) → same_ty (type_at w n) R ≡ b → stands_in w n R ≡ None → or_else (stands_in w n R) (cond (same_ty (type_at w n) R) (Some (record { 0 = n })) None) ≡ None
       go true e ih = absurd (a n (omega arith) (same-ty (type_at w n) R (rw e tt)))
       go false e ih = rw (ih, e)
 
-  stands-keep : (t : TypeNo) (n : ℕ) → stands_in w n R ≡ At t → stands_in w (suc n) R ≡ At t
+  stands-keep : (t : TypeNo) (n : ℕ) → stands_in w n R ≡ Some t → stands_in w (suc n) R ≡ Some t
   unfolding stands_in
   stands-keep t n h = rw h
 
-  stands_here : (n : ℕ) → stands_in w n R ≡ Nothing → type_at w n ≡ R → stands_in w (suc n) R ≡ At (record { 0 = n })
+  stands_here : (n : ℕ) → stands_in w n R ≡ None → type_at w n ≡ R → stands_in w (suc n) R ≡ Some (record { 0 = n })
   unfolding stands_in
   stands_here n h e = rw (h, e) (go (same_ty R R) (self-ty R))
     where
-      go : (b : Bool) → T b → cond b (At (record { 0 = n })) Nothing ≡ At (record { 0 = n })
+      go : (b : Bool) → T b → cond {A = Option TypeNo} b (Some (record { 0 = n })) None ≡ Some (record { 0 = n })
       go true t = refl
       go false t = absurd t
 
-  stands_at_lem : (n i : ℕ) → i < n → type_at w i ≡ R → ((j : ℕ) → j < n → type_at w j ≡ R → j ≡ i) → stands_in w n R ≡ At (record { 0 = i })
+  stands_at_lem : (n i : ℕ) → i < n → type_at w i ≡ R → ((j : ℕ) → j < n → type_at w j ≡ R → j ≡ i) → stands_in w n R ≡ Some (record { 0 = i })
   stands_at_lem zero i l e u = absurd (not-suc-le-zero l)
   stands_at_lem (suc n) i l e u = go (stands_at_lem n i)
     where
-      go : (i < n → type_at w i ≡ R → ((j : ℕ) → j < n → type_at w j ≡ R → j ≡ i) → stands_in w n R ≡ At (record { 0 = i })) → stands_in w (suc n) R ≡ At (record { 0 = i })
+      go : (i < n → type_at w i ≡ R → ((j : ℕ) → j < n → type_at w j ≡ R → j ≡ i) → stands_in w n R ≡ Some (record { 0 = i })) → stands_in w (suc n) R ≡ Some (record { 0 = i })
       go ih =
           ⊎_elim
-          (λ q. subst (λ (k : ℕ). stands_in w (suc n) R ≡ At (record { 0 = k })) (sym q)
+          (λ q. subst (λ (k : ℕ). stands_in w (suc n) R ≡ Some (record { 0 = k })) (sym q)
           (stands_here n (stands-none n (λ j lj h. let z = u j (omega arith) h in omega arith)) (subst (λ (k : ℕ). type_at w k ≡ R) q e)))
           (λ lt. stands-keep _ n (ih lt e (λ j lj h. u j (omega arith) h)))
           (eq-or-lt_of_le (le_of_suc-le-suc l))
@@ -88,18 +88,18 @@ pub placed-scalar : (w : List ℕ) (n s : ℕ) → placed w n (scalar s) ≡ sta
 unfolding placed
 placed-scalar w n s = refl
 
-pub over-found : (w : List ℕ) (n : ℕ) (R : Ty) (inner : Standing) (t : TypeNo) → stands_in w n R ≡ At t → placed_over w n R inner ≡ stands_at t.0 n w
+pub over-found : (w : List ℕ) (n : ℕ) (R : Ty) (inner : Standing) (t : TypeNo) → stands_in w n R ≡ Some t → placed_over w n R inner ≡ stands_at t.0 n w
 unfolding placed_over
 over-found w n R inner t q = rw q
 
-pub over-next : (w : List ℕ) (n : ℕ) (R : Ty) (inner : Standing) → stands_in w n R ≡ Nothing
+pub over-next : (w : List ℕ) (n : ℕ) (R : Ty) (inner : Standing) → stands_in w n R ≡ None
     → placed_over w n R inner ≡ stands_at inner.used (inner.used + 1) (put_entry inner.words inner.used (entry_of R inner.number))
 unfolding placed_over
 over-next w n R inner q = rw q
 
 module _ (w : List ℕ) (n : ℕ) (s : Sound w n) where
   -- the number of a type that stands in the table
-  pub number_of : (i : ℕ) (R : Ty) → i < n → type_at w i ≡ R → stands_in w n R ≡ At (record { 0 = i })
+  pub number_of : (i : ℕ) (R : Ty) → i < n → type_at w i ≡ R → stands_in w n R ≡ Some (record { 0 = i })
   number_of i R l e = stands_at_lem w R n i l e (λ j lj h. type-injective w n s j i lj l (h ∙ sym e))
 
   -- PRESENT: it stays at its number, and nothing is added
@@ -128,10 +128,10 @@ module _ (w : List ℕ) (n : ℕ) (s : Sound w n) where
         placed-over w n (ty_of w e) (ap is_scalar m ∙ x.above)
         ∙ ap (placed_over w n (ty_of w e)) (ap (placed w n) (ap element_of m ∙ x.elem) ∙ placed_at e.elem (type_at w e.elem) (allowed-row w n s e k ok).0 refl)
 
-    found-placed : (t : TypeNo) → find_in w n e ≡ At t → placed w n (ty_of w e) ≡ stands_at t.0 n w
+    found-placed : (t : TypeNo) → find_in w n e ≡ Some t → placed w n (ty_of w e) ≡ stands_at t.0 n w
     found-placed t h = let a = at-type w n s e ok t h in placed_at t.0 (ty_of w e) a.0 a.1
 
-    new-placed : find_in w n e ≡ Nothing → placed w n (ty_of w e) ≡ stands_at n (n + 1) (put_entry w n e)
+    new-placed : find_in w n e ≡ None → placed w n (ty_of w e) ≡ stands_at n (n + 1) (put_entry w n e)
     new-placed h =
         split (ltb e.kind scalars)
         (λ b.
@@ -144,9 +144,9 @@ module _ (w : List ℕ) (n : ℕ) (s : Sound w n) where
     pub placed_one : placed w n (ty_of w e) ≡ stands_at (number_or (find_in w n e) n) (n + missing w n e) (add_at (find_in w n e) w n e)
     placed_one = go (find_in w n e) refl
       where
-        go : (r : Found) → find_in w n e ≡ r → placed w n (ty_of w e) ≡ stands_at (number_or (find_in w n e) n) (n + missing w n e) (add_at (find_in w n e) w n e)
-        go (At t) h = let z : n + 0 ≡ n = omega arith in found-placed t h ∙ sym (rw (h, missing_at w n e t h, z))
-        go Nothing h = new-placed h ∙ sym (rw (h, missing-none w n e h))
+        go : (r : Option TypeNo) → find_in w n e ≡ r → placed w n (ty_of w e) ≡ stands_at (number_or (find_in w n e) n) (n + missing w n e) (add_at (find_in w n e) w n e)
+        go (Some t) h = let z : n + 0 ≡ n = omega arith in found-placed t h ∙ sym (rw (h, missing_at w n e t h, z))
+        go None h = new-placed h ∙ sym (rw (h, missing-none w n e h))
 
 -- the outcome by what is missing
 outcome-by : (place : ℕ) (w : List ℕ) (n : ℕ) (R : Ty) (k d : ℕ) (v : List ℕ) → placed w n R ≡ stands_at k (n + d) v
@@ -161,7 +161,7 @@ any-room k a b = rw (le-leb 0 k (omega arith))
 module _ (place : ℕ) (w : List ℕ) (n : ℕ) (s : Sound w n) where
   module _ (e : Entry) (ok : allowedb w n e ≡ true) where
     -- what `enter` gives is the outcome of its type
-    pub enter-outcome : (r : Entered) (v : List ℕ) → EnterDone w n e r v → record { answer = entry_answer place r n; words = v } ≡ entering place w n (ty_of w e)
+    pub enter-outcome : (r : Result Entered Lacks) (v : List ℕ) → EnterDone w n e r v → record { answer = entry_answer place r n; words = v } ≡ entering place w n (ty_of w e)
     unfolding entered enter_words
     enter-outcome r v d =
         (λ i. record { answer = entry_answer place (d.reply i) n; words = d.words i })
@@ -169,7 +169,7 @@ module _ (place : ℕ) (w : List ℕ) (n : ℕ) (s : Sound w n) where
         ∙ sym (outcome-by place w n (ty_of w e) (number_or (find_in w n e) n) (missing w n e) (add_at (find_in w n e) w n e) (placed_one w n s e ok))
       where
         go : (b : Bool)
-            → record { answer = entry_answer place (cond b (There (record { 0 = number_or (find_in w n e) n }) (n + missing w n e)) (Lacks (lacking w n (missing w n e)))) n; words = cond b (add_at (find_in w n e) w n e) w }
+            → record { answer = entry_answer place (cond b (there (record { 0 = number_or (find_in w n e) n }) (n + missing w n e)) (lacks (lacking w n (missing w n e)))) n; words = cond b (add_at (find_in w n e) w n e) w }
             ≡ cond b (record { answer = accept (number_or (find_in w n e) n) (n + missing w n e); words = add_at (find_in w n e) w n e }) (turned_down (NoRoom (lacking w n (missing w n e))) place w n)
         go true = refl
         go false = refl
@@ -182,7 +182,7 @@ module _ (place : ℕ) (w : List ℕ) (n : ℕ) (s : Sound w n) where
     element = (holds outer hold (ty_of w inner)).element
 
     -- the element stands, and the container is one entry
-    found-two : (t : TypeNo) → find_in w n inner ≡ At t → (r : Entered) (v : List ℕ) → EnterTwoDone w n inner outer r v
+    found-two : (t : TypeNo) → find_in w n inner ≡ Some t → (r : Result Entered Lacks) (v : List ℕ) → EnterTwoDone w n inner outer r v
         → record { answer = entry_answer place r n; words = v } ≡ entering place w n (made outer (ty_of w inner))
     found-two t h r v d =
         let a = at-type w n s inner ok t h in
@@ -194,14 +194,14 @@ module _ (place : ℕ) (w : List ℕ) (n : ℕ) (s : Sound w n) where
         ∙ ap (entering place w n) (over-type outer hold w n s t.0 a.0 g ∙ ap (made outer) a.1)
 
     -- the element is absent, and so is the container
-    both-absent : find_in w n inner ≡ Nothing → Absent w n (made outer (ty_of w inner))
+    both-absent : find_in w n inner ≡ None → Absent w n (made outer (ty_of w inner))
     both-absent h i l q =
         let no : is_scalar (type_at w i) ≡ false = ap is_scalar q ∙ (holds outer hold (ty_of w inner)).above in
         let k = (entry_at w i).elem in
         let under : k < n = let x = elem_in w n s i l no in omega arith in
         none-absent w n s inner ok h k under (elem-of w n s i l no ∙ ap element_of q ∙ element)
 
-    new_two : find_in w n inner ≡ Nothing → placed w n (made outer (ty_of w inner)) ≡ stands_at (n + 1) (n + 2) (put_entry (put_entry w n inner) (n + 1) (container outer n))
+    new_two : find_in w n inner ≡ None → placed w n (made outer (ty_of w inner)) ≡ stands_at (n + 1) (n + 2) (put_entry (put_entry w n inner) (n + 1) (container outer n))
     new_two h =
         let z : n + 1 + 1 ≡ n + 2 = omega arith in
         placed-over w n (made outer (ty_of w inner)) (holds outer hold (ty_of w inner)).above
@@ -209,7 +209,7 @@ module _ (place : ℕ) (w : List ℕ) (n : ℕ) (s : Sound w n) where
         ∙ over-next w n (made outer (ty_of w inner)) (stands_at n (n + 1) (put_entry w n inner)) (stands-none w (made outer (ty_of w inner)) n (both-absent h))
         ∙ (λ i. stands_at (n + 1) (z i) (put_entry (put_entry w n inner) (n + 1) (words (ty_of w inner) n i)))
 
-    absent-two : find_in w n inner ≡ Nothing → (r : Entered) (v : List ℕ) → EnterTwoDone w n inner outer r v
+    absent-two : find_in w n inner ≡ None → (r : Result Entered Lacks) (v : List ℕ) → EnterTwoDone w n inner outer r v
         → record { answer = entry_answer place r n; words = v } ≡ entering place w n (made outer (ty_of w inner))
     absent-two h r v d =
         split (leb 2 (free w n))
@@ -224,12 +224,12 @@ module _ (place : ℕ) (w : List ℕ) (n : ℕ) (s : Sound w n) where
             ≡ cond (leb 2 (free w n)) (record { answer = accept (n + 1) (n + 2); words = put_entry (put_entry w n inner) (n + 1) (container outer n) }) (turned_down (NoRoom (lacking w n 2)) place w n)
         out = outcome-by place w n (made outer (ty_of w inner)) (n + 1) 2 (put_entry (put_entry w n inner) (n + 1) (container outer n)) (new_two h)
 
-    pub enter-two-outcome : (r : Entered) (v : List ℕ) → EnterTwoDone w n inner outer r v → record { answer = entry_answer place r n; words = v } ≡ entering place w n (made outer (ty_of w inner))
+    pub enter-two-outcome : (r : Result Entered Lacks) (v : List ℕ) → EnterTwoDone w n inner outer r v → record { answer = entry_answer place r n; words = v } ≡ entering place w n (made outer (ty_of w inner))
     enter-two-outcome r v d = go (find_in w n inner) refl
       where
-        go : (x : Found) → find_in w n inner ≡ x → record { answer = entry_answer place r n; words = v } ≡ entering place w n (made outer (ty_of w inner))
-        go (At t) h = found-two t h r v d
-        go Nothing h = absent-two h r v d
+        go : (x : Option TypeNo) → find_in w n inner ≡ x → record { answer = entry_answer place r n; words = v } ≡ entering place w n (made outer (ty_of w inner))
+        go (Some t) h = found-two t h r v d
+        go None h = absent-two h r v d
 
   -- a type that stands already
   pub standing-outcome : (i : ℕ) (R : Ty) → i < n → type_at w i ≡ R → entering place w n R ≡ record { answer = accept i n; words = w }

@@ -15,8 +15,8 @@ use Rattle.table.specs.Table.{scalars, ceiling, entry_at, Key, entry_key, sameb,
 use Rattle.table.specs.inner.Slots.{scalar_at, slots, places, word_end, entry_slot, turns_of, fork, Way, Linked, Free, Based}
 use Rattle.table.specs.inner.Slots.Way.{here, on}
 use Rattle.table.specs.declared.Entry.{Entry}
-use Rattle.table.specs.declared.Found.{Found}
-use Rattle.table.specs.declared.Found.TheVariants.{At, Nothing}
+use Rattle.std.specs.Prelude.{Option, Some, None}
+use Rattle.answer.specs.declared.TypeNo.{TypeNo}
 use Rattle.table.proofs.TableLaws.{elem_of, base-scalar, base_step}
 use Rattle.table.proofs.SoundLaws.{and_left, and_right, and_both, all-at, all_of, sameb-true, sameb-refl, find-hit, find-miss}
 use Rattle.table.proofs.KindLaws.{split, clash}
@@ -61,7 +61,7 @@ row-kind e ek eb h =
     (λ f. ltb-false _ _ f)
 
 module _ (w : List ℕ) (h : all_below (scalar_at w) scalars ≡ true) (e : Entry) where
-  pub made-new : (i : ℕ) → made_ok w i e ≡ true → find_in w scalars e ≡ Nothing
+  pub made-new : (i : ℕ) → made_ok w i e ≡ true → find_in w scalars e ≡ None
   unfolding made_ok
   made-new i m =
       let k = row-kind e _ _ (and_right (ltb e.elem i) _ m) in
@@ -136,9 +136,9 @@ module _ (w : List ℕ) (i : ℕ) (links : List ℕ) (e : Entry) (low : scalars 
     pub walk-hit : sameb (entry_at w at) e ≡ true → false ≡ is_nothing (find_in w i e)
     walk-hit h = go (find_in w i e) refl
       where
-        go : (f : Found) → find_in w i e ≡ f → false ≡ is_nothing f
-        go (At t) q = refl
-        go Nothing q = let m = s.low place in absurd (find-hit w e i at (omega arith) (sameb-true (entry_at w at) e h) q)
+        go : (f : Option TypeNo) → find_in w i e ≡ f → false ≡ is_nothing f
+        go (Some t) q = refl
+        go None q = let m = s.low place in absurd (find-hit w e i at (omega arith) (sameb-true (entry_at w at) e h) q)
 
     pub walk-rise : 0 < at → place < fork at turns
     walk-rise p = let r = s.rising place (omega arith) in omega arith
@@ -153,7 +153,7 @@ module _ (w : List ℕ) (i : ℕ) (links : List ℕ) (e : Entry) (low : scalars 
               walk.back more g k (on {place = place} (omega arith) (subst (λ x. Way more (fork x turns) (turns / 2) k) (sym m) v));
         }
 
-    pub walk_end : at ≡ 0 → find_in w scalars e ≡ Nothing → Free w i links e place
+    pub walk_end : at ≡ 0 → find_in w scalars e ≡ None → Free w i links e place
     walk_end z none =
         let empty : get_or links place 0 ≡ 0 = sym here-at ∙ z in
         let wide = s.wide in

@@ -15,8 +15,7 @@ use Rattle.table.specs.Tools.{all_below}
 use Rattle.table.specs.Table.{stride, ceiling, entry_at, put_entry, Key, entry_key, sameb, chain_by, chain, base_of, entry_ok, or_else, find_in, is_nothing, good_at, soundb, Sound, Keeps, scalar_ok, made_ok}
 use Rattle.table.specs.declared.Entry.{Entry}
 use Rattle.answer.specs.declared.TypeNo.{TypeNo}
-use Rattle.table.specs.declared.Found.{Found}
-use Rattle.table.specs.declared.Found.TheVariants.{At, Nothing}
+use Rattle.std.specs.Prelude.{Option, Some, None}
 use Rattle.table.proofs.TableLaws.{elem_of, find-stop}
 
 -- a conjunction
@@ -86,44 +85,44 @@ other-elem a b d = rw (ne_eqb a.elem b.elem d) (no-right (eqb a.kind b.kind && e
 
 module _ (w : List ℕ) (e : Entry) where
   -- an entry that is there is found, at its number or before
-  pub find-hit : (n i : ℕ) → i < n → entry_key (entry_at w i) ≡ entry_key e → find_in w n e ≡ Nothing → ⊥
+  pub find-hit : (n i : ℕ) → i < n → entry_key (entry_at w i) ≡ entry_key e → find_in w n e ≡ None → ⊥
   unfolding find_in
   find-hit zero i l h q = not-suc-le-zero l
   find-hit (suc n) i l h q = go (find_in w n e) refl (find-hit n i)
     where
-      go : (r : Found) → find_in w n e ≡ r → (i < n → entry_key (entry_at w i) ≡ entry_key e → find_in w n e ≡ Nothing → ⊥) → ⊥
-      go (At t) k ih = let z : ◌≡◌ {A = ℕ} 0 1 = cc in omega arith
-      go Nothing k ih =
+      go : (r : Option TypeNo) → find_in w n e ≡ r → (i < n → entry_key (entry_at w i) ≡ entry_key e → find_in w n e ≡ None → ⊥) → ⊥
+      go (Some t) k ih = let z : ◌≡◌ {A = ℕ} 0 1 = cc in omega arith
+      go None k ih =
           ⊎_elim (λ m. let s : sameb (entry_at w n) e ≡ true = sameb-refl (entry_at w n) e (rw (← m) h) in let z : ◌≡◌ {A = ℕ} 0 1 = cc in omega arith)
           (λ lt. ih lt h k) (eq-or-lt_of_le (le_of_suc-le-suc l))
 
   -- what is found is below n, and equals e
-  pub find_at : (n : ℕ) (t : TypeNo) → find_in w n e ≡ At t → (t.0 < n) × (entry_key (entry_at w t.0) ≡ entry_key e)
+  pub find_at : (n : ℕ) (t : TypeNo) → find_in w n e ≡ Some t → (t.0 < n) × (entry_key (entry_at w t.0) ≡ entry_key e)
   unfolding find_in
   find_at zero t q = absurd (let z : ◌≡◌ {A = ℕ} 0 1 = cc in omega arith)
   find_at (suc n) t q = go (find_in w n e) refl (find_at n t)
     where
-      got : (b : Bool) → sameb (entry_at w n) e ≡ b → cond b (At (record { 0 = n })) Nothing ≡ At t → (t.0 < suc n) × (entry_key (entry_at w t.0) ≡ entry_key e)
+      got : (b : Bool) → sameb (entry_at w n) e ≡ b → cond b (Some (record { 0 = n })) None ≡ Some t → (t.0 < suc n) × (entry_key (entry_at w t.0) ≡ entry_key e)
       got true s k = let m : n ≡ t.0 = ap (λ (u : TypeNo). u.0) (cc) in (omega arith, rw (← m) (sameb-true (entry_at w n) e s))
       got false s k = absurd (let z : ◌≡◌ {A = ℕ} 0 1 = cc in omega arith)
 
-      go : (r : Found) → find_in w n e ≡ r → (find_in w n e ≡ At t → (t.0 < n) × (entry_key (entry_at w t.0) ≡ entry_key e)) → (t.0 < suc n) × (entry_key (entry_at w t.0) ≡ entry_key e)
-      go (At u) k ih = let d = ih (cc) in (omega arith, d.1)
-      go Nothing k ih = got (sameb (entry_at w n) e) refl (rw k at q)
+      go : (r : Option TypeNo) → find_in w n e ≡ r → (find_in w n e ≡ Some t → (t.0 < n) × (entry_key (entry_at w t.0) ≡ entry_key e)) → (t.0 < suc n) × (entry_key (entry_at w t.0) ≡ entry_key e)
+      go (Some u) k ih = let d = ih (cc) in (omega arith, d.1)
+      go None k ih = got (sameb (entry_at w n) e) refl (rw k at q)
 
   -- where none equals e, nothing is found
-  pub find-miss : (n : ℕ) → ((i : ℕ) → i < n → entry_key (entry_at w i) ≡ entry_key e → ⊥) → find_in w n e ≡ Nothing
+  pub find-miss : (n : ℕ) → ((i : ℕ) → i < n → entry_key (entry_at w i) ≡ entry_key e → ⊥) → find_in w n e ≡ None
   find-miss n h = go (find_in w n e) refl
     where
-      go : (r : Found) → find_in w n e ≡ r → find_in w n e ≡ Nothing
-      go (At t) k = let d = find_at n t k in absurd (h t.0 d.0 d.1)
-      go Nothing k = k
+      go : (r : Option TypeNo) → find_in w n e ≡ r → find_in w n e ≡ None
+      go (Some t) k = let d = find_at n t k in absurd (h t.0 d.0 d.1)
+      go None k = k
 
 -- the test is the facts
 
-is_nothing-true : (r : Found) → is_nothing r ≡ true → r ≡ Nothing
-is_nothing-true (At t) h = absurd (let z : ◌≡◌ {A = ℕ} 0 1 = cc in omega arith)
-is_nothing-true Nothing h = refl
+is_nothing-true : (r : Option TypeNo) → is_nothing r ≡ true → r ≡ None
+is_nothing-true (Some t) h = absurd (let z : ◌≡◌ {A = ℕ} 0 1 = cc in omega arith)
+is_nothing-true None h = refl
 
 module _ (w : List ℕ) (n : ℕ) where
   pub sound-of : soundb w n ≡ true → Sound w n
@@ -149,7 +148,7 @@ module _ (w : List ℕ) (n : ℕ) where
       (all_of (good_at w) n (λ i l. and_both (entry_ok w i (entry_at w i)) _ (s.rows i l) (ap is_nothing (find-miss w (entry_at w i) i (λ j lj q. s.apart i j lj l q)))))
 
   -- finding is exact: the number of an entry that is there, and no other
-  pub find-unique : Sound w n → (i : ℕ) (e : Entry) → i < n → entry_key (entry_at w i) ≡ entry_key e → find_in w n e ≡ At (record { 0 = i })
+  pub find-unique : Sound w n → (i : ℕ) (e : Entry) → i < n → entry_key (entry_at w i) ≡ entry_key e → find_in w n e ≡ Some (record { 0 = i })
   find-unique s i e l q =
       find-stop w e i n
       (find-miss w e i (λ j lj r. s.apart i j lj l (r ∙ sym q))) (sameb-refl (entry_at w i) e q) l
@@ -199,7 +198,7 @@ module _ (w v : List ℕ) (n : ℕ) (k : Keeps w v n) where
   pub keeps-find : (e : Entry) (i : ℕ) → i ≤ n → find_in v i e ≡ find_in w i e
   unfolding find_in
   keeps-find e zero l = refl
-  keeps-find e (suc i) l = rw (keeps-find e i (omega arith)) (ap (λ (x : Entry). or_else (find_in w i e) (cond (sameb x e) (At (record { 0 = i })) Nothing)) (keeps_entry i l))
+  keeps-find e (suc i) l = rw (keeps-find e i (omega arith)) (ap (λ (x : Entry). or_else (find_in w i e) (cond (sameb x e) (Some (record { 0 = i })) None)) (keeps_entry i l))
 
 -- writing an entry
 
@@ -237,7 +236,7 @@ module _ (w : List ℕ) (i : ℕ) (e : Entry) where
 
 module _ (w : List ℕ) (n : ℕ) (e : Entry) (s : Sound w n) (ok : entry_ok w n e ≡ true) where
   -- a new last entry
-  pub put-sound : find_in w n e ≡ Nothing → n + 1 ≤ ceiling → (n + 1) * stride ≤ length w → Sound (put_entry w n e) (n + 1)
+  pub put-sound : find_in w n e ≡ None → n + 1 ≤ ceiling → (n + 1) * stride ≤ length w → Sound (put_entry w n e) (n + 1)
   put-sound f high room =
       let v = put_entry w n e in
       let old : (i : ℕ) → i < n → entry_at v i ≡ entry_at w i = keeps_entry w v n (put_keeps w n e) in

@@ -14,7 +14,7 @@ use Rattle.table.specs.Tools.{all_below}
 use Rattle.table.specs.Table.{stride, entry_at, sameb, chain_by, chain, base_of, find_in}
 use Rattle.table.specs.declared.Entry.{Entry}
 use Rattle.answer.specs.declared.TypeNo.{TypeNo}
-use Rattle.table.specs.declared.Found.TheVariants.{At, Nothing}
+use Rattle.std.specs.Prelude.{Some, None}
 
 -- the elem of entry j
 abbrev pub elem_of : List ℕ → ℕ → ℕ
@@ -94,25 +94,25 @@ module _ (w : List ℕ) (j : ℕ) where
   base_step h k = chain-step _ _ w j h k
 
 module _ (w : List ℕ) (e : Entry) where
-  pub find_none : find_in w 0 e ≡ Nothing
+  pub find_none : find_in w 0 e ≡ None
   unfolding find_in
   find_none = refl
 
-  pub find-more : (i : ℕ) → find_in w i e ≡ Nothing → sameb (entry_at w i) e ≡ false → find_in w (i + 1) e ≡ Nothing
+  pub find-more : (i : ℕ) → find_in w i e ≡ None → sameb (entry_at w i) e ≡ false → find_in w (i + 1) e ≡ None
   unfolding find_in
   find-more i a h = rw (add-one, a, h)
 
-  find-here : (i : ℕ) → find_in w i e ≡ Nothing → sameb (entry_at w i) e ≡ true → find_in w (suc i) e ≡ At (record { 0 = i })
+  find-here : (i : ℕ) → find_in w i e ≡ None → sameb (entry_at w i) e ≡ true → find_in w (suc i) e ≡ Some (record { 0 = i })
   unfolding find_in
   find-here i a h = rw (a, h)
 
-  find-keep : (t : TypeNo) (n : ℕ) → find_in w n e ≡ At t → find_in w (suc n) e ≡ At t
+  find-keep : (t : TypeNo) (n : ℕ) → find_in w n e ≡ Some t → find_in w (suc n) e ≡ Some t
   unfolding find_in
   find-keep t n h = rw h
 
-  pub find-stop : (i n : ℕ) → find_in w i e ≡ Nothing → sameb (entry_at w i) e ≡ true → i < n → find_in w n e ≡ At (record { 0 = i })
+  pub find-stop : (i n : ℕ) → find_in w i e ≡ None → sameb (entry_at w i) e ≡ true → i < n → find_in w n e ≡ Some (record { 0 = i })
   find-stop i zero a h l = absurd (not-suc-le-zero l)
   find-stop i (suc n) a h l = go (find-stop i n a h)
     where
-      go : (i < n → find_in w n e ≡ At (record { 0 = i })) → find_in w (suc n) e ≡ At (record { 0 = i })
+      go : (i < n → find_in w n e ≡ Some (record { 0 = i })) → find_in w (suc n) e ≡ Some (record { 0 = i })
       go ih = ⊎_elim (λ q. rw (← q) (find-here i a h)) (λ lt. find-keep _ n (ih lt)) (eq-or-lt_of_le (le_of_suc-le-suc l))

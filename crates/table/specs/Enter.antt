@@ -1,12 +1,11 @@
 -- Entering: "A result not present is entered, an absent element before its container"; and document 02, K2: how much room is missing. Assumes nothing.
-use Rattle.std.specs.Prelude.{ℕ, zero, suc, ◌+◌, ◌-◌, ◌/◌, cond, ◌≡◌, List, length, leb}
+use Rattle.std.specs.Prelude.{ℕ, zero, suc, ◌+◌, ◌-◌, ◌/◌, cond, ◌≡◌, List, length, leb, Option, Some, None, Result, Ok, Err}
 use Rattle.answer.specs.Answer.{refuse}
 use Rattle.table.specs.Table.{stride, ceiling, put_entry, find_in, is_nothing, soundb, allowedb}
 use Rattle.table.specs.declared.Entry.{Entry}
-use Rattle.table.specs.declared.Found.{Found}
-use Rattle.table.specs.declared.Found.TheVariants.{At, Nothing}
 use Rattle.table.specs.declared.Entered.{Entered}
-use Rattle.table.specs.declared.Entered.TheVariants.{There, Lacks}
+use Rattle.table.specs.declared.Lacks.{Lacks}
+use Rattle.answer.specs.declared.TypeNo.{TypeNo}
 use Rattle.answer.specs.declared.Reason.TheVariants.{Unsound, Template, NoRoom}
 use Rattle.answer.specs.declared.Answer.{Answer}
 use Rattle.answer.specs.declared.Answer.TheVariants.{Value}
@@ -29,23 +28,30 @@ unfoldable pub missing : List ℕ → ℕ → Entry → ℕ
 missing w n e = cond (is_nothing (find_in w n e)) 1 0
 
 -- the number that an entry has, or gets as entry k
-abbrev pub number_or : Found → ℕ → ℕ
-number_or (At t) k = t.0
-number_or Nothing k = k
+abbrev pub number_or : Option TypeNo → ℕ → ℕ
+number_or (Some t) k = t.0
+number_or None k = k
 
 -- v with e as entry k, where e was not found
-abbrev pub add_at : Found → List ℕ → ℕ → Entry → List ℕ
-add_at (At t) v k e = v
-add_at Nothing v k e = put_entry v k e
+abbrev pub add_at : Option TypeNo → List ℕ → ℕ → Entry → List ℕ
+add_at (Some t) v k e = v
+add_at None v k e = put_entry v k e
+
+-- the reply of entering: the entry's number and the used count afterwards, or how many entries lack
+abbrev pub there : TypeNo → ℕ → Result Entered Lacks
+there t m = Ok (record { ty = t; used = m })
+
+abbrev pub lacks : ℕ → Result Entered Lacks
+lacks k = Err (record { 0 = k })
 
 -- entering e in a table of n entries: the reply, and the words afterwards
-unfoldable pub entered : List ℕ → ℕ → Entry → Entered
-entered w n e = cond (leb (missing w n e) (free w n)) (There (record { 0 = number_or (find_in w n e) n }) (n + missing w n e)) (Lacks (lacking w n (missing w n e)))
+unfoldable pub entered : List ℕ → ℕ → Entry → Result Entered Lacks
+entered w n e = cond (leb (missing w n e) (free w n)) (there (record { 0 = number_or (find_in w n e) n }) (n + missing w n e)) (lacks (lacking w n (missing w n e)))
 
 unfoldable pub enter_words : List ℕ → ℕ → Entry → List ℕ
 enter_words w n e = cond (leb (missing w n e) (free w n)) (add_at (find_in w n e) w n e) w
 
-pub record EnterDone (w : List ℕ) (n : ℕ) (e : Entry) (r : Entered) (after : List ℕ) : Type 0 where
+pub record EnterDone (w : List ℕ) (n : ℕ) (e : Entry) (r : Result Entered Lacks) (after : List ℕ) : Type 0 where
   pub reply : r ≡ entered w n e
   pub words : after ≡ enter_words w n e
 
@@ -61,11 +67,11 @@ unfoldable pub missing_two : List ℕ → ℕ → Entry → Entry → ℕ
 missing_two w n inner outer = missing w n inner + missing w n (outer_over w n inner outer)
 
 -- entering an element and its container: both, or neither where room lacks for one of them
-unfoldable pub entered_two : List ℕ → ℕ → Entry → Entry → Entered
+unfoldable pub entered_two : List ℕ → ℕ → Entry → Entry → Result Entered Lacks
 entered_two w n inner outer =
     cond (leb (missing_two w n inner outer) (free w n))
-    (There (record { 0 = number_or (find_in w n (outer_over w n inner outer)) (n + missing w n inner) }) (n + missing_two w n inner outer))
-    (Lacks (lacking w n (missing_two w n inner outer)))
+    (there (record { 0 = number_or (find_in w n (outer_over w n inner outer)) (n + missing w n inner) }) (n + missing_two w n inner outer))
+    (lacks (lacking w n (missing_two w n inner outer)))
 
 unfoldable pub enter_two_words : List ℕ → ℕ → Entry → Entry → List ℕ
 enter_two_words w n inner outer =
@@ -73,14 +79,14 @@ enter_two_words w n inner outer =
     (add_at (find_in w n (outer_over w n inner outer)) (add_at (find_in w n inner) w n inner) (n + missing w n inner) (outer_over w n inner outer))
     w
 
-pub record EnterTwoDone (w : List ℕ) (n : ℕ) (inner outer : Entry) (r : Entered) (after : List ℕ) : Type 0 where
+pub record EnterTwoDone (w : List ℕ) (n : ℕ) (inner outer : Entry) (r : Result Entered Lacks) (after : List ℕ) : Type 0 where
   pub reply : r ≡ entered_two w n inner outer
   pub words : after ≡ enter_two_words w n inner outer
 
 -- what a call answers by the reply of entering
-abbrev pub entry_answer : ℕ → Entered → ℕ → Answer
-entry_answer place (There t m) n = Value t m
-entry_answer place (Lacks k) n = refuse (NoRoom k) place n
+abbrev pub entry_answer : ℕ → Result Entered Lacks → ℕ → Answer
+entry_answer place (Ok e) n = Value e.ty e.used
+entry_answer place (Err e) n = refuse (NoRoom e.0) place n
 
 -- a host enters a type: 1 for a table that is not sound, 5 for an entry that is not allowed, 9 for want of room, in this order
 -- and at place 0; else its number and the used count

@@ -1,6 +1,6 @@
 -- What an accepted type does to the table: "A result not present is entered, an absent element before its container"; "An accepted call leaves
 -- every earlier entry at its number and adds only the missing entries its result needs". Assumes nothing.
-use Rattle.std.specs.Prelude.{ℕ, zero, suc, ◌+◌, ◌-◌, Bool, cond, List, ◌≡◌, leb}
+use Rattle.std.specs.Prelude.{ℕ, zero, suc, ◌+◌, ◌-◌, Bool, cond, List, ◌≡◌, leb, Option, Some, None}
 use Rattle.conv.specs.Types.{Ty}
 use Rattle.conv.specs.Types.Ty.{scalar, vec, mat, array, runtime, atomic, ptr, ref, frexp, modf, exchange}
 use Rattle.conv.specs.Rank.{same_ty}
@@ -9,17 +9,16 @@ use Rattle.table.specs.Table.{put_entry, or_else}
 use Rattle.table.specs.Denote.{type_at, kind_of, p_of, q_of}
 use Rattle.table.specs.Enter.{free, lacking, enter_type_reply, enter_type_words}
 use Rattle.table.specs.declared.Entry.{Entry}
-use Rattle.table.specs.declared.Found.{Found}
-use Rattle.table.specs.declared.Found.TheVariants.{At, Nothing}
+use Rattle.answer.specs.declared.TypeNo.{TypeNo}
 use Rattle.answer.specs.declared.Reason.{Reason}
 use Rattle.answer.specs.declared.Reason.TheVariants.{NoRoom}
 use Rattle.answer.specs.declared.Answer.{Answer}
 use Rattle.answer.specs.declared.Typed.{Typed}
 
 -- the number of the type R in a table of n entries
-unfoldable pub stands_in : List ℕ → ℕ → Ty → Found
-stands_in w zero R = Nothing
-stands_in w (suc n) R = or_else (stands_in w n R) (cond (same_ty (type_at w n) R) (At (record { 0 = n })) Nothing)
+unfoldable pub stands_in : List ℕ → ℕ → Ty → Option TypeNo
+stands_in w zero R = None
+stands_in w (suc n) R = or_else (stands_in w n R) (cond (same_ty (type_at w n) R) (Some (record { 0 = n })) None)
 
 -- where a type comes to stand: its number, the used count and the words, however many entries that takes
 pub record Standing : Type 0 where
@@ -35,9 +34,9 @@ abbrev pub entry_of : Ty → ℕ → Entry
 entry_of R k = record { kind = kind_of R; p = p_of R; q = q_of R; elem = k }
 
 -- R, whose element has its place already: at its number, or as the next entry
-abbrev pub or_next : Found → ℕ → List ℕ → Ty → Standing → Standing
-or_next (At t) n w R inner = stands_at t.0 n w
-or_next Nothing n w R inner = stands_at inner.used (inner.used + 1) (put_entry inner.words inner.used (entry_of R inner.number))
+abbrev pub or_next : Option TypeNo → ℕ → List ℕ → Ty → Standing → Standing
+or_next (Some t) n w R inner = stands_at t.0 n w
+or_next None n w R inner = stands_at inner.used (inner.used + 1) (put_entry inner.words inner.used (entry_of R inner.number))
 
 unfoldable pub placed_over : List ℕ → ℕ → Ty → Standing → Standing
 placed_over w n R inner = or_next (stands_in w n R) n w R inner

@@ -1,10 +1,9 @@
 -- Document 01, "The type table": a lent slice of words w and a used count n. Assumes nothing.
-use Rattle.std.specs.Prelude.{ℕ, zero, suc, ◌+◌, ◌*◌, ◌≤◌, ◌<◌, Bool, true, false, ◌&&◌, ◌||◌, not, cond, ◌≡◌, List, length, get_or, set, leb, ltb, eqb}
+use Rattle.std.specs.Prelude.{ℕ, zero, suc, ◌+◌, ◌*◌, ◌≤◌, ◌<◌, Bool, true, false, ◌&&◌, ◌||◌, not, cond, ◌≡◌, List, length, get_or, set, leb, ltb, eqb, Option, Some, None}
 use Rattle.conv.specs.Types.{i32, u32, storage, handle, read_write, is_float, is_abstract, is_width}
 use Rattle.table.specs.Tools.{all_below}
 use Rattle.table.specs.declared.Entry.{Entry}
-use Rattle.table.specs.declared.Found.{Found}
-use Rattle.table.specs.declared.Found.TheVariants.{At, Nothing}
+use Rattle.answer.specs.declared.TypeNo.{TypeNo}
 
 -- "Entry i is the four words kind, p, q, elem": how many words an entry has
 abbrev pub stride : ℕ
@@ -165,18 +164,18 @@ made_ok w i e = ltb e.elem i && row_ok e (entry_at w e.elem).kind (base_of w e.e
 unfoldable pub entry_ok : List ℕ → ℕ → Entry → Bool
 entry_ok w i e = cond (ltb i scalars) (scalar_ok i e) (made_ok w i e)
 
-abbrev pub or_else : Found → Found → Found
-or_else (At t) g = At t
-or_else Nothing g = g
+abbrev pub or_else : Option TypeNo → Option TypeNo → Option TypeNo
+or_else (Some t) g = Some t
+or_else None g = g
 
 -- the number of the first of the first n entries that has e's key
-unfoldable pub find_in : List ℕ → ℕ → Entry → Found
-find_in w zero e = Nothing
-find_in w (suc n) e = or_else (find_in w n e) (cond (sameb (entry_at w n) e) (At (record { 0 = n })) Nothing)
+unfoldable pub find_in : List ℕ → ℕ → Entry → Option TypeNo
+find_in w zero e = None
+find_in w (suc n) e = or_else (find_in w n e) (cond (sameb (entry_at w n) e) (Some (record { 0 = n })) None)
 
-abbrev pub is_nothing : Found → Bool
-is_nothing (At t) = false
-is_nothing Nothing = true
+abbrev pub is_nothing : Option TypeNo → Bool
+is_nothing (Some t) = false
+is_nothing None = true
 
 -- entry i is as its row says, and equals no entry before it
 abbrev pub good_at : List ℕ → ℕ → Bool

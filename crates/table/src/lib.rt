@@ -1,13 +1,12 @@
 // The type table: entries of four words in a lent slice.
 #![tactic(auto)]
 
-ghost use Rattle.std.specs.Prelude.{◌≡◌, ℕ, ◌+◌, ◌*◌, ◌≤◌, ◌<◌, List, length, true};
+ghost use Rattle.std.specs.Prelude.{◌≡◌, ℕ, ◌+◌, ◌*◌, ◌≤◌, ◌<◌, List, length, true, None};
 ghost use Rattle.conv.specs.Types.{is_width, is_float, is_abstract, abstract_ty};
 ghost use Rattle.table.specs.Table.{stride, scalars, ceiling, kind_ptr, entry_at, sameb, words_unused, stored, sized, row_ok, base_of, scalar_ok, made_ok, find_in, is_nothing, good_at, soundb, allowedb, Sound};
 ghost use Rattle.table.specs.Denote.{type_at};
 ghost use Rattle.table.specs.Tools.{all_below};
 ghost use Rattle.table.specs.inner.Slots.{scalar_at, places, word_end, mixed, folded, entry_slot, turns_of, fork, Linked, Ended, Based};
-ghost use Rattle.table.specs.declared.Found.TheVariants.{Nothing};
 
 pub use answer::{
     Answer, Place, Reason, Refusal, TypeNo, Typed, accepted, lacking_of, marked, no_value,
@@ -100,19 +99,16 @@ pub struct Entry {
     pub elem: u32,
 }
 
-// Whether an entry stands in the table, and where.
+// What entering gives: the number of the entry, and the used count afterwards.
 #[derive(Clone, Copy)]
-pub enum Found {
-    At(TypeNo),
-    Nothing,
+pub struct Entered {
+    pub ty: TypeNo,
+    pub used: usize,
 }
 
-// What entering gives: the number of the entry and the used count afterwards, or how many entries lack.
+// Where there is no room to enter: how many entries lack.
 #[derive(Clone, Copy)]
-pub enum Entered {
-    There(TypeNo, usize),
-    Lacks(u32),
-}
+pub struct Lacks(pub u32);
 
 // Entry i. This and `entering::put_entry` are the only two that know how an entry lies in the words.
 pub fn entry_at(words: &[u32], i: usize) -> Entry
@@ -288,18 +284,18 @@ fn made_ok(words: &[u32], i: usize, e: Entry) -> bool
 }
 
 // The number of the first of the first n entries that has e's key.
-pub fn find(words: &[u32], n: usize, e: Entry) -> Found
+pub fn find(words: &[u32], n: usize, e: Entry) -> Option<TypeNo>
     requires { n * stride ≤ length words.now }
     ensures { result ≡ find_in words.now n e }
 {
     let mut i = 0;
     while i < n {
         if same(entry_at(words, i), e) {
-            return Found::At(TypeNo(i));
+            return Some(TypeNo(i));
         }
         i += 1;
     }
-    Found::Nothing
+    None
 }
 
 // Whether entries 0 to 6 are the scalars.
@@ -358,7 +354,7 @@ fn fork_of(k: usize, turns: u64) -> usize
 
 // The free place on e's way; or `PLACES` where an entry with e's key stands on it.
 fn free_place(words: &[u32], links: &[u8], i: usize, e: Entry) -> usize
-    requires { (i * stride ≤ length words.now) × (scalars ≤ i) × (i ≤ ceiling) × (find_in words.now scalars e ≡ Nothing) × Linked words.now i links.now }
+    requires { (i * stride ≤ length words.now) × (scalars ≤ i) × (i ≤ ceiling) × (find_in words.now scalars e ≡ None) × Linked words.now i links.now }
     ensures { Ended words.now i links.now e result }
 {
     let mut place = slot_of(e);

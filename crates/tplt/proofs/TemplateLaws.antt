@@ -16,7 +16,9 @@ use Rattle.table.specs.Denote.{made, type_at, ty_of, kind_of}
 use Rattle.table.specs.Enter.{EnterDone, entry_answer}
 use Rattle.table.specs.Placing.{entering}
 use Rattle.table.specs.declared.Entry.{Entry}
+use Rattle.std.specs.Prelude.{Result}
 use Rattle.table.specs.declared.Entered.{Entered}
+use Rattle.table.specs.declared.Lacks.{Lacks}
 use Rattle.answer.specs.declared.TypeNo.{TypeNo}
 use Rattle.answer.specs.declared.Answer.{Answer}
 use Rattle.answer.specs.declared.Reason.TheVariants.{Unknown, Template, Count}
@@ -119,7 +121,7 @@ module _ (w : List ℕ) where
         taken-allowed = ap (allowedb w n) eq ∙ entry-allowed p f
 
         -- what entering it gives
-        pub entered-outcome : outcome_of w n p ≡ entering 0 w n (type_of w p) → (x : Entered) (v : List ℕ) → EnterDone w n e x v → (r : Answer) → r ≡ entry_answer 0 x n → Outcomes w n p r v
+        pub entered-outcome : outcome_of w n p ≡ entering 0 w n (type_of w p) → (x : Result Entered Lacks) (v : List ℕ) → EnterDone w n e x v → (r : Answer) → r ≡ entry_answer 0 x n → Outcomes w n p r v
         entered-outcome o x v d r q =
             record { outcome = ap (λ (y : Answer). record { answer = y; words = v }) q ∙ enter-outcome 0 w n s e taken-allowed x v d ∙ ap (entering 0 w n) (ap (ty_of w) eq ∙ entry-type p) ∙ sym o }
 

@@ -24,8 +24,8 @@ use Rattle.answer.specs.declared.Typed.{Typed}
 use Rattle.table.specs.Table.{stride, ceiling, or_else, entry_at, entry_key, soundb, Sound, Keeps}
 use Rattle.table.specs.Enter.{free}
 use Rattle.table.specs.Placing.{stands_in, Standing, or_next, placed_over, placed, Outcome, entering, GaveMarked}
-use Rattle.table.specs.declared.Found.{Found}
-use Rattle.table.specs.declared.Found.TheVariants.{At, Nothing}
+use Rattle.std.specs.Prelude.{Option, Some, None}
+use Rattle.answer.specs.declared.TypeNo.{TypeNo}
 use Rattle.table.proofs.KindLaws.{split}
 use Rattle.table.proofs.SoundLaws.{sound-of, of-sound, keeps_entry, keeps-ok}
 use Rattle.table.proofs.TypeLaws.{type-keeps}
@@ -64,15 +64,15 @@ module _ (w v : List ℕ) (n : ℕ) (k : Keeps w v n) where
   stands_same R zero h = refl
   stands_same R (suc m) h =
       rw (stands_same R m (omega arith))
-      (ap (λ (t : Ty). or_else (stands_in w m R) (cond (same_ty t R) (At (record { 0 = m })) Nothing)) (type-keeps w v n k m h))
+      (ap (λ (t : Ty). or_else (stands_in w m R) (cond (same_ty t R) (Some (record { 0 = m })) None)) (type-keeps w v n k m h))
 
   over-same : (R : Ty) (x x' : Standing) → Level x' x → Level (placed_over v n R x') (placed_over w n R x)
   unfolding placed_over
   over-same R x x' e = rw (stands_same R n (omega arith)) (go (stands_in w n R))
     where
-      go : (f : Found) → Level (or_next f n v R x') (or_next f n w R x)
-      go (At t) = (refl, refl)
-      go Nothing = (e.1, ap (λ (m : ℕ). m + 1) e.1)
+      go : (f : Option TypeNo) → Level (or_next f n v R x') (or_next f n w R x)
+      go (Some t) = (refl, refl)
+      go None = (e.1, ap (λ (m : ℕ). m + 1) e.1)
 
   placed_same : (R : Ty) → Level (placed v n R) (placed w n R)
   unfolding placed

@@ -5,13 +5,13 @@ use native.Mathlib.Omega.{arith}
 use lib.ListN.{length}
 use Rattle.table.proofs.EnterCases.{free-room, two-full, two-new}
 use Rattle.table.proofs.SoundLaws.{put-length}
-use Rattle.table.specs.declared.Entered.TheVariants.{Lacks}
+use Rattle.table.specs.Enter.{lacks}
 use Rattle.table.specs.Enter.{EnterTwoDone}
 use Rattle.entering.proofs.enter_both.Goals as goal
 
 pub returns-then-room-lt2 : goal.returns-then-room-lt2
 returns-then-room-lt2 c = let a = c.args in
-    subst (λ (r : ℕ). EnterTwoDone a.words.now a.n a.inner a.outer (Lacks (2 - r)) a.words.now) (sym c.free_of-room.ensures)
+    subst (λ (r : ℕ). EnterTwoDone a.words.now a.n a.inner a.outer (lacks (2 - r)) a.words.now) (sym c.free_of-room.ensures)
     (two-full a.words.now a.n a.inner a.outer c.requires.0 c.requires.1 (omega (arith, c.free_of-room.ensures)))
 
 pub put_entry-requires : goal.put_entry-requires

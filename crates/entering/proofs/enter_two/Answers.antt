@@ -9,20 +9,11 @@ use Rattle.entering.proofs.enter_two.Goals as goal
 pub container_of-requires : goal.container_of-requires
 container_of-requires c =
     let a = c.args in
-    let t = find_at a.words.now a.inner a.n _ (sym c.find-f.ensures ∙ c.in-At.is) in
+    let t = find_at a.words.now a.inner a.n _ (sym c.find.ensures ∙ c.in-Some.is) in
     omega (arith, t.0, c.requires.high)
 
-pub enter-requires : goal.enter-requires
-enter-requires c = c.requires
-
-pub enter_both-requires : goal.enter_both-requires
-enter_both-requires c = (c.requires, sym c.find-f.ensures ∙ c.in-Nothing.is)
-
-pub returns-in-At : goal.returns-in-At
-returns-in-At c =
+pub returns-in-Some : goal.returns-in-Some
+returns-in-Some c =
     let a = c.args in
-    let o : c.container_of.result ≡ container a.outer c.in-At.t.0 = c.container_of.ensures in
-    two-found a.words.now a.n a.inner a.outer _ (sym c.find-f.ensures ∙ c.in-At.is) _ _ (rw o at c.enter.ensures)
-
-pub returns-in-Nothing : goal.returns-in-Nothing
-returns-in-Nothing c = c.enter_both.ensures
+    let o : c.container_of.result ≡ container a.outer c.in-Some.t.0 = c.container_of.ensures in
+    two-found a.words.now a.n a.inner a.outer _ (sym c.find.ensures ∙ c.in-Some.is) _ _ (rw o at c.enter.ensures)
