@@ -1,5 +1,5 @@
 -- The character of an answer, on the table of the 55 types and on one of some more. Assumes nothing.
-use Rattle.std.specs.Prelude.{ℕ, ◌+◌, ◌-◌, ◌*◌, ◌/◌, ◌%◌, cond, not, ◌&&◌, ◌||◌, List, length, ◌==◌, nat_le, nat_lt}
+use Rattle.std.specs.Prelude.{ℕ, ◌+◌, ◌-◌, ◌*◌, ◌/◌, ◌%◌, cond, not, ◌&&◌, ◌||◌, List, length, Option, None, Some, ◌==◌, nat_le, nat_lt}
 use Rattle.conv.specs.Types.{abstract_float, f32, f16}
 use Rattle.answer.specs.Answer.{reason_no}
 use Rattle.answer.specs.declared.Refusal.{Refusal}
@@ -34,16 +34,17 @@ abbrev pub modfs : ℕ
 modfs = 67
 
 -- the place of a float's width among the results, and then of the float; a type that is no float scalar or vector has none
-abbrev pub float_place : ℕ → ℕ
+abbrev pub float_place : ℕ → Option ℕ
 float_place t =
-    cond (nat_le 4 (t / 7)) other_char
-    (cond (t % 7 == abstract_float) (t / 7 * 3)
-    (cond (t % 7 == f32) (t / 7 * 3 + 1)
-    (cond (t % 7 == f16) (t / 7 * 3 + 2) other_char)))
+    cond (nat_le 4 (t / 7)) None
+    (cond (t % 7 == abstract_float) (Some (t / 7 * 3))
+    (cond (t % 7 == f32) (Some (t / 7 * 3 + 1))
+    (cond (t % 7 == f16) (Some (t / 7 * 3 + 2)) None)))
 
 -- of the twelve results, the one at a place
-abbrev pub result_char : ℕ → ℕ → ℕ
-result_char first place = cond (nat_le 12 place) other_char (first_char + first + place)
+abbrev pub result_char : ℕ → Option ℕ → ℕ
+result_char first None = other_char
+result_char first (Some place) = cond (nat_le 12 place) other_char (first_char + first + place)
 
 -- an entry that is a result of frexp or of modf
 abbrev pub entry_char : Entry → ℕ

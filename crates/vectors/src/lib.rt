@@ -3,12 +3,15 @@
 // The result types of frexp follow, then those of modf: over the scalar, vec2, vec3 and vec4, each of AbstractFloat, f32 and f16.
 #![tactic(auto)]
 
-ghost use Rattle.std.specs.Prelude.{◌≡◌, ◌<◌, ◌≤◌, length};
+ghost use Rattle.std.specs.Prelude.{◌≡◌, ◌<◌, ◌≤◌};
+ghost use Rattle.answer.specs.Answer.{reason_no};
 ghost use Rattle.vectors.specs.Filled.{float_no, entry_of, FillDone};
 ghost use Rattle.vectors.specs.Chars.{modfs, most_types, float_place, result_char, entry_char, new_char, value_char, silent_char, reason_char, refusal_char, char_of, answer_char, type_no};
-ghost use Rattle.vectors.specs.Lines.{counted_of, line_end};
 
-use table::{Answer, Entry, Refusal};
+mod rows;
+
+pub use rows::{Counts, Lines, counted, line_end, replay};
+use table::{Answer, Entry, Place, Reason, Refusal, TypeNo};
 
 // How many types the table holds, and the most that a table may hold whose types have characters.
 pub const TYPES: usize = 55;
@@ -43,18 +46,6 @@ const SILENT: u8 = b'%';
 
 pub const OTHER: u8 = b'!';
 
-const LINE_END: u8 = 10;
-
-// The numbers of those refusals: no overload fits, an unknown name, a wrong count of operands, an operand that is running and abstract, one that is a reference.
-const NO_OVERLOAD: u8 = 8;
-
-const UNKNOWN: u8 = 4;
-
-const OPERANDS: u8 = 7;
-
-const RUNNING_ABSTRACT: u8 = 14;
-
-const REFERENCE: u8 = 3;
 // The words of a table of one type more.
 const WORDS: usize = 224;
 // The number of the first result type of frexp, and of modf.
@@ -66,13 +57,11 @@ const MODFS: u8 = 67;
 fn float_no(k: u32) -> u32
     ensures { result ≡ float_no k }
 {
-    if k == 0 {
-        return ABSTRACT_FLOAT;
+    match k {
+        0 => ABSTRACT_FLOAT,
+        1 => F32,
+        _ => F16,
     }
-    if k == 1 {
-        return F32;
-    }
-    F16
 }
 
 // The entry of a vector or matrix by its number.
@@ -107,56 +96,50 @@ pub fn fill(words: &mut [u32]) -> usize
     used
 }
 
-// The place of a type that is a float scalar or vector, by its width and then its float, or OTHER.
-fn float_place(t: u32) -> u8
+// The place of a type that is a float scalar or vector, by its width and then its float.
+fn float_place(t: u32) -> Option<u8>
     ensures { result ≡ float_place t }
 {
     let width = t / SCALARS;
     if 4 <= width {
-        return OTHER;
+        return None;
     }
-    let of = t % SCALARS;
-    let w = (width as u8) * 3;
-    if of == ABSTRACT_FLOAT {
-        return w;
+    let first = width as u8 * 3;
+    match t % SCALARS {
+        ABSTRACT_FLOAT => Some(first),
+        F32 => Some(first + 1),
+        F16 => Some(first + 2),
+        _ => None,
     }
-    if of == F32 {
-        return w + 1;
-    }
-    if of == F16 {
-        return w + 2;
-    }
-    OTHER
 }
 
 // The character of the result type over a float's place, whose first has that number.
-fn result_char(first: u8, place: u8) -> u8
+fn result_char(first: u8, place: Option<u8>) -> u8
     requires { first ≤ modfs }
     ensures { result ≡ result_char first place }
 {
-    if 12 <= place {
-        return OTHER;
+    match place {
+        Some(k) if k < 12 => FIRST + first + k,
+        _ => OTHER,
     }
-    FIRST + first + place
 }
 
 // The character of an entry that is a result type of frexp or of modf.
 fn entry_char(e: Entry) -> u8
     ensures { result ≡ entry_char e }
 {
-    if (e.p != 0) | (e.q != 0) {
+    if e.p != 0 || e.q != 0 {
         return OTHER;
     }
-    if e.kind == table::KIND_FREXP {
-        return result_char(FREXPS, float_place(e.elem));
+    match e.kind {
+        table::KIND_FREXP => result_char(FREXPS, float_place(e.elem)),
+        table::KIND_MODF => result_char(MODFS, float_place(e.elem)),
+        _ => OTHER,
     }
-    if e.kind == table::KIND_MODF {
-        return result_char(MODFS, float_place(e.elem));
-    }
-    OTHER
 }
 
 // The character of the entry after the 55.
+#[tactic(auto, unfolding(crate::specs::Chars::new_char))]
 fn new_char(words: &[u32]) -> u8
     ensures { result ≡ new_char words.now }
 {
@@ -171,68 +154,59 @@ fn value_char(types: usize, new: u8, t: usize, used: usize) -> u8
     requires { types ≤ most_types }
     ensures { result ≡ value_char types new t used }
 {
-    if t < types {
-        if used != types {
-            return OTHER;
-        }
-        return FIRST + t as u8;
+    if t < types && used == types {
+        FIRST + t as u8
+    } else if t == types && used == types + 1 {
+        new
+    } else {
+        OTHER
     }
-    if (t == types) & (used == types + 1) {
-        return new;
-    }
-    OTHER
 }
 
 // The character of a call without value, which entered nothing.
 fn silent_char(types: usize, used: usize) -> u8
     ensures { result ≡ silent_char types used }
 {
-    if used == types {
-        return SILENT;
-    }
-    OTHER
+    if used == types { SILENT } else { OTHER }
 }
 
-// The character of a refusal's number.
-fn reason_char(n: u8) -> u8
-    ensures { result ≡ reason_char n }
+// The character of a refusal: no overload fits, an unknown name, a wrong count of operands, an operand that is running and abstract, one that is a reference.
+fn reason_char(reason: Reason) -> u8
+    ensures { result ≡ reason_char (reason_no reason) }
 {
-    if n == NO_OVERLOAD {
-        return REFUSED;
+    match reason {
+        Reason::NoOverload => REFUSED,
+        Reason::Unknown => NO_NAME,
+        Reason::Operands => MISCOUNTED,
+        Reason::RunningAbstract => RUNNING_REFUSED,
+        Reason::Reference => REFERENCE_REFUSED,
+        _ => OTHER,
     }
-    if n == UNKNOWN {
-        return NO_NAME;
-    }
-    if n == OPERANDS {
-        return MISCOUNTED;
-    }
-    if n == RUNNING_ABSTRACT {
-        return RUNNING_REFUSED;
-    }
-    if n == REFERENCE {
-        return REFERENCE_REFUSED;
-    }
-    OTHER
 }
 
 fn refusal_char(types: usize, refusal: Refusal) -> u8
     ensures { result ≡ refusal_char types refusal }
 {
-    let reason = refusal.reason;
-    let place = refusal.place;
-    if (place.0 == 0) & (refusal.used == types) {
-        return reason_char(table::reason_no(reason));
+    let Refusal {
+        reason,
+        place: Place(place),
+        used,
+    } = refusal;
+    if place == 0 && used == types {
+        reason_char(reason)
+    } else {
+        OTHER
     }
-    OTHER
 }
 
 // The character of an answer of a call on a table that had so many types before it; `new` is that of the entry after them.
+#[tactic(auto, unfolding(crate::specs::Chars::char_of))]
 pub fn char_of(types: usize, new: u8, answer: Answer) -> u8
     requires { types ≤ most_types }
     ensures { result ≡ char_of types new answer }
 {
     match answer {
-        Answer::Value(t, used) => value_char(types, new, t.0, used),
+        Answer::Value(TypeNo(t), used) => value_char(types, new, t, used),
         Answer::NoValue(used) => silent_char(types, used),
         Answer::Refused(refusal) => refusal_char(types, refusal),
     }
@@ -246,38 +220,13 @@ pub fn answer_char(words: &[u32], answer: Answer) -> u8
 }
 
 // The number of a type by its character; below the first, a number that no type has.
+// Stays: no `Option`, since each caller hands the number on as an operand, and numbers above 54, which no type has either, come of characters above the last.
 pub fn type_no(c: u8) -> u32
     ensures upper_bound { result < 256 }
     ensures value { result ≡ type_no c }
 {
-    if c < FIRST {
-        return END;
+    match c.checked_sub(FIRST) {
+        Some(t) => u32::from(t),
+        None => END,
     }
-    (c - FIRST) as u32
-}
-
-// The count, one higher where a row agreed.
-pub fn counted(n: u64, agreed: bool) -> u64
-    ensures { result ≡ counted_of n agreed }
-{
-    if agreed {
-        return std::num::wrapping_add_u64(n, 1);
-    }
-    n
-}
-
-// Where the line that begins at a place ends.
-pub fn line_end(s: &[u8], at: usize) -> usize
-    requires { at ≤ length s.now }
-    ensures lower_bound { (at ≤ result) × (result ≤ length s.now) }
-    ensures value { result ≡ line_end s.now at }
-{
-    let mut end = at;
-    while end < s.len() {
-        if s[end] == LINE_END {
-            return end;
-        }
-        end += 1;
-    }
-    end
 }
