@@ -2,7 +2,7 @@
 #![tactic(auto)]
 
 ghost use Rattle.std.specs.Prelude.{◌≡◌, true, false, cond, List, ◌<◌, ◌≤◌, length};
-ghost use Rattle.names.specs.inner.Table.{numbered, name_table};
+ghost use Rattle.names.specs.inner.Table.{numbered};
 ghost use Rattle.conv.specs.Types.{Ty, is_float};
 ghost use Rattle.table.specs.Table.{Sound};
 ghost use Rattle.table.specs.Placing.{Gave, GaveMarked};
@@ -13,7 +13,7 @@ ghost use Rattle.call_ty.specs.Calls.{template_right, operands_of, given_by, giv
 ghost use Rattle.call_ty.specs.inner.Codes.{by_number, Under, numbers_if, Loaded, numeric_code};
 
 use conv::{PLAINS, SCALARS};
-use names::RuleNo;
+use names::{NamedRule, Names};
 use ruled::REFERENCE;
 use table::{Answer, Place, Reason, TypeNo, Typed};
 
@@ -233,26 +233,26 @@ fn unmarked(reason: Reason, place: Place, n: usize) -> Typed
     table::marked(table::refused(reason, place, n), false)
 }
 
-// A call of a builtin of a profile on loaded operands, at a place; the table of names is lent as rows.
+// A call of a builtin of a profile on loaded operands, at a place; the names are lent.
 pub fn call_at(
     words: &mut [u32],
     n: usize,
     place: Place,
-    rows: &[u8],
+    names: &Names,
     profile: u32,
     name: &[u8],
     tplt: &[u32],
     args: &[u32],
 ) -> Typed
-    requires { Sound words.old n × Under n tplt.now × Under n (numbers args.now) × (rows.now ≡ name_table) }
+    requires { Sound words.old n × Under n tplt.now × Under n (numbers args.now) }
     ensures { GaveMarked (call_outcome profile place.0 words.old n name.now (types words.old tplt.now) (types words.old (numbers args.now)) (marks_of args.now)) (builtin_runs profile name.now args.now) result words.new }
 {
-    match names::rule_of(rows, profile, name) {
-        RuleNo::Is { rule, running } => {
+    match names.rule_of(profile, name) {
+        Some(NamedRule { rule, running }) => {
             let r = by_rule(words, n, place, rule, tplt, args);
             table::marked(r, running | any_running(args))
         }
-        RuleNo::Unknown => unmarked(Reason::Unknown, place, n),
+        None => unmarked(Reason::Unknown, place, n),
     }
 }
 
@@ -276,6 +276,5 @@ pub fn type_builtin_fn(
     if !all_under(args, true, n) {
         return unmarked(Reason::NoSuchType, Place(0), n);
     }
-    let rows = names::name_table();
-    call_at(words, n, Place(0), &rows, profile, name, tplt, args)
+    call_at(words, n, Place(0), &Names::new(), profile, name, tplt, args)
 }

@@ -4,7 +4,6 @@
 
 ghost use Rattle.std.specs.Prelude.{◌≡◌, [], ◌+◌, ◌/◌, ◌<◌, ◌≤◌, length, get_or};
 ghost use Rattle.table.specs.Table.{Sound};
-ghost use Rattle.names.specs.inner.Table.{name_table};
 ghost use Rattle.frame.specs.Frame.{is_item, name_of, Within};
 ghost use Rattle.frame.specs.inner.Items.{sheet_of};
 ghost use Rattle.text.specs.Text.{Put, far};
@@ -18,6 +17,7 @@ ghost use Rattle.desk.specs.inner.Code.{Finds, pieces_of, Asking, Queries, NoQue
 
 use cast::wide;
 use frame::{HEADER, Item, Placed};
+use names::Names;
 use step::Did;
 use table::{Answer, Place, SCALARS};
 use why::Asked;
@@ -99,14 +99,14 @@ fn is_told(a: Answer, size: usize, x: Placed) -> bool
 fn find(
     version: u8,
     items: &[u8],
-    rows: &[u8],
+    names: &Names,
     profile: u32,
     a: Answer,
     table: &mut [u32],
     used: usize,
     stack: &mut [u32],
 ) -> Stand
-    requires { Sound table.old used × (length stack.old ≡ 64) × (rows.now ≡ name_table) }
+    requires { Sound table.old used × (length stack.old ≡ 64) }
     ensures { Finds (sheet_of version items.now) (told_of profile table.old used (sheet_of version items.now) a) result stack.new table.new }
 {
     let mut count: usize = 0;
@@ -125,7 +125,7 @@ fn find(
         match step::step(
             version,
             items,
-            rows,
+            names,
             profile,
             item,
             Place(at),
@@ -171,11 +171,10 @@ fn stand_in(profile: u32, sheet: &[u8], words: &mut [u32], stack: &mut [u32]) ->
         return Stand::Nowhere;
     }
     let a = answer_of(profile, sheet);
-    let rows = names::name_table();
     find(
         sheet[0],
         &sheet[HEADER..],
-        &rows,
+        &Names::new(),
         profile,
         a,
         words,

@@ -22,7 +22,8 @@ use Rattle.table.proofs.Giving.{gave-whole}
 use Rattle.names.specs.Names.{Named, rule_of}
 use Rattle.names.specs.Names.Named.{rule}
 use Rattle.names.specs.inner.Table.{numbered, rule_at, replied}
-use Rattle.names.specs.declared.RuleNo.TheVariants.{Is}
+use Rattle.std.proofs.Common.{Some}
+use Rattle.names.specs.declared.NamedRule.{NamedRule}
 use Rattle.names.proofs.Found.{stands-rule}
 use Rattle.names.proofs.Rules.{said-rule}
 use Rattle.conv.specs.Types.{bool}
@@ -217,13 +218,13 @@ call-asked profile s name k number runs code j l m h e c d =
     record { asks = inr (rw (z, d) (call_asks profile s name k number runs l m h e)) }
 
 -- a row asks by its rule, which is that of every name that stands there
-module _ (profile row k number : ℕ) (runs : Bool) where
-  pub row-asked : (code j : ℕ) → 1 ≤ k → k ≤ 3 → number < 128 → replied (rule_at profile row) ≡ Is number runs → code ≡ 24 + number → j ≡ k → AsksRow profile row k code j runs
+module _ (profile row k : ℕ) (n : NamedRule) where
+  pub row-asked : (code j : ℕ) → 1 ≤ k → k ≤ 3 → n.rule < 128 → replied (rule_at profile row) ≡ Some n → code ≡ 24 + n.rule → j ≡ k → AsksRow profile row k code j n.running
   row-asked code j l m h e c d =
       record {
         asks = λ s name stands.
-            call-asked profile s name k number runs code j l m h
-            (said-rule profile (bytes_of s name) number (ap replied (sym (stands-rule profile (bytes_of s name) row stands)) ∙ e)) c d;
+            call-asked profile s name k n.rule n.running code j l m h
+            (said-rule profile (bytes_of s name) n (ap replied (sym (stands-rule profile (bytes_of s name) row stands)) ∙ e)) c d;
       }
 
 pub row-none : (profile row k code j : ℕ) (runs : Bool) → code ≡ 0 → AsksRow profile row k code j runs

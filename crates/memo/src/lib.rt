@@ -8,7 +8,6 @@ ghost use Rattle.held.specs.Held.{number_of};
 ghost use Rattle.call_ty.specs.Calls.{numbers};
 ghost use Rattle.frame.specs.inner.Items.{sheet_of, LiesIn, NameIn};
 ghost use Rattle.frame.specs.declared.Item.TheVariants.{Call};
-ghost use Rattle.names.specs.inner.Table.{name_table};
 ghost use Rattle.call_ty.specs.inner.Codes.{Under};
 ghost use Rattle.step.specs.Effect.{effect_of};
 ghost use Rattle.step.specs.inner.Code.{state_of, Ready, Does};
@@ -18,7 +17,7 @@ ghost use Rattle.memo.specs.inner.Quick.{AsksShort, Answers, Quick, QuickEver, Q
 
 use cast::{wide, wide32, word64};
 use frame::{ITEM_BINARY, ITEM_PUSH, ITEM_UNARY, Item, Part, SHORT_BYTES, Short};
-use names::RuleNo;
+use names::{NamedRule, Names};
 use step::{Did, VALUES};
 use table::{Place, TypeNo};
 
@@ -201,15 +200,14 @@ fn hint_of(name: &[u8]) -> usize
 }
 
 // A call of a builtin on k operands asks by the rule that the row of its name has in a profile.
-fn asked_row(rows: &[u8], profile: u32, row: usize, k: u8) -> Ask
-    requires { rows.now ≡ name_table }
+fn asked_row(names: &Names, profile: u32, row: usize, k: u8) -> Ask
     ensures { AsksRow profile row k result.code result.operands result.runs }
 {
     if (k < 1) | (OPERANDS < k) {
         return no_ask();
     }
-    match names::rule_at(rows, profile, row) {
-        RuleNo::Is { rule, running } => {
+    match names.rule_at(profile, row) {
+        Some(NamedRule { rule, running }) => {
             if RULES <= rule {
                 return no_ask();
             }
@@ -219,7 +217,7 @@ fn asked_row(rows: &[u8], profile: u32, row: usize, k: u8) -> Ask
                 runs: running,
             }
         }
-        RuleNo::Unknown => no_ask(),
+        None => no_ask(),
     }
 }
 
@@ -227,46 +225,56 @@ fn asked_row(rows: &[u8], profile: u32, row: usize, k: u8) -> Ask
 fn asked_call(
     version: u8,
     items: &[u8],
-    rows: &[u8],
+    names: &Names,
     profile: u32,
     name: Part,
     k: u8,
     memo: &mut [u64],
 ) -> Ask
-    requires { LiesIn (length items.now) name × (rows.now ≡ name_table) × (length memo.old ≡ 320) }
+    requires { LiesIn (length items.now) name × (length memo.old ≡ 320) }
     ensures { Asks profile (sheet_of version items.now) (Call k name) result.code result.operands result.runs × Hinted memo.old memo.new }
 {
     let bytes = frame::name_in(items, name);
-    let row = names::find(rows, bytes);
-    let hint = hint_of(bytes);
-    memo[hint] = row as u64;
-    asked_row(rows, profile, row, k)
+    match names.find(bytes) {
+        Some(row) => {
+            memo[hint_of(bytes)] = row as u64;
+            asked_row(names, profile, row, k)
+        }
+        None => no_ask(),
+    }
 }
 
 // The same by the hint; nothing is asked where that is no row of this name.
 fn asked_again(
     version: u8,
     items: &[u8],
-    rows: &[u8],
+    names: &Names,
     profile: u32,
     name: Part,
     k: u8,
     memo: &[u64],
 ) -> Ask
-    requires { LiesIn (length items.now) name × (rows.now ≡ name_table) × (length memo.now ≡ 320) }
+    requires { LiesIn (length items.now) name × (length memo.now ≡ 320) }
     ensures { Asks profile (sheet_of version items.now) (Call k name) result.code result.operands result.runs }
 {
     let bytes = frame::name_in(items, name);
     let hint = hint_of(bytes);
     let row = memo[hint] as usize;
-    if !names::has_name(rows, row, bytes) {
+    if !names.has_name(row, bytes) {
         return no_ask();
     }
-    asked_row(rows, profile, row, k)
+    asked_row(names, profile, row, k)
 }
 
-fn asked(version: u8, items: &[u8], rows: &[u8], profile: u32, item: Item, memo: &mut [u64]) -> Ask
-    requires { NameIn (length items.now) item × (rows.now ≡ name_table) × (length memo.old ≡ 320) }
+fn asked(
+    version: u8,
+    items: &[u8],
+    names: &Names,
+    profile: u32,
+    item: Item,
+    memo: &mut [u64],
+) -> Ask
+    requires { NameIn (length items.now) item × (length memo.old ≡ 320) }
     ensures { Asks profile (sheet_of version items.now) item result.code result.operands result.runs × Hinted memo.old memo.new }
 {
     match item {
@@ -282,7 +290,7 @@ fn asked(version: u8, items: &[u8], rows: &[u8], profile: u32, item: Item, memo:
             running: false,
             bytes: SHORT_BYTES,
         }),
-        Item::Call { count: k, name } => asked_call(version, items, rows, profile, name, k, memo),
+        Item::Call { count: k, name } => asked_call(version, items, names, profile, name, k, memo),
         _ => no_ask(),
     }
 }
@@ -446,7 +454,7 @@ pub fn quick_at(
 pub fn call_at(
     version: u8,
     items: &[u8],
-    rows: &[u8],
+    names: &Names,
     profile: u32,
     at: Place,
     stack: &mut [u32],
@@ -455,14 +463,14 @@ pub fn call_at(
     used: usize,
     memo: &[u64],
 ) -> Went
-    requires { Ready count stack.old used table.now × Recalls memo.now table.now used × (rows.now ≡ name_table) }
+    requires { Ready count stack.old used table.now × Recalls memo.now table.now used }
     ensures { CallAt profile (sheet_of version items.now) at.0 count stack.old used table.now result.count result.bytes stack.new }
 {
     let found = frame::item_in(version, items, at);
     let item = found.item;
     match item {
         Item::Call { count: k, name } => {
-            let ask = asked_again(version, items, rows, profile, name, k, memo);
+            let ask = asked_again(version, items, names, profile, name, k, memo);
             let left = recalled(
                 step::keeps_marks(version),
                 ask,
@@ -486,7 +494,7 @@ pub fn call_at(
 pub fn noted_step(
     version: u8,
     items: &[u8],
-    rows: &[u8],
+    names: &Names,
     profile: u32,
     item: Item,
     at: Place,
@@ -496,18 +504,18 @@ pub fn noted_step(
     used: usize,
     memo: &mut [u64],
 ) -> Did
-    requires { Ready count stack.old used table.old × NameIn (length items.now) item × Recalls memo.old table.old used × (rows.now ≡ name_table) }
+    requires { Ready count stack.old used table.old × NameIn (length items.now) item × Recalls memo.old table.old used }
     ensures { Does (effect_of profile at.0 (state_of count stack.old used table.old) (sheet_of version items.now) item) result stack.new table.new × AfterStep result memo.new table.new }
 {
     let a = keyed(
         step::keeps_marks(version),
-        asked(version, items, rows, profile, item, memo),
+        asked(version, items, names, profile, item, memo),
         stack,
         count,
     );
     if a.number == 0 {
         return step::step(
-            version, items, rows, profile, item, at, stack, count, table, used,
+            version, items, names, profile, item, at, stack, count, table, used,
         );
     }
     let t = recall(memo, a.slot, a.number);
@@ -520,7 +528,7 @@ pub fn noted_step(
         };
     }
     let d = step::step(
-        version, items, rows, profile, item, at, stack, count, table, used,
+        version, items, names, profile, item, at, stack, count, table, used,
     );
     note_did(memo, a.slot, a.number, d, stack);
     d

@@ -8,13 +8,17 @@ use mathlib.Core.List.{List, [], ◌∷◌}
 use lib.Dec.{ltb}
 use lib.ListN.{length, get_or}
 use borrow.Author.Tests.{ltb-true, ltb-false, lt-ltb, le-ltb, lt-leb, le-leb}
+use Rattle.std.proofs.Common.{Some, None}
+use Rattle.std.specs.declared.cmp.Ordering.{Ordering}
+use Rattle.std.specs.declared.cmp.Ordering.TheVariants.{Less, Equal, Greater}
+use Rattle.std.proofs.Common.{is_eq}
 use Rattle.names.specs.Names.{Name, names, no_name, name_at, count, same_bytes, profiles, within, rule_for, rule_in, rule_of}
 use Rattle.names.specs.Names.Named.{rule, unknown}
-use Rattle.names.specs.inner.Table.{name_width, ends_blank, StandsAt, has_name, rule_at}
+use Rattle.names.specs.inner.Table.{name_width, ends_blank, Ordered, StandsAt, has_name, rule_at}
 use Rattle.names.proofs.Bytes.{differ, same_self, same_bytes_lem}
 use Rattle.names.proofs.Order.{once}
 use Rattle.names.proofs.Lines.{at}
-use Rattle.names.proofs.Letters.{short, no-blank-end}
+use Rattle.names.proofs.Letters.{short, no-blank-end, row_named, none-earlier, none-later}
 
 -- THE RULE OF A NAME, by the row that has it: no name stands twice
 
@@ -47,9 +51,6 @@ too_long s h k l e = let m = short k l in let n : length (name_at k) ≡ length 
 pub blank-end : (s : List ℕ) → ends_blank s ≡ true → (k : ℕ) → k < count → name_at k ≡ s → ⊥
 blank-end s h k l e = let z = sym (no-blank-end k l) ∙ ap ends_blank e ∙ h in let y : ◌≡◌ {A = ℕ} 0 1 = cc in omega arith
 
-pub nowhere : (s : List ℕ) (k : ℕ) → k ≡ count → ((j : ℕ) → j < count → name_at j ≡ s → ⊥) → StandsAt s k
-nowhere s k e n = record { within = omega arith; there = λ h. absurd (omega arith); nowhere = λ h. n }
-
 -- WHETHER A ROW HAS A NAME
 
 module _ (k : ℕ) (s : List ℕ) where
@@ -65,16 +66,24 @@ module _ (k : ℕ) (s : List ℕ) where
   unfolding has_name
   has h e = rw (lt-ltb k count h, e, same_self s)
 
+  -- so has one that is the same as a name filled up with blanks, where that is no longer than a line and ends with no blank; and one on either side has not
+  pub has-by : k < count → length s ≤ name_width → ends_blank s ≡ false → (o : Ordering) → Ordered o (name_at k) s → is_eq o ≡ has_name k s
+  unfolding Ordered
+  has-by l w e Less h = sym (has-not l (none-earlier k l s h k (omega arith)))
+  has-by l w e Equal h = sym (has l (row_named k l s w e h))
+  has-by l w e Greater h = sym (has-not l (none-later k l s h k (omega arith) l))
+
   same-there : k < count → has_name k s ≡ true → same_bytes (name_at k) s ≡ true
   unfolding has_name
   same-there l h = rw (lt-ltb k count l) at h
 
   -- a row that has a name is where it stands
-  pub has-stands : has_name k s ≡ true → StandsAt s k
+  pub has-stands : has_name k s ≡ true → StandsAt s (Some k)
+  unfolding StandsAt
   has-stands h = go (ltb k count) refl
     where
-      go : (b : Bool) → ltb k count ≡ b → StandsAt s k
-      go true e = let l = ltb-true k count e in record { within = omega arith; there = λ _. same_bytes_lem (name_at k) s (same-there l h); nowhere = λ m. absurd (omega arith) }
+      go : (b : Bool) → ltb k count ≡ b → StandsAt s (Some k)
+      go true e = let l = ltb-true k count e in (l, same_bytes_lem (name_at k) s (same-there l h))
       go false e = let z = sym (past-last (ltb-false k count e)) ∙ h in absurd (let y : ◌≡◌ {A = ℕ} 0 1 = cc in omega arith)
 
 -- THE PROFILE: a name that it has, and one that it has not; an unknown profile has none
@@ -128,9 +137,11 @@ row-unknown profile k h = go (ltb k count) refl
     go true e = row_of profile k (ltb-true k count e) ∙ ap (λ (b : Bool). cond b (rule (at k).rule (at k).running) unknown) (no-profile profile (at k).profile h)
     go false e = row-past profile k (ltb-false k count e)
 
-pub stands-rule : (profile : ℕ) (s : List ℕ) (k : ℕ) → StandsAt s k → rule_at profile k ≡ rule_of profile s
-stands-rule profile s k h = go (ltb k count) refl
-  where
-    go : (b : Bool) → ltb k count ≡ b → rule_at profile k ≡ rule_of profile s
-    go true e = let l = ltb-true k count e in row_of profile k l ∙ sym (found profile s k l (h.there l))
-    go false e = let l = ltb-false k count e in row-past profile k l ∙ sym (missing profile s (h.nowhere l))
+pub stands-rule : (profile : ℕ) (s : List ℕ) (k : ℕ) → StandsAt s (Some k) → rule_at profile k ≡ rule_of profile s
+unfolding StandsAt
+stands-rule profile s k h = row_of profile k h.0 ∙ sym (found profile s k h.0 h.1)
+
+-- and one that stands nowhere has none
+pub stands-nowhere : (profile : ℕ) (s : List ℕ) → StandsAt s None → rule_of profile s ≡ unknown
+unfolding StandsAt
+stands-nowhere profile s h = missing profile s h

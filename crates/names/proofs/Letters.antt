@@ -25,6 +25,11 @@ pub few : count ≤ 1000
 unfolding names
 few = leb→le _ _ tt
 
+-- how many lines the constant has
+pub counted : 131 ≡ count
+unfolding names
+counted = refl
+
 pub short : (k : ℕ) → k < count → length (name_at k) ≤ name_width
 unfolding ascii names name_at both
 short k h = leb→le _ _ (below count (λ k. leb (length (name_at k)) name_width) tt k h)

@@ -15,7 +15,8 @@ use Rattle.names.specs.Names.{Rule, loading, updating, exchanging, uniform_loadi
 use Rattle.names.specs.Names.Rule.{ruling, storing, bitcast, barrier}
 use Rattle.names.specs.Names.Named.{rule, unknown}
 use Rattle.names.specs.inner.Table.{ruling_number, rule_number, numbered, replied}
-use Rattle.names.specs.declared.RuleNo.TheVariants.{Is, Unknown}
+use Rattle.std.proofs.Common.{Some, None}
+use Rattle.names.specs.declared.NamedRule.{NamedRule}
 
 -- what changes no rule of a list changes none that a name has there
 abbrev Fixes : (Rule → Rule) → List Name → Type 0
@@ -45,23 +46,22 @@ impossible : {P : Type 0} → ◌≡◌ {A = ℕ} 0 1 → P
 impossible z = absurd (omega arith)
 
 module _ (profile : ℕ) (s : List ℕ) where
-  pub said-rule : (k : ℕ) {m : Bool} → replied (rule_of profile s) ≡ Is k m → rule_of profile s ≡ rule (numbered k) m
+  pub said-rule : (k : NamedRule) → replied (rule_of profile s) ≡ Some k → rule_of profile s ≡ rule (numbered k.rule) k.running
   unfolding replied
-  said-rule k {m} e = go (rule_of profile s) refl e
+  said-rule k e = go (rule_of profile s) refl e
     where
-      go : (a : Named) → rule_of profile s ≡ a → replied a ≡ Is k m → rule_of profile s ≡ rule (numbered k) m
+      go : (a : Named) → rule_of profile s ≡ a → replied a ≡ Some k → rule_of profile s ≡ rule (numbered k.rule) k.running
       go (rule R d) p q =
-          let i : rule_number R ≡ k = cc in
-          let j : d ≡ m = cc in
-          let t : R ≡ numbered k = sym (rule-numbered profile s R p) ∙ ap numbered i in
-          p ∙ (λ x. rule (t x) (j x))
+          let h : ◌≡◌ {A = NamedRule} (record { rule = rule_number R; running = d }) k = cc in
+          let t : R ≡ numbered k.rule = sym (rule-numbered profile s R p) ∙ ap (λ (x : NamedRule). numbered x.rule) h in
+          p ∙ (λ x. rule (t x) (h x).running)
       go unknown p q = impossible (cc)
 
-  pub said-unknown : replied (rule_of profile s) ≡ Unknown → rule_of profile s ≡ unknown
+  pub said-unknown : replied (rule_of profile s) ≡ None → rule_of profile s ≡ unknown
   unfolding replied
   said-unknown e = go (rule_of profile s) refl e
     where
-      go : (a : Named) → rule_of profile s ≡ a → replied a ≡ Unknown → rule_of profile s ≡ unknown
+      go : (a : Named) → rule_of profile s ≡ a → replied a ≡ None → rule_of profile s ≡ unknown
       go (rule R d) p q = impossible (cc)
       go unknown p q = p
 

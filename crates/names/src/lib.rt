@@ -7,8 +7,8 @@ ghost use Rattle.std.specs.Prelude.{◌≡◌, false, ◌<◌, ◌≤◌, length
 ghost use Rattle.names.specs.Names.{count, name_at, rule_of};
 ghost use Rattle.names.specs.inner.Table.{name_table, ends_blank, Ordered, StandsAt, has_name, rule_at, replied};
 
-pub use tables::name_table;
-use tables::{LINE_WIDTH, NAME_WIDTH};
+use std::cmp::Ordering;
+use tables::{COUNT, LINE_WIDTH, NAME_WIDTH};
 
 // The numbers of the crate rules and of the calls on memory. A number below the first is that of a row of overloads.
 pub const RULE_BITCAST: u8 = 100;
@@ -40,19 +40,18 @@ const MARK_AT: usize = 2;
 
 const MARK_RUNNING: u8 = 1;
 
-// The number of a rule, and whether its result is running even so.
-#[derive(Clone, Copy)]
-pub enum RuleNo {
-    Is { rule: u8, running: bool },
-    Unknown,
+// The number of a name's rule, and whether its result is running even where all operands are const.
+#[derive(Clone, Copy, PartialEq, Eq, Debug)]
+pub struct NamedRule {
+    pub rule: u8,
+    pub running: bool,
 }
 
-// How one name stands to another, both filled up with blanks.
-#[derive(Clone, Copy)]
-enum Side {
-    Before,
-    Same,
-    After,
+// The names: made once where a run or a single call begins, and lent from there.
+#[derive(Drop)]
+pub struct Names {
+    rows: [u8; COUNT * LINE_WIDTH],
+    ghost stand: { rows ≡ name_table },
 }
 
 // Whether the last byte of a name is a blank.
@@ -66,118 +65,119 @@ fn ends_blank(name: &[u8]) -> bool
     name[count - 1] == BLANK
 }
 
-// How a line's name stands to this one, by the first letter in which they differ. Where this one ends, the line's next letter decides.
-fn compared(rows: &[u8], row: usize, name: &[u8]) -> Side
-    requires { (rows.now ≡ name_table) × (row < count) × (length name.now ≤ 32) }
-    ensures { Ordered result (name_at row) name.now }
-{
-    let from = row * LINE_WIDTH;
-    let mut i = 0;
-    while i < name.len() {
-        let letter = rows[from + i];
-        let other = name[i];
-        if letter != other {
-            if letter < other {
-                return Side::Before;
-            }
-            return Side::After;
-        }
-        i += 1;
-    }
-    if NAME_WIDTH <= i {
-        return Side::Same;
-    }
-    if rows[from + i] != BLANK {
-        return Side::After;
-    }
-    Side::Same
-}
-
-// The row that has this name, or their count where none has: what is left of the sorted rows is halved until it is there, or none is left.
-fn row_of(rows: &[u8], name: &[u8], lines: usize) -> usize
-    requires { (rows.now ≡ name_table) × (length name.now ≤ 32) × (ends_blank name.now ≡ false) × (lines ≡ count) }
-    ensures { StandsAt name.now result }
-{
-    let mut low = 0;
-    let mut high = lines;
-    while low < high {
-        let middle = (low + high) / 2;
-        match compared(rows, middle, name) {
-            Side::Before => {
-                low = middle + 1;
-            }
-            Side::Same => {
-                return middle;
-            }
-            Side::After => {
-                high = middle;
-            }
+impl Names {
+    pub fn new() -> Self
+        ensures { result.rows ≡ name_table }
+    {
+        Names {
+            rows: tables::name_table(),
         }
     }
-    lines
-}
 
-// The row that has the name with these bytes, or their count where none has.
-pub fn find(rows: &[u8], name: &[u8]) -> usize
-    requires { rows.now ≡ name_table }
-    ensures { StandsAt name.now result }
-{
-    let lines = tables::lines();
-    if NAME_WIDTH < name.len() {
-        return lines;
+    // How a line's name stands to this one, by the first letter in which they differ. Where this one ends, the line's next letter decides.
+    fn compared(&self, row: usize, name: &[u8]) -> Ordering
+        requires { (row < count) × (length name.now ≤ 32) }
+        ensures { Ordered result (name_at row) name.now }
+    {
+        let from = row * LINE_WIDTH;
+        let mut i = 0;
+        while i < name.len() {
+            let letter = self.rows[from + i];
+            let other = name[i];
+            if letter != other {
+                if letter < other {
+                    return Ordering::Less;
+                }
+                return Ordering::Greater;
+            }
+            i += 1;
+        }
+        if NAME_WIDTH <= i {
+            return Ordering::Equal;
+        }
+        if self.rows[from + i] != BLANK {
+            return Ordering::Greater;
+        }
+        Ordering::Equal
     }
-    if ends_blank(name) {
-        return lines;
-    }
-    row_of(rows, name, lines)
-}
 
-// Whether a row has the name with these bytes: it need be no row at all.
-pub fn has_name(rows: &[u8], row: usize, name: &[u8]) -> bool
-    requires { rows.now ≡ name_table }
-    ensures { result ≡ has_name row name.now }
-{
-    if tables::lines() <= row {
-        return false;
+    // The row that has this name: what is left of the sorted rows is halved until it is there, or none is left.
+    fn row_of(&self, name: &[u8]) -> Option<usize>
+        requires { (length name.now ≤ 32) × (ends_blank name.now ≡ false) }
+        ensures { StandsAt name.now result }
+    {
+        let mut low = 0;
+        let mut high = COUNT;
+        while low < high {
+            let middle = (low + high) / 2;
+            match self.compared(middle, name) {
+                Ordering::Less => {
+                    low = middle + 1;
+                }
+                Ordering::Equal => {
+                    return Some(middle);
+                }
+                Ordering::Greater => {
+                    high = middle;
+                }
+            }
+        }
+        None
     }
-    if NAME_WIDTH < name.len() {
-        return false;
-    }
-    if ends_blank(name) {
-        return false;
-    }
-    match compared(rows, row, name) {
-        Side::Before => false,
-        Side::Same => true,
-        Side::After => false,
-    }
-}
 
-// The number of the rule that the name of a row has in a profile, and whether its result is running.
-pub fn rule_at(rows: &[u8], profile: u32, row: usize) -> RuleNo
-    requires { rows.now ≡ name_table }
-    ensures { result ≡ replied (rule_at profile row) }
-{
-    if PROFILES <= profile {
-        return RuleNo::Unknown;
+    // The row that has the name with these bytes.
+    pub fn find(&self, name: &[u8]) -> Option<usize>
+        ensures { StandsAt name.now result }
+    {
+        if NAME_WIDTH < name.len() {
+            return None;
+        }
+        if ends_blank(name) {
+            return None;
+        }
+        self.row_of(name)
     }
-    if tables::lines() <= row {
-        return RuleNo::Unknown;
-    }
-    let number = row * LINE_WIDTH + NAME_WIDTH;
-    if profile < cast::wide32(rows[number + PROFILE_AT]) {
-        return RuleNo::Unknown;
-    }
-    RuleNo::Is {
-        rule: rows[number],
-        running: rows[number + MARK_AT] == MARK_RUNNING,
-    }
-}
 
-// The same of the name with these bytes. For the crates above, which lend the table: a host calls nothing of this crate.
-pub fn rule_of(rows: &[u8], profile: u32, name: &[u8]) -> RuleNo
-    requires { rows.now ≡ name_table }
-    ensures { result ≡ replied (rule_of profile name.now) }
-{
-    rule_at(rows, profile, find(rows, name))
+    // Whether a row has the name with these bytes: it need be no row at all.
+    pub fn has_name(&self, row: usize, name: &[u8]) -> bool
+        ensures { result ≡ has_name row name.now }
+    {
+        if COUNT <= row {
+            return false;
+        }
+        if NAME_WIDTH < name.len() {
+            return false;
+        }
+        if ends_blank(name) {
+            return false;
+        }
+        self.compared(row, name).is_eq()
+    }
+
+    // The number of the rule that the name of a row has in a profile, and whether its result is running.
+    pub fn rule_at(&self, profile: u32, row: usize) -> Option<NamedRule>
+        ensures { result ≡ replied (rule_at profile row) }
+    {
+        if PROFILES <= profile {
+            return None;
+        }
+        if COUNT <= row {
+            return None;
+        }
+        let number = row * LINE_WIDTH + NAME_WIDTH;
+        if profile < cast::wide32(self.rows[number + PROFILE_AT]) {
+            return None;
+        }
+        Some(NamedRule {
+            rule: self.rows[number],
+            running: self.rows[number + MARK_AT] == MARK_RUNNING,
+        })
+    }
+
+    // The same of the name with these bytes. For the crates above, which lend the names: a host calls nothing of this crate.
+    pub fn rule_of(&self, profile: u32, name: &[u8]) -> Option<NamedRule>
+        ensures { result ≡ replied (rule_of profile name.now) }
+    {
+        self.rule_at(profile, self.find(name)?)
+    }
 }

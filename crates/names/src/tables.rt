@@ -1,6 +1,5 @@
 // The names, sorted by their bytes, as rows of one width: a line for each.
 ghost use Rattle.std.specs.Prelude.{◌≡◌};
-ghost use Rattle.names.specs.Names.{count};
 ghost use Rattle.names.specs.inner.Table.{name_table};
 
 // The width of a line: the longest name that a sheet holds, the number of its rule, its profile and its mark.
@@ -9,7 +8,7 @@ pub const NAME_WIDTH: usize = 32;
 pub const LINE_WIDTH: usize = 35;
 
 // The letters of each name, filled up with blanks, then the number of its rule, the first profile that has it, and 1 where its result is running. `tools/names` writes the lines.
-const COUNT: usize = 131;
+pub const COUNT: usize = 131;
 
 const NAMES: [u8; COUNT * LINE_WIDTH] = *b"\
         abs                             \x10\x00\x00\
@@ -144,14 +143,7 @@ const NAMES: [u8; COUNT * LINE_WIDTH] = *b"\
         workgroupBarrier                \x67\x00\x00\
         workgroupUniformLoad            \x6c\x00\x01";
 
-// How many lines there are.
-pub fn lines() -> usize
-    ensures { result ≡ count }
-{
-    COUNT
-}
-
-// The table: made once where a run or a single call begins, and lent from there.
+// The table of the names.
 pub fn name_table() -> [u8; COUNT * LINE_WIDTH]
     ensures { result ≡ name_table }
 {

@@ -4,10 +4,9 @@
 // A line that begins with `#` ends a group: it is written with the group's counts.
 #![tactic(auto)]
 
-ghost use Rattle.std.specs.Prelude.{◌≡◌, ◌≤◌, length};
-ghost use Rattle.names.specs.inner.Table.{name_table};
+ghost use Rattle.std.specs.Prelude.{◌≤◌, length};
 
-use names::RuleNo;
+use names::{NamedRule, Names};
 use std::io;
 
 const GROUP: u8 = b'#';
@@ -45,79 +44,66 @@ struct Tally {
 }
 
 // Whether a reply is the one of a line's three digits and mark.
-fn is_reply(reply: RuleNo, hundreds: u8, tens: u8, ones: u8, mark: u8) -> bool {
+fn is_reply(reply: Option<NamedRule>, hundreds: u8, tens: u8, ones: u8, mark: u8) -> bool {
     match reply {
-        RuleNo::Is { rule, running } => (ZERO + rule / 100 == hundreds)
+        Some(NamedRule { rule, running }) => (ZERO + rule / 100 == hundreds)
             & (ZERO + rule / 10 % 10 == tens)
             & (ZERO + rule % 10 == ones)
             & (running == (mark != CONST)),
-        RuleNo::Unknown => false,
+        None => false,
     }
 }
 
 // Whether a profile has no such name.
-fn is_unknown(rows: &[u8], profile: u32, name: &[u8]) -> bool
-    requires { rows.now ≡ name_table }
-{
-    if let RuleNo::Unknown = names::rule_of(rows, profile, name) {
-        return true;
-    }
-    false
+fn is_unknown(names: &Names, profile: u32, name: &[u8]) -> bool {
+    names.rule_of(profile, name).is_none()
 }
 
 // Whether two unknown profiles have no such name.
-fn in_no_profile(rows: &[u8], name: &[u8]) -> bool
-    requires { rows.now ≡ name_table }
-{
-    is_unknown(rows, NO_PROFILE, name) & is_unknown(rows, LAST_PROFILE, name)
+fn in_no_profile(names: &Names, name: &[u8]) -> bool {
+    is_unknown(names, NO_PROFILE, name) & is_unknown(names, LAST_PROFILE, name)
 }
 
 // Whether the reply in a profile that has a line's name is right.
-fn is_right(rows: &[u8], profile: u32, line: &[u8]) -> bool
-    requires { (rows.now ≡ name_table) × (4 ≤ length line.now) }
+fn is_right(names: &Names, profile: u32, line: &[u8]) -> bool
+    requires { 4 ≤ length line.now }
 {
-    let reply = names::rule_of(rows, profile, &line[NAME_AT..]);
+    let reply = names.rule_of(profile, &line[NAME_AT..]);
     is_reply(reply, line[0], line[1], line[2], line[MARK_AT])
 }
 
 // The same in profile 0, which does not have every name.
-fn is_right_in_fewer(rows: &[u8], line: &[u8]) -> bool
-    requires { (rows.now ≡ name_table) × (4 ≤ length line.now) }
+fn is_right_in_fewer(names: &Names, line: &[u8]) -> bool
+    requires { 4 ≤ length line.now }
 {
     if line[MARK_AT] == ADDED {
-        return is_unknown(rows, 0, &line[NAME_AT..]);
+        return is_unknown(names, 0, &line[NAME_AT..]);
     }
-    is_right(rows, 0, line)
+    is_right(names, 0, line)
 }
 
 // The verdict on bytes that are no name.
-fn judged_unknown(rows: &[u8], name: &[u8]) -> Verdict
-    requires { rows.now ≡ name_table }
-{
-    let profiles = is_unknown(rows, 0, name) & is_unknown(rows, 1, name);
-    if profiles & in_no_profile(rows, name) {
+fn judged_unknown(names: &Names, name: &[u8]) -> Verdict {
+    let profiles = is_unknown(names, 0, name) & is_unknown(names, 1, name);
+    if profiles & in_no_profile(names, name) {
         return Verdict::Unknown;
     }
     Verdict::Wrong
 }
 
 // The verdict on a line that has a name.
-fn judged_known(rows: &[u8], line: &[u8]) -> Verdict
-    requires { rows.now ≡ name_table }
-{
+fn judged_known(names: &Names, line: &[u8]) -> Verdict {
     if line.len() < NAME_AT {
         return Verdict::Wrong;
     }
-    let profiles = is_right_in_fewer(rows, line) & is_right(rows, 1, line);
-    if profiles & in_no_profile(rows, &line[NAME_AT..]) {
+    let profiles = is_right_in_fewer(names, line) & is_right(names, 1, line);
+    if profiles & in_no_profile(names, &line[NAME_AT..]) {
         return Verdict::Known;
     }
     Verdict::Wrong
 }
 
-fn judged(rows: &[u8], line: &[u8]) -> Verdict
-    requires { rows.now ≡ name_table }
-{
+fn judged(names: &Names, line: &[u8]) -> Verdict {
     if line.len() == 0 {
         return Verdict::Wrong;
     }
@@ -126,9 +112,9 @@ fn judged(rows: &[u8], line: &[u8]) -> Verdict
         return Verdict::Group;
     }
     if first == NO_RULE {
-        return judged_unknown(rows, &line[1..]);
+        return judged_unknown(names, &line[1..]);
     }
-    judged_known(rows, line)
+    judged_known(names, line)
 }
 
 fn write_count(rt: &impl Print, n: u64, what: &[u8]) -> io::Result<()> {
@@ -174,7 +160,7 @@ fn counted(tally: Tally, verdict: Verdict) -> Tally {
 }
 
 fn replay(rt: &impl Print, s: &[u8]) -> io::Result<()> {
-    let rows = names::name_table();
+    let names = Names::new();
     let mut tally = Tally {
         known: 0,
         unknown: 0,
@@ -184,7 +170,7 @@ fn replay(rt: &impl Print, s: &[u8]) -> io::Result<()> {
     while at < s.len() {
         let end = vectors::line_end(s, at);
         let line = &s[at..end];
-        let verdict = judged(&rows, line);
+        let verdict = judged(&names, line);
         if let Verdict::Group = verdict {
             write_group(rt, line, tally)?;
         }

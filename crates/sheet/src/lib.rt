@@ -4,7 +4,6 @@
 ghost use Rattle.std.specs.Prelude.{false, ◌≡◌, ◌≤◌, length, get_or, take};
 ghost use Rattle.table.specs.Table.{Sound};
 ghost use Rattle.table.specs.Placing.{GaveMarked};
-ghost use Rattle.names.specs.inner.Table.{name_table};
 ghost use Rattle.answer.specs.Answer.{marked_by};
 ghost use Rattle.held.specs.Held.{mark_of};
 ghost use Rattle.frame.specs.Frame.{header_size, item_at, items_from};
@@ -17,6 +16,7 @@ ghost use Rattle.sheet.specs.inner.Code.{TurnsBy, Turns, AfterTurn, Rushes, Rush
 
 use frame::HEADER;
 use memo::SLOTS;
+use names::Names;
 use step::{Did, VALUES};
 use table::{Answer, Place, Reason, Typed};
 
@@ -94,7 +94,7 @@ fn turn_by(d: Did, size: usize, at: Place, next: Place, stack: &[u32]) -> Turn
 fn one_turn(
     version: u8,
     items: &[u8],
-    rows: &[u8],
+    names: &Names,
     profile: u32,
     at: Place,
     stack: &mut [u32],
@@ -103,13 +103,13 @@ fn one_turn(
     used: usize,
     memo: &mut [u64],
 ) -> Turn
-    requires { Ready count stack.old used table.old × Recalls memo.old table.old used × (rows.now ≡ name_table) }
+    requires { Ready count stack.old used table.old × Recalls memo.old table.old used }
     ensures { Turns (turn_of profile (sheet_of version items.now) (item_at (sheet_of version items.now) at.0) (state_of count stack.old used table.old)) (end_mark (effect_of profile at.0 (state_of count stack.old used table.old) (sheet_of version items.now) (item_at (sheet_of version items.now) at.0).item)) (item_at (sheet_of version items.now) at.0).next.0 result stack.new table.new × AfterTurn result memo.new table.new }
 {
     let found = frame::item_in(version, items, at);
     let item = found.item;
     let d = memo::noted_step(
-        version, items, rows, profile, item, at, stack, count, table, used, memo,
+        version, items, names, profile, item, at, stack, count, table, used, memo,
     );
     turn_by(d, HEADER + items.len(), at, found.next, stack)
 }
@@ -147,7 +147,7 @@ fn rush(
 fn rush_calls(
     version: u8,
     items: &[u8],
-    rows: &[u8],
+    names: &Names,
     profile: u32,
     from: Place,
     stack: &mut [u32],
@@ -156,7 +156,7 @@ fn rush_calls(
     used: usize,
     memo: &[u64],
 ) -> Rushed
-    requires { Ready count stack.old used table.now × Recalls memo.now table.now used × (rows.now ≡ name_table) }
+    requires { Ready count stack.old used table.now × Recalls memo.now table.now used }
     ensures { RushesIn profile (sheet_of version items.now) from.0 count stack.old used table.now result stack.new }
 {
     let mut at = from.0;
@@ -164,7 +164,7 @@ fn rush_calls(
     loop {
         let r = rush(version, items, Place(at), stack, count, table, used, memo);
         let went = memo::call_at(
-            version, items, rows, profile, r.at, stack, r.count, table, used, memo,
+            version, items, names, profile, r.at, stack, r.count, table, used, memo,
         );
         if went.count == 0 {
             return r;
@@ -179,14 +179,14 @@ fn rush_calls(
 fn run_on(
     version: u8,
     items: &[u8],
-    rows: &[u8],
+    names: &Names,
     profile: u32,
     table: &mut [u32],
     used: usize,
     stack: &mut [u32],
     memo: &mut [u64],
 ) -> Typed
-    requires { Sound table.old used × (length stack.old ≡ 64) × Recalls memo.old table.old used × (rows.now ≡ name_table) }
+    requires { Sound table.old used × (length stack.old ≡ 64) × Recalls memo.old table.old used }
     ensures { GaveMarked (run_items profile (sheet_of version items.now) (items_from (sheet_of version items.now) header_size) (begun table.old used)) (runs_items profile (sheet_of version items.now) (items_from (sheet_of version items.now) header_size) (begun table.old used)) result table.new }
 {
     let mut count: usize = 0;
@@ -196,7 +196,7 @@ fn run_on(
         let r = rush_calls(
             version,
             items,
-            rows,
+            names,
             profile,
             Place(at),
             stack,
@@ -206,7 +206,7 @@ fn run_on(
             memo,
         );
         match one_turn(
-            version, items, rows, profile, r.at, stack, r.count, table, used, memo,
+            version, items, names, profile, r.at, stack, r.count, table, used, memo,
         ) {
             Turn::More {
                 count: c,
@@ -229,13 +229,12 @@ fn run(version: u8, items: &[u8], profile: u32, table: &mut [u32], used: usize) 
     requires { Sound table.old used }
     ensures { GaveMarked (run_items profile (sheet_of version items.now) (items_from (sheet_of version items.now) header_size) (begun table.old used)) (runs_items profile (sheet_of version items.now) (items_from (sheet_of version items.now) header_size) (begun table.old used)) result table.new }
 {
-    let rows = names::name_table();
     let mut values = [0u32; VALUES];
     let mut results = [0u64; SLOTS];
     run_on(
         version,
         items,
-        &rows,
+        &Names::new(),
         profile,
         table,
         used,

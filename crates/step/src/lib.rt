@@ -8,7 +8,6 @@ ghost use Rattle.table.specs.Denote.{type_at};
 ghost use Rattle.table.specs.Placing.{Gave};
 ghost use Rattle.frame.specs.Frame.{marks};
 ghost use Rattle.frame.specs.inner.Items.{sheet_of, LiesIn, NameIn};
-ghost use Rattle.names.specs.inner.Table.{name_table};
 ghost use Rattle.call_ty.specs.Calls.{numbers, marks_of, types};
 ghost use Rattle.call_ty.specs.inner.Codes.{Under};
 ghost use Rattle.step.specs.Effect.{bytes_of, entry_of, push_effect, is_valued, calling, call_effect, template_effect, take_effect, effect_of};
@@ -16,6 +15,7 @@ ghost use Rattle.step.specs.inner.Code.{state_of, turned_away, Arity, operator_o
 
 use cast::{wide, wide32};
 use frame::{Item, Part, VERSION_2};
+use names::Names;
 use table::{Answer, Entry, Place, Reason, Refusal, TypeNo};
 
 // How many values the stack holds.
@@ -153,9 +153,9 @@ fn is_valued(a: Answer) -> bool
     }
 }
 
-// A call on the last k values, with its template list; the table of names is lent as rows. On a full stack it has no operand, and its value has no place.
+// A call on the last k values, with its template list; the names are lent. On a full stack it has no operand, and its value has no place.
 fn call_on(
-    rows: &[u8],
+    names: &Names,
     keeps: bool,
     profile: u32,
     name: &[u8],
@@ -167,7 +167,7 @@ fn call_on(
     table: &mut [u32],
     used: usize,
 ) -> Did
-    requires { Ready count stack.old used table.old × Under used tplt.now × (k ≤ count) × (rows.now ≡ name_table) }
+    requires { Ready count stack.old used table.old × Under used tplt.now × (k ≤ count) }
     ensures { Does (calling keeps profile at.0 (state_of count stack.old used table.old) name.now (types table.old tplt.now) k) result stack.new table.new }
 {
     let base = count - k;
@@ -175,7 +175,7 @@ fn call_on(
         table,
         used,
         at,
-        rows,
+        names,
         profile,
         name,
         tplt,
@@ -191,7 +191,7 @@ fn call_on(
 fn call(
     version: u8,
     items: &[u8],
-    rows: &[u8],
+    names: &Names,
     profile: u32,
     name: Part,
     k: u8,
@@ -201,7 +201,7 @@ fn call(
     table: &mut [u32],
     used: usize,
 ) -> Did
-    requires { Ready count stack.old used table.old × LiesIn (length items.now) name × (rows.now ≡ name_table) }
+    requires { Ready count stack.old used table.old × LiesIn (length items.now) name }
     ensures { Does (call_effect (marks version) profile at.0 (state_of count stack.old used table.old) (bytes_of (sheet_of version items.now) name) k) result stack.new table.new }
 {
     let k = wide(k);
@@ -211,7 +211,7 @@ fn call(
     let bytes = frame::name_in(items, name);
     let list: [u32; 0] = [];
     call_on(
-        rows,
+        names,
         keeps_marks(version),
         profile,
         bytes,
@@ -228,7 +228,7 @@ fn call(
 fn call_template(
     version: u8,
     items: &[u8],
-    rows: &[u8],
+    names: &Names,
     profile: u32,
     name: Part,
     t: TypeNo,
@@ -239,7 +239,7 @@ fn call_template(
     table: &mut [u32],
     used: usize,
 ) -> Did
-    requires { Ready count stack.old used table.old × LiesIn (length items.now) name × (rows.now ≡ name_table) }
+    requires { Ready count stack.old used table.old × LiesIn (length items.now) name }
     ensures { Does (template_effect (marks version) profile at.0 (state_of count stack.old used table.old) (bytes_of (sheet_of version items.now) name) t.0 k) result stack.new table.new }
 {
     let template = t.0;
@@ -254,7 +254,7 @@ fn call_template(
     let first = template as u32;
     let list = [first];
     call_on(
-        rows,
+        names,
         keeps_marks(version),
         profile,
         bytes,
@@ -308,7 +308,7 @@ fn entry(kind: u8, p: u32, q: u8, elem: u8) -> Entry
 pub fn step(
     version: u8,
     items: &[u8],
-    rows: &[u8],
+    names: &Names,
     profile: u32,
     item: Item,
     at: Place,
@@ -317,7 +317,7 @@ pub fn step(
     table: &mut [u32],
     used: usize,
 ) -> Did
-    requires { Ready count stack.old used table.old × NameIn (length items.now) item × (rows.now ≡ name_table) }
+    requires { Ready count stack.old used table.old × NameIn (length items.now) item }
     ensures { Does (effect_of profile at.0 (state_of count stack.old used table.old) (sheet_of version items.now) item) result stack.new table.new }
 {
     match item {
@@ -331,14 +331,14 @@ pub fn step(
             operator(op, BINARY, keeps, at, stack, count, table, used)
         }
         Item::Call { count: k, name } => call(
-            version, items, rows, profile, name, k, at, stack, count, table, used,
+            version, items, names, profile, name, k, at, stack, count, table, used,
         ),
         Item::CallTemplate {
             template,
             count: k,
             name,
         } => call_template(
-            version, items, rows, profile, name, template, k, at, stack, count, table, used,
+            version, items, names, profile, name, template, k, at, stack, count, table, used,
         ),
         Item::Take {
             kind,

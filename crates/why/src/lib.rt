@@ -15,7 +15,7 @@ ghost use Rattle.why.specs.Why.{by_answer, unary_pieces, binary_pieces, call_pie
 ghost use Rattle.why.specs.inner.Asks.{has_ruling, Tells, asked_pieces, Asks, Written, Telling, text_room, Short};
 ghost use Rattle.why.specs.declared.Asked.TheVariants as asks;
 
-use names::RuleNo;
+use names::{NamedRule, Names};
 use table::{Answer, Place, Reason, Refusal};
 
 // The number of the refusal that is told about.
@@ -153,15 +153,14 @@ pub fn ask_call(
     ensures { Asks words.now n args.now (call_pieces profile words.now n name.now tplt.now args.now) (type_builtin_fn profile words.now n name.now tplt.now args.now).answer result }
 {
     let answer = trial::builtin(words, n, profile, name, tplt, args);
-    let rows = names::name_table();
-    match names::rule_of(&rows, profile, name) {
-        RuleNo::Is { rule, running } => {
+    match Names::new().rule_of(profile, name) {
+        Some(NamedRule { rule, running }) => {
             if has_ruling(rule) {
                 return told_by(answer, rule);
             }
             untold(answer)
         }
-        RuleNo::Unknown => untold(answer),
+        None => untold(answer),
     }
 }
 

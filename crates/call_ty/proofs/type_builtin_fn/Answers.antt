@@ -27,7 +27,6 @@ call_at-requires c =
       sound-of a.words.now a.n (sym c.sound.ensures ∙ c.if-not-sound.false),
       all_under_lem a.n a.tplt.now (sym c.all_under.ensures ∙ c.if-not-all_under.false),
       all_under_lem a.n (numbers a.args.now) (sym c.all_under-2.ensures ∙ c.if-not-all_under-2.false),
-      c.name_table-rows.ensures,
     )
 
 pub returns : goal.returns

@@ -24,7 +24,7 @@ returns-then-is_told c = let a = c.args in
     (rw (whole_length a.version a.items.now) (sym c.is_told.ensures ∙ c.if-is_told.true))
 
 pub step-requires : goal.step-requires
-step-requires c = let a = c.args in (c.loop-a.invariant.ready, rw c.item_in-x.ensures (name_in a.version a.items.now c.loop-a.at), c.requires.2)
+step-requires c = let a = c.args in (c.loop-a.invariant.ready, rw c.item_in-x.ensures (name_in a.version a.items.now c.loop-a.at))
 
 pub loop-a-smaller : goal.loop-a-smaller
 loop-a-smaller c = let a = c.args in

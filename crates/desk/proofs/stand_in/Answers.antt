@@ -27,7 +27,7 @@ pub slice_bounds-find-start : goal.slice_bounds-find-start
 slice_bounds-find-start c = let h : header_size ≤ length c.args.sheet.now = headed-long _ (sym c.header.ensures ∙ c.if-not-header.false) in search rules
 
 pub find-requires : goal.find-requires
-find-requires c = (subst (λ (w : List ℕ). Sound w scalars) (sym c.requires.0) (sound-of start scalars start-sound), c.requires.1, c.name_table-rows.ensures)
+find-requires c = (subst (λ (w : List ℕ). Sound w scalars) (sym c.requires.0) (sound-of start scalars start-sound), c.requires.1)
 
 pub returns : goal.returns
 returns c = let a = c.args in

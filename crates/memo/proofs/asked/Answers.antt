@@ -6,7 +6,7 @@ use mathlib.Core.Logic.{inl}
 use Rattle.memo.proofs.asked.Goals as goal
 
 pub asked_call-requires : goal.asked_call-requires
-asked_call-requires c = (rw c.in-Call.is at c.requires.0, c.requires.1, c.requires.2)
+asked_call-requires c = (rw c.in-Call.is at c.requires.0, c.requires.1)
 
 pub returns-in-Unary : goal.returns-in-Unary
 returns-in-Unary c = let a = c.args in

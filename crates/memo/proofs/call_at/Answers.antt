@@ -15,7 +15,7 @@ pub asked_again-ask-requires : goal.asked_again-ask-requires
 asked_again-ask-requires c = let a = c.args in
     let x = c.item_in-found in
     let n = name_in a.version a.items.now a.at.0 in
-    (subst (λ (i : Item). NameIn (length a.items.now) i) (ap (λ (y : Placed). y.item) (sym x.ensures) ∙ c.in-Call.is) n, c.requires.2, c.requires.1.size)
+    (subst (λ (i : Item). NameIn (length a.items.now) i) (ap (λ (y : Placed). y.item) (sym x.ensures) ∙ c.in-Call.is) n, c.requires.1.size)
 
 pub recalled-left-requires : goal.recalled-left-requires
 recalled-left-requires c = let a = c.args in

@@ -1,5 +1,5 @@
 -- What the code goes by: which item asks what, and the key of what is asked on the last values of the stack. Assumes nothing.
-use Rattle.std.specs.Prelude.{ℕ, ◌-◌, ◌<◌, ◌≤◌, ◌^◌, ◌≡◌, ◌⊎◌, ◌≢◌, Bool, ◌&&◌, List, length, get_or, take, drop}
+use Rattle.std.specs.Prelude.{ℕ, ◌-◌, ◌<◌, ◌≤◌, ◌^◌, ◌≡◌, ◌⊎◌, ◌≢◌, Bool, ◌&&◌, List, length, get_or, take, drop, Some}
 use Rattle.overload.specs.Overload.{or}
 use Rattle.overload.specs.Marks.{any_running}
 use Rattle.held.specs.Held.{number_of}
@@ -40,7 +40,7 @@ pub record Asks (profile : ℕ) (s : List ℕ) (i : Item) (code k : ℕ) (runs :
 
 -- a row of the names asks on k operands: every call of the name that stands there
 pub record AsksRow (profile row k code j : ℕ) (runs : Bool) : Type 0 where
-  pub asks : (s : List ℕ) (name : Part) → StandsAt (bytes_of s name) row → Asks profile s (Call k name) code j runs
+  pub asks : (s : List ℕ) (name : Part) → StandsAt (bytes_of s name) (Some row) → Asks profile s (Call k name) code j runs
 
 -- the last k of `count` values; their key under a code, and the mark of what it asks
 abbrev pub last_of : ℕ → ℕ → List ℕ → List ℕ

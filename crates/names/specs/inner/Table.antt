@@ -1,14 +1,13 @@
 -- What the code's constant holds: a line for each name. The promise of a call is read without it. Assumes nothing.
-use Rattle.std.specs.Prelude.{ℕ, zero, suc, ◌-◌, ◌≤◌, ◌<◌, ◌≡◌, Bool, ◌&&◌, cond, List, [], ◌∷◌, ◌++◌, T, eqb, ltb, length, get_or}
+use Rattle.std.specs.Prelude.{ℕ, zero, suc, ◌-◌, ◌<◌, ◌≡◌, Bool, ◌&&◌, cond, List, [], ◌∷◌, ◌++◌, T, eqb, ltb, length, get_or, Option, Some, None}
 use Rattle.overload.specs.Rows.{Ruling, row_at}
 use Rattle.overload.specs.Rows.Ruling.{by_row, address, indirection, on_atomic, comparing, uniform_load, array_length}
 use Rattle.names.specs.Names.{Rule, loading, updating, exchanging, uniform_loading, Name, names, no_name, before, same_bytes, count, name_at, Named, rule_for}
 use Rattle.names.specs.Names.Rule.{ruling, storing, bitcast, barrier}
 use Rattle.names.specs.Names.Named.{rule, unknown}
-use Rattle.names.specs.declared.RuleNo.{RuleNo}
-use Rattle.names.specs.declared.RuleNo.TheVariants.{Is, Unknown}
-use Rattle.names.specs.declared.Side.{Side}
-use Rattle.names.specs.declared.Side.TheVariants.{Before, Same, After}
+use Rattle.std.specs.declared.cmp.Ordering.{Ordering}
+use Rattle.std.specs.declared.cmp.Ordering.TheVariants.{Less, Equal, Greater}
+use Rattle.names.specs.declared.NamedRule.{NamedRule}
 
 -- THE NUMBER OF A RULE, a byte, which a name put in later does not move: of a row its own, below 100. No name has the rulings of unary `&` and `*`, or one on atomics with more than one value
 
@@ -42,9 +41,9 @@ numbered k =
     (cond (eqb k 108) uniform_loading barrier)))))))
 
 -- a reply: the number of the rule that a name has, and whether its result is running even so
-unfoldable pub replied : Named → RuleNo
-replied (rule r running) = Is (rule_number r) running
-replied unknown = Unknown
+unfoldable pub replied : Named → Option NamedRule
+replied (rule r running) = Some (record { rule = rule_number r; running = running })
+replied unknown = None
 
 -- A LINE: 32 letters, the name filled up with blanks; then the number of its rule, its profile, and 1 where its result is running, else 0
 
@@ -81,16 +80,15 @@ unfoldable pub ends_blank : List ℕ → Bool
 ends_blank s = eqb (get_or s (length s - 1) 0) blank
 
 -- HOW ONE NAME STANDS TO ANOTHER, both filled up with blanks: since a blank is below every letter and digit, as in the order of the names
-unfoldable pub Ordered : Side → List ℕ → List ℕ → Type 0
-Ordered Before s t = T (before (filled name_width s) (filled name_width t))
-Ordered Same s t = filled name_width s ≡ filled name_width t
-Ordered After s t = T (before (filled name_width t) (filled name_width s))
+unfoldable pub Ordered : Ordering → List ℕ → List ℕ → Type 0
+Ordered Less s t = T (before (filled name_width s) (filled name_width t))
+Ordered Equal s t = filled name_width s ≡ filled name_width t
+Ordered Greater s t = T (before (filled name_width t) (filled name_width s))
 
--- where a name stands: at the row that has it, or past the last where none has
-pub record StandsAt (s : List ℕ) (r : ℕ) : Type 0 where
-  pub within : r ≤ count
-  pub there : r < count → name_at r ≡ s
-  pub nowhere : count ≤ r → (k : ℕ) → k < count → name_at k ≡ s → ⊥
+-- where a name stands: at the row that has it, or nowhere where none has
+unfoldable pub StandsAt : List ℕ → Option ℕ → Type 0
+StandsAt s (Some k) = (k < count) × (name_at k ≡ s)
+StandsAt s None = (k : ℕ) → k < count → name_at k ≡ s → ⊥
 
 -- whether a row has a name, byte for byte
 unfoldable pub has_name : ℕ → List ℕ → Bool

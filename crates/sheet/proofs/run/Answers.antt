@@ -8,4 +8,4 @@ use Rattle.sheet.proofs.run.Goals as goal
 pub run_on-requires : goal.run_on-requires
 unfolding zeros
 run_on-requires c =
-    (c.requires, search rules, recalls-none _ c.args.table.now c.args.used refl refl, c.name_table-rows.ensures)
+    (c.requires, search rules, recalls-none _ c.args.table.now c.args.used refl refl)

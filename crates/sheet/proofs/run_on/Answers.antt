@@ -10,10 +10,10 @@ pub loop-c-init : goal.loop-c-init
 loop-c-init c = let a = c.args in (left-start a.profile (sheet_of a.version a.items.now) a.table.now a.used a.stack.now c.requires.0 c.requires.1, c.requires.2)
 
 pub rush_calls-r-requires : goal.rush_calls-r-requires
-rush_calls-r-requires c = (c.loop-c.invariant.0.ready, c.loop-c.invariant.1, c.requires.3)
+rush_calls-r-requires c = (c.loop-c.invariant.0.ready, c.loop-c.invariant.1)
 
 pub one_turn-requires : goal.one_turn-requires
-one_turn-requires c = (c.rush_calls-r.ensures.ready, c.loop-c.invariant.1, c.requires.3)
+one_turn-requires c = (c.rush_calls-r.ensures.ready, c.loop-c.invariant.1)
 
 pub loop-c-smaller : goal.loop-c-smaller
 loop-c-smaller c = let a = c.args in

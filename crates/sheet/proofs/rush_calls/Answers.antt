@@ -16,7 +16,7 @@ pub rush-r-requires : goal.rush-r-requires
 rush-r-requires c = (c.loop-went.invariant.ready, c.requires.1)
 
 pub call_at-went-requires : goal.call_at-went-requires
-call_at-went-requires c = ((c.rush-r.ensures 0).ready, c.requires.1, c.requires.2)
+call_at-went-requires c = ((c.rush-r.ensures 0).ready, c.requires.1)
 
 pub shape_of-stack-then-went-eq0 : goal.shape_of-stack-then-went-eq0
 shape_of-stack-then-went-eq0 c = c.call_at-went.auto.stack ∙ (c.rush-r.ensures 0).ready.size ∙ sym c.requires.0.size

@@ -11,7 +11,7 @@ use Rattle.step.proofs.call_on.Goals as goal
 pub call_at-r-requires : goal.call_at-r-requires
 call_at-r-requires c = let a = c.args in
     let p = c.requires in
-    (p.0.good.sound, p.1, args-under a.at a.count a.stack.now a.used a.table.now p.0 a.k p.2, p.3)
+    (p.0.good.sound, p.1, args-under a.at a.count a.stack.now a.used a.table.now p.0 a.k p.2)
 
 pub returns-then-base-is_valued : goal.returns-then-base-is_valued
 returns-then-base-is_valued c =

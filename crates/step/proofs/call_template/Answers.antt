@@ -29,7 +29,7 @@ returns-then-used-template c =
     refusing a.at a.count a.stack.now a.used a.table.now NoSuchType c.stopped-then-used-template.ensures (template-unknown a.at a.count a.stack.now a.used a.table.now c.requires.0 (marks a.version) a.profile (bytes_of (sheet_of a.version a.items.now) a.name) a.t.0 a.k l c.if-used-template.true)
 
 pub call_on-requires : goal.call_on-requires
-call_on-requires c = (c.requires.0, one c.args.t.0 c.args.used c.if-used-template.false, c.if-count-wanted.false, c.requires.2)
+call_on-requires c = (c.requires.0, one c.args.t.0 c.args.used c.if-used-template.false, c.if-count-wanted.false)
 
 pub returns : goal.returns
 returns c =

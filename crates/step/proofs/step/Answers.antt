@@ -8,10 +8,10 @@ use mathlib.Core.Path.{refl}
 use Rattle.step.proofs.step.Goals as goal
 
 pub call-requires : goal.call-requires
-call-requires c = (c.requires.0, rw c.in-Call.is at c.requires.1, c.requires.2)
+call-requires c = (c.requires.0, rw c.in-Call.is at c.requires.1)
 
 pub call_template-requires : goal.call_template-requires
-call_template-requires c = (c.requires.0, rw c.in-CallTemplate.is at c.requires.1, c.requires.2)
+call_template-requires c = (c.requires.0, rw c.in-CallTemplate.is at c.requires.1)
 
 pub returns-in-Push : goal.returns-in-Push
 unfolding effect_of

@@ -3,7 +3,7 @@ use mathlib.Core.Path.{◌≡◌}
 use lib.ListN.{length, get_or}
 use Rattle.names.specs.Names.{name_at}
 use Rattle.names.specs.inner.Table.{blank}
-use Rattle.names.proofs.compared.Given as goal
+use Rattle.names.proofs.Names.compared.Given as goal
 
 abbrev pub invariant-loop-i : goal.invariant-loop-i
 invariant-loop-i l = (l.i ≤ length l.name) × ((k : ℕ) → k < l.i → get_or (name_at l.row) k blank ≡ get_or l.name k blank)
