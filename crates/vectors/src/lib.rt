@@ -10,7 +10,7 @@ ghost use Rattle.vectors.specs.Chars.{modfs, most_types, float_place, result_cha
 
 mod rows;
 
-pub use rows::{Counts, Lines, counted, line_end, replay};
+pub use rows::{Counts, Lines, Rows, counted, line_end, replay};
 use table::{Answer, Entry, Place, Reason, Refusal, TypeNo};
 
 // How many types the table holds, and the most that a table may hold whose types have characters.

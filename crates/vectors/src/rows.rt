@@ -87,21 +87,21 @@ impl Counts {
     }
 }
 
-// Goes through the lines of an input. A title, which begins with `*`, is written with the counts since the title before; any other line that is not empty is
-// the program's own.
-pub fn replay<'a, F: FnMut(&'a [u8], &mut Counts)>(
-    rt: &impl Print,
-    input: &'a [u8],
-    mut row: F,
-) -> io::Result<()>
-    requires { F.IsAlwaysCallable row }
-{
+// A program that answers the rows of its input.
+pub trait Rows<'a> {
+    // A line that is no title, and what it adds to the counts.
+    fn line(&mut self, line: &'a [u8], counts: &mut Counts);
+}
+
+// Goes through the lines of an input, of which the empty ones say nothing. A title, which begins with `*`, is written with the counts since the title before;
+// any other line is the program's own.
+pub fn replay<'a>(rt: &impl Print, input: &'a [u8], rows: &mut impl Rows<'a>) -> io::Result<()> {
     let mut counts = Counts::default();
     for line in Lines(input) {
         match line {
             [] => {}
             [TITLE, title @ ..] => counts.tell(rt, title)?,
-            _ => row(line, &mut counts),
+            _ => rows.line(line, &mut counts),
         }
     }
     Ok(())
