@@ -5,15 +5,15 @@ ghost use Rattle.std.specs.Prelude.{◌≡◌};
 ghost use Rattle.answer.specs.Answer.{reason_no, lacking_of, used_of, has_value, marked_by, Accepted, WithoutValue, RefusedWith};
 
 // The number of a table entry.
-#[derive(Clone, Copy)]
+#[derive(Clone, Copy, Debug, PartialEq, Eq)]
 pub struct TypeNo(pub usize);
 
 // An offset in a sheet.
-#[derive(Clone, Copy)]
+#[derive(Clone, Copy, Debug, PartialEq, Eq)]
 pub struct Place(pub usize);
 
 // Why a call is refused, in the order of the refusal numbers. For want of room: how many entries lack.
-#[derive(Clone, Copy)]
+#[derive(Clone, Copy, Debug, PartialEq, Eq)]
 pub enum Reason {
     Unsound,
     NoSuchType,
@@ -31,7 +31,7 @@ pub enum Reason {
 }
 
 // A refusal: why, at which place, and the used count as it stands.
-#[derive(Clone, Copy)]
+#[derive(Clone, Copy, Debug, PartialEq, Eq)]
 pub struct Refusal {
     pub reason: Reason,
     pub place: Place,
@@ -39,7 +39,7 @@ pub struct Refusal {
 }
 
 // What a call answers: a type or no value, each with the used count, or a refusal.
-#[derive(Clone, Copy)]
+#[derive(Clone, Copy, Debug, PartialEq, Eq)]
 pub enum Answer {
     Value(TypeNo, usize),
     NoValue(usize),
@@ -47,7 +47,7 @@ pub enum Answer {
 }
 
 // An answer, and whether its value is known only when running; false where it has no value.
-#[derive(Clone, Copy)]
+#[derive(Clone, Copy, Debug, PartialEq, Eq)]
 pub struct Typed {
     pub answer: Answer,
     pub running: bool,
@@ -101,19 +101,8 @@ pub fn lacking_of(r: Reason) -> u32
     ensures { result ≡ lacking_of r }
 {
     match r {
-        Reason::Unsound => 0,
-        Reason::NoSuchType => 0,
-        Reason::Reference => 0,
-        Reason::Unknown => 0,
-        Reason::Template => 0,
-        Reason::Count => 0,
-        Reason::Operands => 0,
-        Reason::NoOverload => 0,
         Reason::NoRoom(k) => k,
-        Reason::Framing => 0,
-        Reason::Stack => 0,
-        Reason::TooLong => 0,
-        Reason::RunningAbstract => 0,
+        _ => 0,
     }
 }
 
@@ -132,20 +121,15 @@ pub fn used_of(a: Answer) -> usize
 fn has_value(a: Answer) -> bool
     ensures { result ≡ has_value a }
 {
-    match a {
-        Answer::Value(_, _) => true,
-        Answer::NoValue(_) => false,
-        Answer::Refused(_) => false,
-    }
+    matches!(a, Answer::Value(_, _))
 }
 
 // An answer with the mark of its value.
 pub fn marked(a: Answer, running: bool) -> Typed
     ensures { result ≡ marked_by running a }
 {
-    let mark = has_value(a) & running;
     Typed {
         answer: a,
-        running: mark,
+        running: has_value(a) & running,
     }
 }
