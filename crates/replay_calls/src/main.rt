@@ -8,7 +8,7 @@
 #![tactic(auto)]
 
 use std::io;
-use vectors::{Counts, Rows};
+use vectors::{Counts, Rows, Types};
 
 // How many types there are, and how many are plain.
 const TYPES: u32 = vectors::TYPES as u32;
@@ -30,8 +30,7 @@ const NOT_BOTH: u8 = b'/';
 // The table of the types; and the group: its builtin's name, how many operands its calls have and which of its lines is next.
 #[derive(Drop)]
 struct Calls<'a> {
-    words: [u32; 256],
-    used: usize,
+    types: Types<256>,
     name: &'a [u8],
     count: u8,
     index: u32,
@@ -53,12 +52,8 @@ fn columns(count: u8) -> u32 {
 impl<'a> Calls<'a> {
     // The table, and no group yet.
     fn new() -> Self {
-        let mut words = [0; 256];
-        entering::put_scalars(&mut words);
-        let used = vectors::fill(&mut words);
         Calls {
-            words,
-            used,
+            types: Types::new(),
             name: &[],
             count: 0,
             index: 0,
@@ -67,8 +62,9 @@ impl<'a> Calls<'a> {
 
     // The character of the answer of a call in a profile, on operands that are known early.
     fn answered_in(&mut self, profile: u32, name: &[u8], args: &[u32]) -> u8 {
-        let typed = call_ty::type_builtin_fn(&mut self.words, self.used, profile, name, &[], args);
-        vectors::answer_char(&self.words, typed.answer)
+        let Types { words, used } = &mut self.types;
+        let typed = call_ty::type_builtin_fn(words, *used, profile, name, &[], args);
+        vectors::answer_char(words, typed.answer)
     }
 
     // The character of the answer of a call in both profiles, or one that no row has where the two differ.

@@ -14,10 +14,9 @@ ghost use Rattle.std.specs.Prelude.{◌≤◌};
 use answer::Typed;
 use std::io;
 use table::TypeNo;
+use vectors::{Counts, Rows, Types};
 
 const GROUP: u8 = b'#';
-
-const TITLE: u8 = b'*';
 // What a group asks, and where that, the marks and the name stand in its line.
 const ADDED: u8 = b'+';
 
@@ -43,253 +42,150 @@ const SUBGROUPS: u32 = 1;
 
 const NO_PROFILE: u32 = 2;
 
-// Where the line of the group lies in the input; and the counts since the title before.
-#[derive(Clone, Copy)]
-struct State {
-    from: usize,
-    to: usize,
-    agreed: u64,
-    rows: u64,
-}
-
 // A character of a line, or a blank after its end.
 fn char_at(line: &[u8], at: usize) -> u8 {
-    if line.len() <= at {
-        return BLANK;
-    }
-    line[at]
+    line.get(at).copied().unwrap_or(BLANK)
 }
 
-// How many operands the rows of a group have.
-fn count_of(group: &[u8]) -> usize
-    ensures { result ≤ 3 }
-{
-    if char_at(group, MARKS_AT) == BLANK {
-        return 0;
-    }
-    if char_at(group, MARKS_AT + 1) == BLANK {
-        return 1;
-    }
-    if char_at(group, MARKS_AT + 2) == BLANK {
-        return 2;
-    }
-    3
-}
+// The line of a group.
+#[derive(Clone, Copy)]
+struct Group<'a>(&'a [u8]);
 
-// Where the types of the last operand begin in a row.
-fn last_at(group: &[u8]) -> usize {
-    let count = count_of(group);
-    if count == 0 {
-        return 1;
+impl Group<'_> {
+    // What the group asks.
+    fn kind(self) -> u8 {
+        char_at(self.0, KIND_AT)
     }
-    count
-}
 
-// An operand of that type whose mark stands at a place of the group's line.
-fn operand(group: &[u8], mark_at: usize, c: u8) -> u32 {
-    let t = vectors::type_no(c) as usize;
-    held::value(TypeNo(t), char_at(group, mark_at) == RUNNING)
-}
-
-// The three operands of the row that has its last one at a place; the later ones stand for nothing where there are fewer.
-fn operands(group: &[u8], line: &[u8], count: usize, at: usize) -> [u32; 3] {
-    let last = char_at(line, at);
-    if count == 3 {
-        return [
-            operand(group, MARKS_AT, char_at(line, 1)),
-            operand(group, MARKS_AT + 1, char_at(line, 2)),
-            operand(group, MARKS_AT + 2, last),
-        ];
+    // The number of its operator.
+    fn op(self) -> usize {
+        vectors::type_no(char_at(self.0, NAME_AT)) as usize
     }
-    if count == 2 {
-        return [
-            operand(group, MARKS_AT, char_at(line, 1)),
-            operand(group, MARKS_AT + 1, last),
-            0,
-        ];
-    }
-    [operand(group, MARKS_AT, last), 0, 0]
-}
 
-// The answer of a call of the group's builtin.
-fn called(words: &mut [u32], used: usize, profile: u32, group: &[u8], args: &[u32]) -> Typed {
-    if group.len() < NAME_AT {
-        return answer::marked(answer::no_value(used), false);
+    // How many operands its rows have.
+    fn count(self) -> usize
+        ensures { result ≤ 3 }
+    {
+        let marks = [MARKS_AT, MARKS_AT + 1, MARKS_AT + 2];
+        marks
+            .iter()
+            .position(|at| char_at(self.0, *at) == BLANK)
+            .unwrap_or(3)
     }
-    call_ty::type_builtin_fn(words, used, profile, &group[NAME_AT..], &args[0..0], args)
-}
 
-// The answer of a row in a profile, which operators do not have.
-fn answered(
-    words: &mut [u32],
-    used: usize,
-    profile: u32,
-    group: &[u8],
-    line: &[u8],
-    at: usize,
-) -> Typed {
-    let count = count_of(group);
-    let args = operands(group, line, count, at);
-    let kind = char_at(group, KIND_AT);
-    let op = vectors::type_no(char_at(group, NAME_AT)) as usize;
-    if kind == UNARY {
-        return ops_ty::type_unary_op(words, used, op, args[0]);
+    // Where the types of the last operand begin in a row.
+    fn last_at(self) -> usize {
+        self.count().max(1)
     }
-    if kind == BINARY {
-        return ops_ty::type_binary_op(words, used, op, args[0], args[1]);
+
+    // The operand of that place, of a type by its character.
+    fn operand(self, i: usize, c: u8) -> u32
+        requires { i ≤ 2 }
+    {
+        let t = vectors::type_no(c) as usize;
+        held::value(TypeNo(t), char_at(self.0, MARKS_AT + i) == RUNNING)
     }
-    called(words, used, profile, group, &args[0..count])
-}
 
-// Whether a value is known only when running, where the answer has one.
-fn is_running(group: &[u8], c: u8) -> bool {
-    (vectors::FIRST <= c) & (char_at(group, VALUE_AT) == RUNNING)
-}
-
-// Whether a row has an answer in a profile, with its mark.
-fn is_answer(
-    words: &mut [u32],
-    used: usize,
-    profile: u32,
-    group: &[u8],
-    line: &[u8],
-    at: usize,
-    c: u8,
-) -> bool {
-    let typed = answered(words, used, profile, group, line, at);
-    let a = typed.answer;
-    (vectors::answer_char(words, a) == c) & (typed.running == is_running(group, c))
-}
-
-// The answer's character in profile 0: a name of profile 1 alone is unknown there.
-fn expected_in_fewer(group: &[u8], c: u8) -> u8 {
-    if char_at(group, KIND_AT) == ADDED {
-        return vectors::NO_NAME;
+    // The three operands of the row that has its last one at a place; the later ones stand for nothing where there are fewer.
+    fn operands(self, line: &[u8], at: usize) -> [u32; 3] {
+        let last = char_at(line, at);
+        let first = char_at(line, 1);
+        match self.count() {
+            3 => [
+                self.operand(0, first),
+                self.operand(1, char_at(line, 2)),
+                self.operand(2, last),
+            ],
+            2 => [self.operand(0, first), self.operand(1, last), 0],
+            _ => [self.operand(0, last), 0, 0],
+        }
     }
-    c
-}
 
-// Whether a row agrees: in both profiles, and its name is unknown where the profile is.
-fn agrees(words: &mut [u32], used: usize, group: &[u8], line: &[u8], at: usize) -> bool {
-    let c = char_at(line, 0);
-    let kind = char_at(group, KIND_AT);
-    let subgroups = is_answer(words, used, SUBGROUPS, group, line, at, c);
-    if (kind == UNARY) | (kind == BINARY) {
-        return subgroups;
+    // Whether a value is known only when running, where the answer has one.
+    fn is_running(self, c: u8) -> bool {
+        vectors::FIRST <= c && char_at(self.0, VALUE_AT) == RUNNING
     }
-    let fewer = is_answer(
-        words,
-        used,
-        FEWER,
-        group,
-        line,
-        at,
-        expected_in_fewer(group, c),
-    );
-    let none = is_answer(words, used, NO_PROFILE, group, line, at, vectors::NO_NAME);
-    subgroups & fewer & none
-}
 
-// After a line of a group.
-fn after_rows(words: &mut [u32], used: usize, group: &[u8], line: &[u8], state: State) -> State {
-    let mut agreed = state.agreed;
-    let mut rows = state.rows;
-    for at in last_at(group)..line.len() {
-        agreed = vectors::counted(agreed, agrees(words, used, group, line, at));
-        rows = vectors::counted(rows, true);
-    }
-    State {
-        from: state.from,
-        to: state.to,
-        agreed,
-        rows,
+    // The answer's character in profile 0: a name of profile 1 alone is unknown there.
+    fn expected_in_fewer(self, c: u8) -> u8 {
+        match self.kind() {
+            ADDED => vectors::NO_NAME,
+            _ => c,
+        }
     }
 }
 
-// After a line that is no group and no title.
-fn after_line(words: &mut [u32], used: usize, s: &[u8], line: &[u8], state: State) -> State {
-    let from = state.from;
-    let to = state.to;
-    if s.len() < to {
-        return state;
-    }
-    if to < from {
-        return state;
-    }
-    after_rows(words, used, &s[from..to], line, state)
+// The table of the types, and the group.
+#[derive(Drop)]
+struct Marks<'a> {
+    types: Types<256>,
+    group: Group<'a>,
 }
 
-// Writes how many of the rows agreed.
-fn write_counts(rt: &impl Print, what: &[u8], agreed: u64, rows: u64) -> io::Result<()> {
-    rt.write_all(what)?;
-    println!(rt; ": {agreed} of {rows} agreed")
+impl<'a> Marks<'a> {
+    // The answer of a call of the group's builtin.
+    fn called(&mut self, profile: u32, args: &[u32]) -> Typed {
+        let Types { words, used } = &mut self.types;
+        match self.group.0.get(NAME_AT..) {
+            Some(name) => call_ty::type_builtin_fn(words, *used, profile, name, &[], args),
+            None => answer::marked(answer::no_value(*used), false),
+        }
+    }
+
+    // The answer of a row in a profile, which operators do not have.
+    fn answered(&mut self, profile: u32, line: &[u8], at: usize) -> Typed {
+        let group = self.group;
+        let args = group.operands(line, at);
+        let Types { words, used } = &mut self.types;
+        match group.kind() {
+            UNARY => ops_ty::type_unary_op(words, *used, group.op(), args[0]),
+            BINARY => ops_ty::type_binary_op(words, *used, group.op(), args[0], args[1]),
+            _ => self.called(profile, &args[..group.count()]),
+        }
+    }
+
+    // Whether a row has an answer in a profile, with its mark.
+    fn is_answer(&mut self, profile: u32, line: &[u8], at: usize, c: u8) -> bool {
+        let typed = self.answered(profile, line, at);
+        vectors::answer_char(&self.types.words, typed.answer) == c
+            && typed.running == self.group.is_running(c)
+    }
+
+    // Whether a row agrees: in both profiles, and its name is unknown where the profile is.
+    fn agrees(&mut self, line: &[u8], at: usize) -> bool {
+        let c = char_at(line, 0);
+        let subgroups = self.is_answer(SUBGROUPS, line, at, c);
+        match self.group.kind() {
+            UNARY | BINARY => subgroups,
+            _ => {
+                let in_fewer = self.group.expected_in_fewer(c);
+                subgroups
+                    && self.is_answer(FEWER, line, at, in_fewer)
+                    && self.is_answer(NO_PROFILE, line, at, vectors::NO_NAME)
+            }
+        }
+    }
 }
 
-// At a title.
-fn at_title(rt: &impl Print, line: &[u8], state: State) -> io::Result<State> {
-    write_counts(rt, line, state.agreed, state.rows)?;
-    Ok(State {
-        from: state.from,
-        to: state.to,
-        agreed: 0,
-        rows: 0,
-    })
-}
-
-// At the line of a group, which begins at a place.
-fn at_group(at: usize, line: &[u8], state: State) -> State {
-    State {
-        from: at,
-        to: std::num::wrapping_add_usize(at, line.len()),
-        agreed: state.agreed,
-        rows: state.rows,
+impl<'a> Rows<'a> for Marks<'a> {
+    fn line(&mut self, line: &'a [u8], counts: &mut Counts) {
+        match line {
+            [GROUP, ..] => self.group = Group(line),
+            _ => {
+                for at in self.group.last_at()..line.len() {
+                    counts.count(self.agrees(line, at));
+                }
+            }
+        }
     }
-}
-
-// After the line that begins at a place.
-fn after(
-    rt: &impl Print,
-    words: &mut [u32],
-    used: usize,
-    s: &[u8],
-    at: usize,
-    line: &[u8],
-    state: State,
-) -> io::Result<State> {
-    if line.len() == 0 {
-        return Ok(state);
-    }
-    let first = line[0];
-    if first == GROUP {
-        return Ok(at_group(at, line, state));
-    }
-    if first == TITLE {
-        return at_title(rt, &line[1..], state);
-    }
-    Ok(after_line(words, used, s, line, state))
-}
-
-fn replay(rt: &impl Print, words: &mut [u32], s: &[u8]) -> io::Result<()> {
-    let used = vectors::fill(words);
-    let mut state = State {
-        from: 0,
-        to: 0,
-        agreed: 0,
-        rows: 0,
-    };
-    let mut at = 0;
-    while at < s.len() {
-        let end = vectors::line_end(s, at);
-        state = after(rt, words, used, s, at, &s[at..end], state)?;
-        at = end + 1;
-    }
-    Ok(())
 }
 
 fn main(rt: HostRuntime) -> io::Result<()> {
     let mut buffer = stdio::large_buffer();
     let n = stdio::read_full(&mut rt.reader(), &mut buffer)?;
-    let mut words = [0u32; 256];
-    entering::put_scalars(&mut words);
-    replay(&rt, &mut words, &buffer[..n])
+    let mut marks = Marks {
+        types: Types::new(),
+        group: Group(&[]),
+    };
+    vectors::replay(&rt, &buffer[..n], &mut marks)
 }

@@ -5,10 +5,10 @@
 
 use std::io;
 use table::Typed;
-use vectors::TYPES;
+use vectors::{Counts, TYPES, Types};
 
 // The types of a line.
-const COLUMNS: u32 = 55;
+const COLUMNS: u32 = TYPES as u32;
 // How many lines are of unary operators, and how many there are in all.
 const UNARY: usize = 3;
 
@@ -17,58 +17,37 @@ const LINES: usize = 993;
 const WIDTH: usize = 56;
 
 // The answer for a line and a column of the input.
-fn answered(words: &mut [u32], used: usize, line: usize, column: u32) -> Typed {
-    if line < UNARY {
-        return ops_ty::type_unary_op(words, used, line, column);
+fn answered(types: &mut Types<256>, line: usize, column: u32) -> Typed {
+    match line.checked_sub(UNARY) {
+        None => ops_ty::type_unary_op(&mut types.words, types.used, line, column),
+        Some(k) => {
+            let left = (k % TYPES) as u32;
+            ops_ty::type_binary_op(&mut types.words, types.used, k / TYPES, left, column)
+        }
     }
-    let k = line - UNARY;
-    ops_ty::type_binary_op(words, used, k / TYPES, (k % TYPES) as u32, column)
 }
 
-// Whether the answer is the one at that place of the input.
-fn agrees(words: &mut [u32], used: usize, s: &[u8], at: usize, line: usize, column: u32) -> bool {
-    if s.len() <= at {
-        return false;
-    }
-    let typed = answered(words, used, line, column);
-    let a = typed.answer;
-    (vectors::answer_char(words, a) == s[at]) & !typed.running
+// Whether the answer for a line and a column is the one of that character.
+fn agrees(types: &mut Types<256>, line: usize, column: u32, c: u8) -> bool {
+    let typed = answered(types, line, column);
+    vectors::answer_char(&types.words, typed.answer) == c && !typed.running
 }
 
-// The rows of a line that agree, added to those before.
-fn add_line(
-    words: &mut [u32],
-    used: usize,
-    s: &[u8],
-    start: usize,
-    line: usize,
-    before: u64,
-) -> u64 {
-    let mut agreed = before;
-    for column in 0..COLUMNS {
-        let at = std::num::wrapping_add_usize(start, column as usize);
-        agreed = vectors::counted(agreed, agrees(words, used, s, at, line, column));
+// How many rows agree; of a short input those that it has.
+fn replay(input: &[u8]) -> u64 {
+    let mut types = Types::new();
+    let mut counts = Counts::default();
+    for (line, row) in (0..LINES).zip(input.chunks(WIDTH)) {
+        for (column, c) in (0..COLUMNS).zip(row) {
+            counts.count(agrees(&mut types, line, column, *c));
+        }
     }
-    agreed
-}
-
-// How many rows agree.
-fn replay(words: &mut [u32], s: &[u8]) -> u64 {
-    let used = vectors::fill(words);
-    let mut agreed = 0;
-    let mut start = 0;
-    for line in 0..LINES {
-        agreed = add_line(words, used, s, start, line, agreed);
-        start = std::num::wrapping_add_usize(start, WIDTH);
-    }
-    agreed
+    counts.agreed
 }
 
 fn main(rt: HostRuntime) -> io::Result<()> {
     let mut buffer = stdio::large_buffer();
     let n = stdio::read_full(&mut rt.reader(), &mut buffer)?;
-    let mut words = [0u32; 256];
-    entering::put_scalars(&mut words);
-    let agreed = replay(&mut words, &buffer[..n]);
+    let agreed = replay(&buffer[..n]);
     println!(rt; "operators: {agreed} of 54615 agreed")
 }

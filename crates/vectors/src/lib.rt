@@ -3,7 +3,9 @@
 // The result types of frexp follow, then those of modf: over the scalar, vec2, vec3 and vec4, each of AbstractFloat, f32 and f16.
 #![tactic(auto)]
 
-ghost use Rattle.std.specs.Prelude.{◌≡◌, ◌<◌, ◌≤◌};
+ghost use Rattle.std.specs.Prelude.{◌≡◌, ◌*◌, ◌<◌, ◌≤◌, replicate};
+ghost use Rattle.table.specs.Table.{scalars, stride};
+ghost use Rattle.table.specs.Enter.{with_scalars};
 ghost use Rattle.answer.specs.Answer.{reason_no};
 ghost use Rattle.vectors.specs.Filled.{float_no, entry_of, FillDone};
 ghost use Rattle.vectors.specs.Chars.{modfs, most_types, float_place, result_char, entry_char, new_char, value_char, silent_char, reason_char, refusal_char, char_of, answer_char, type_no};
@@ -94,6 +96,26 @@ pub fn fill(words: &mut [u32]) -> usize
         used = answer::used_of(entering::enter_type(words, used, entry_of(i)));
     }
     used
+}
+
+// A table of the 55 types in so many words, and the used count.
+#[derive(Clone, Copy)]
+pub struct Types<const N: usize> {
+    pub words: [u32; N],
+    pub used: usize,
+}
+
+impl<const N: usize> Types<N> {
+    // The scalars, the vectors and the matrices, entered into a table of nothing but 0.
+    pub fn new() -> Self
+        requires { scalars * stride ≤ N }
+        ensures { FillDone (with_scalars scalars (replicate N 0)) result.used result.words }
+    {
+        let mut words = [0; N];
+        entering::put_scalars(&mut words);
+        let used = fill(&mut words);
+        Types { words, used }
+    }
 }
 
 // The place of a type that is a float scalar or vector, by its width and then its float.
