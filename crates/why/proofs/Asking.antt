@@ -6,8 +6,6 @@ use mathlib.Core.Bool.{Bool, true, false, cond}
 use mathlib.Core.List.{List, [], ◌∷◌}
 use lib.Dec.{eqb, leb}
 use lib.ListN.{length, get_or}
-use borrow.Author.Tests.{eq-eqb, ne_eqb}
-use mathlib.Core.Logic.{◌≢◌}
 use Rattle.conv.specs.Types.{Ty}
 use Rattle.text.specs.Text.{Put}
 use Rattle.overload.specs.Rows.{Ruling}
@@ -17,7 +15,8 @@ use Rattle.names.specs.Names.Rule.{ruling, storing, bitcast, barrier}
 use Rattle.names.specs.Names.Named.{rule, unknown}
 use Rattle.names.specs.inner.Table.{numbered}
 use Rattle.answer.specs.Answer.{reason_no}
-use Rattle.answer.specs.declared.Reason.TheVariants.{TooLong}
+use Rattle.answer.specs.declared.Reason.{Reason}
+use Rattle.answer.specs.declared.Reason.TheVariants.{Unsound, NoSuchType, Reference, Unknown, Template, Count, Operands, NoOverload, NoRoom, Framing, Stack, TooLong, RunningAbstract}
 use Rattle.answer.specs.declared.TypeNo.{TypeNo}
 use Rattle.answer.specs.declared.Refusal.{Refusal}
 use Rattle.answer.specs.declared.Answer.{Answer}
@@ -31,18 +30,23 @@ use Rattle.std.specs.Prelude.{Ok, Err}
 use Rattle.reasons.specs.Reasons.{together, refused_pieces, accepted_pieces, pieces}
 use Rattle.reasons.specs.inner.Told.{ruling_of, types_of, Told}
 use Rattle.why.specs.Why.{by_answer, tell_by, unary_pieces, binary_pieces, ruled_pieces, call_pieces, written_reply, why_reply, written_numbers, why_numbers, why_bytes, WhyDone}
-use Rattle.why.specs.inner.Asks.{has_ruling, Tells, asked_pieces, asked_reply, Asks, Telling}
-use Rattle.why.specs.declared.Asked.{Asked}
-use Rattle.why.specs.declared.Asked.TheVariants.{Nothing, Tell, Refused}
+use Rattle.std.proofs.Common.{Option, Some, None, Ok, Err}
+use Rattle.std.specs.Bool.{then_some}
+use Rattle.why.specs.declared.Verdict.{Verdict}
+use Rattle.why.specs.inner.Asks.{Asked, said, has_ruling, Tells, asked_pieces, asked_reply, Asks, Telling}
 use Rattle.why.proofs.Rules.{JudgedBy, judged-by}
 use Rattle.why.proofs.Judging.{telling, accepting, Known, unary-tells, binary-tells, call-tells}
 
--- what is told by a rule, and where nothing is told
-abbrev told_by : Answer → ℕ → Asked
-told_by a k = by_answer a (Tell k true) (Tell k false) Refused
+-- what a rule said, and where nothing is told
+abbrev Tell : ℕ → Bool → Asked
+Tell k b = Ok (said (Some k) b)
 
-abbrev untold : Answer → Asked
-untold a = by_answer a Nothing Nothing Refused
+abbrev Nothing : Asked
+Nothing = Ok None
+
+-- what is told by a rule, or without one
+abbrev told_by : Answer → Option ℕ → Asked
+told_by a k = by_answer a (Ok (said k true)) (Ok (said k false)) (λ r. Err r)
 
 module _ (w : List ℕ) (n : ℕ) (args : List ℕ) where
   -- by a rule whose ruling is r, where the answer is told about
@@ -50,22 +54,22 @@ module _ (w : List ℕ) (n : ℕ) (args : List ℕ) where
     abbrev Tellable : Bool → Bool → Type 0
     Tellable b accepted = b ≡ true → (ruling_of k ≡ r) × Told w n k accepted args
 
-    refused-tells : (b : Bool) (q : Refusal) → Tellable b false → Tells w n args (cond b (Tell k false) (Refused q))
+    refused-tells : (b : Bool) (q : Refusal) → Tellable b false → Tells w n args (cond b (Tell k false) (Err q))
     unfolding Tells
     refused-tells true q f = (f refl).1
     refused-tells false q f = tt
 
-    refused-pieces : (b : Bool) (q : Refusal) → Tellable b false → asked_pieces w args (cond b (Tell k false) (Refused q)) ≡ cond b (refused_pieces r (types_of w args)) []
+    refused-pieces : (b : Bool) (q : Refusal) → Tellable b false → asked_pieces w args (cond b (Tell k false) (Err q)) ≡ cond b (refused_pieces r (types_of w args)) []
     unfolding asked_pieces pieces
     refused-pieces true q f = ap (λ (x : Ruling). refused_pieces x (types_of w args)) (f refl).0
     refused-pieces false q f = refl
 
-    refused-reply : (b : Bool) (q : Refusal) (text out : List ℕ) → asked_reply n (cond b (Tell k false) (Refused q)) text out ≡ cond b (written_reply n text out) (Err q)
+    refused-reply : (b : Bool) (q : Refusal) (text out : List ℕ) → asked_reply n (cond b (Tell k false) (Err q)) text out ≡ cond b (written_reply n text out) (Err q)
     unfolding asked_reply
     refused-reply true q text out = refl
     refused-reply false q text out = refl
 
-    asks-told : (a : Answer) → Tellable (telling a) (accepting a) → Asks w n args (tell_by a r (types_of w args) (marks_of args)) a (told_by a k)
+    asks-told : (a : Answer) → Tellable (telling a) (accepting a) → Asks w n args (tell_by a r (types_of w args) (marks_of args)) a (told_by a (Some k))
     unfolding by_answer tell_by Tells asked_pieces asked_reply why_reply pieces telling accepting
     asks-told (answers.Value t m) f = record { tells = (f refl).1; pieces = ap (λ (x : Ruling). accepted_pieces x (types_of w args) (marks_of args)) (f refl).0; reply = λ text out. refl }
     asks-told (answers.NoValue m) f = record { tells = (f refl).1; pieces = ap (λ (x : Ruling). accepted_pieces x (types_of w args) (marks_of args)) (f refl).0; reply = λ text out. refl }
@@ -78,22 +82,22 @@ module _ (w : List ℕ) (n : ℕ) (args : List ℕ) where
     told o e f = subst (λ (x : Ruling). Known w n x args o → Told w n k (accepting o.answer) args) e (λ g. record { sound = g.sound; under = g.under; count = g.count; clash = g.clash; gave = g.judging.gave; none = g.judging.none }) f
 
   -- nothing
-  no_tells : (b : Bool) (q : Refusal) → Tells w n args (cond b Nothing (Refused q))
+  no_tells : (b : Bool) (q : Refusal) → Tells w n args (cond b Nothing (Err q))
   unfolding Tells
   no_tells true q = tt
   no_tells false q = tt
 
-  no_pieces : (b : Bool) (q : Refusal) → asked_pieces w args (cond b Nothing (Refused q)) ≡ []
+  no_pieces : (b : Bool) (q : Refusal) → asked_pieces w args (cond b Nothing (Err q)) ≡ []
   unfolding asked_pieces
   no_pieces true q = refl
   no_pieces false q = refl
 
-  no-reply : (b : Bool) (q : Refusal) (text out : List ℕ) → asked_reply n (cond b Nothing (Refused q)) text out ≡ cond b (written_reply n text out) (Err q)
+  no-reply : (b : Bool) (q : Refusal) (text out : List ℕ) → asked_reply n (cond b Nothing (Err q)) text out ≡ cond b (written_reply n text out) (Err q)
   unfolding asked_reply
   no-reply true q text out = refl
   no-reply false q text out = refl
 
-  asks_nothing : (a : Answer) → Asks w n args [] a (untold a)
+  asks_nothing : (a : Answer) → Asks w n args [] a (told_by a None)
   unfolding by_answer Tells asked_pieces asked_reply why_reply
   asks_nothing (answers.Value t m) = record { tells = tt; pieces = refl; reply = λ text out. refl }
   asks_nothing (answers.NoValue m) = record { tells = tt; pieces = refl; reply = λ text out. refl }
@@ -102,6 +106,22 @@ module _ (w : List ℕ) (n : ℕ) (args : List ℕ) where
       record { tells = no_tells b q; pieces = no_pieces b q; reply = λ text out. no-reply b q text out }
 
 -- CASE BY CASE of an answer, and of what is asked
+
+-- 8 is the number of one reason alone
+pub not-eight : (r : Reason) → (r ≡ NoOverload → ⊥) → eqb (reason_no r) 8 ≡ false
+not-eight Unsound f = refl
+not-eight NoSuchType f = refl
+not-eight Reference f = refl
+not-eight Unknown f = refl
+not-eight Template f = refl
+not-eight Count f = refl
+not-eight Operands f = refl
+not-eight NoOverload f = absurd (f refl)
+not-eight (NoRoom k) f = refl
+not-eight Framing f = refl
+not-eight Stack f = refl
+not-eight TooLong f = refl
+not-eight RunningAbstract f = refl
 
 module _ {A : Type 0} (x y : A) (z : Refusal → A) (a : Answer) where
   pub by_value : {t : TypeNo} {m : ℕ} → a ≡ answers.Value t m → x ≡ by_answer a x y z
@@ -112,48 +132,49 @@ module _ {A : Type 0} (x y : A) (z : Refusal → A) (a : Answer) where
   unfolding by_answer
   by-none e = sym (ap (λ (b : Answer). by_answer b x y z) e)
 
-  pub by-eight : (q : Refusal) → a ≡ answers.Refused q → reason_no q.reason ≡ 8 → y ≡ by_answer a x y z
+  pub by-eight : (q : Refusal) → a ≡ answers.Refused q → q.reason ≡ NoOverload → y ≡ by_answer a x y z
   unfolding by_answer
-  by-eight q e h = rw (e, eq-eqb (reason_no q.reason) 8 h)
+  by-eight q e h = rw (e, h)
 
-  pub by-other : (q : Refusal) → a ≡ answers.Refused q → reason_no q.reason ≢ 8 → z q ≡ by_answer a x y z
+  pub by-other : (q : Refusal) → a ≡ answers.Refused q → (q.reason ≡ NoOverload → ⊥) → z q ≡ by_answer a x y z
   unfolding by_answer
-  by-other q e h = rw (e, ne_eqb (reason_no q.reason) 8 h)
+  by-other q e h = rw (e, not-eight q.reason h)
 
 module _ {asked : Asked} where
-  pub count-nothing : asked ≡ Nothing → (w args : List ℕ) → 0 ≡ length (asked_pieces w args asked)
-  unfolding asked_pieces
-  count-nothing e w args = rw e
+  module _ {x : Option Verdict} (d : asked ≡ Ok x) where
+    pub count-told : {v : Verdict} {r : ℕ} → x ≡ Some v → ((ts : List Ty) (ms : List Bool) → r ≡ length (pieces v.accepted (ruling_of v.rule) ts ms)) → (w args : List ℕ) → r ≡ length (asked_pieces w args asked)
+    unfolding asked_pieces
+    count-told e f w args = rw (d, e) (f (types_of w args) (marks_of args))
 
-  pub count-told : {k r : ℕ} {b : Bool} → asked ≡ Tell k b → ((ts : List Ty) (ms : List Bool) → r ≡ length (pieces b (ruling_of k) ts ms)) → (w args : List ℕ) → r ≡ length (asked_pieces w args asked)
-  unfolding asked_pieces
-  count-told e f w args = rw e (f (types_of w args) (marks_of args))
+    pub count-nothing : x ≡ None → (w args : List ℕ) → 0 ≡ length (asked_pieces w args asked)
+    unfolding asked_pieces
+    count-nothing e w args = rw (d, e)
 
-  pub count-refused : {q : Refusal} → asked ≡ Refused q → (w args : List ℕ) → 0 ≡ length (asked_pieces w args asked)
+    module _ (w args : List ℕ) (j : ℕ) where
+      pub put-needs : {n : ℕ} {v : Verdict} → x ≡ Some v → Tells w n args asked → j < length (asked_pieces w args asked)
+          → Told w n v.rule v.accepted args × (j < length (pieces v.accepted (ruling_of v.rule) (types_of w args) (marks_of args)))
+      unfolding Tells asked_pieces
+      put-needs e t l = (rw (d, e) at t, rw (d, e) at l)
+
+      pub put-told : {at r : ℕ} {v : Verdict} {o u : List ℕ} → x ≡ Some v → Put o at (get_or (pieces v.accepted (ruling_of v.rule) (types_of w args) (marks_of args)) j []) r u
+          → Put o at (get_or (asked_pieces w args asked) j []) r u
+      unfolding asked_pieces
+      put-told e p = rw (d, e) p
+
+      pub none-nothing : {P : Type 0} → x ≡ None → j < length (asked_pieces w args asked) → P
+      none-nothing e l = let z = count-nothing e w args in absurd (omega arith)
+
+  pub count-refused : {q : Refusal} → asked ≡ Err q → (w args : List ℕ) → 0 ≡ length (asked_pieces w args asked)
   unfolding asked_pieces
   count-refused e w args = rw e
 
-  module _ (w args : List ℕ) (j : ℕ) where
-    pub put-needs : {n k : ℕ} {b : Bool} → asked ≡ Tell k b → Tells w n args asked → j < length (asked_pieces w args asked)
-        → Told w n k b args × (j < length (pieces b (ruling_of k) (types_of w args) (marks_of args)))
-    unfolding Tells asked_pieces
-    put-needs e t l = (rw e at t, rw e at l)
-
-    pub put-told : {k at r : ℕ} {b : Bool} {d v : List ℕ} → asked ≡ Tell k b → Put d at (get_or (pieces b (ruling_of k) (types_of w args) (marks_of args)) j []) r v
-        → Put d at (get_or (asked_pieces w args asked) j []) r v
-    unfolding asked_pieces
-    put-told e p = rw e p
-
-    pub none-nothing : {P : Type 0} → asked ≡ Nothing → j < length (asked_pieces w args asked) → P
-    none-nothing e l = let z = count-nothing e w args in absurd (omega arith)
-
-    pub none-refused : {P : Type 0} {q : Refusal} → asked ≡ Refused q → j < length (asked_pieces w args asked) → P
-    none-refused e l = let z = count-refused e w args in absurd (omega arith)
+  pub none-refused : (w args : List ℕ) (j : ℕ) {P : Type 0} {q : Refusal} → asked ≡ Err q → j < length (asked_pieces w args asked) → P
+  none-refused w args j e l = let z = count-refused e w args in absurd (omega arith)
 
 -- THE THREE CALLS, by an answer a that is theirs and what is told of it
 
 module _ (w : List ℕ) (n : ℕ) (a : Answer) (r : Asked) where
-  pub unary-asks : (op x k : ℕ) → a ≡ (type_unary_op w n op x).answer → (op < 5 → ruling_of k ≡ unary_ruling op) → r ≡ told_by a k
+  pub unary-asks : (op x k : ℕ) → a ≡ (type_unary_op w n op x).answer → (op < 5 → ruling_of k ≡ unary_ruling op) → r ≡ told_by a (Some k)
       → Asks w n (x ∷ []) (unary_pieces w n op x) (type_unary_op w n op x).answer r
   unfolding unary_pieces
   unary-asks op x k e f h =
@@ -162,7 +183,7 @@ module _ (w : List ℕ) (n : ℕ) (a : Answer) (r : Asked) where
       (asks-told w n (x ∷ []) k (unary_ruling op) o.answer
       (λ t. let q = unary-tells w n op x t in let g = f q.0 in (g, told w n (x ∷ []) k (unary_ruling op) o g q.1)))
 
-  pub binary-asks : (op x y k : ℕ) → a ≡ (type_binary_op w n op x y).answer → (op < 18 → ruling_of k ≡ by_row (binary_row op)) → r ≡ told_by a k
+  pub binary-asks : (op x y k : ℕ) → a ≡ (type_binary_op w n op x y).answer → (op < 18 → ruling_of k ≡ by_row (binary_row op)) → r ≡ told_by a (Some k)
       → Asks w n (x ∷ y ∷ []) (binary_pieces w n op x y) (type_binary_op w n op x y).answer r
   unfolding binary_pieces
   binary-asks op x y k e f h =
@@ -203,7 +224,7 @@ module _ (profile : ℕ) (w : List ℕ) (n : ℕ) (name tplt args : List ℕ) (a
       (q ∙ ap (λ (x : Named). ruled_pieces x (type_builtin_fn profile w n name tplt args).answer (types_of w args) (marks_of args)) (sym p)) k
 
   module _ (k : ℕ) (runs : Bool) (p : rule_of profile name ≡ rule (numbered k) runs) where
-    pub call_asks : has_ruling (numbered k) ≡ true → r ≡ told_by a k → CallAsks
+    call_asks : has_ruling (numbered k) ≡ true → r ≡ told_by a (Some k) → CallAsks
     call_asks h q =
         let o = type_builtin_fn profile w n name tplt args in
         let j = judged-by k h in
@@ -212,11 +233,15 @@ module _ (profile : ℕ) (w : List ℕ) (n : ℕ) (name tplt args : List ℕ) (a
         (asks-told w n args k (ruling_of k) o.answer
         (λ t. (refl, told w n args k (ruling_of k) o refl (call-tells w n profile name tplt args (numbered k) (ruling_of k) j runs p t)))))
 
-    pub call-silent : has_ruling (numbered k) ≡ false → r ≡ untold a → CallAsks
+    call-silent : has_ruling (numbered k) ≡ false → r ≡ told_by a None → CallAsks
     call-silent h q =
         asks-as [] (rule (numbered k) runs) p (other-pieces (numbered k) h runs (type_builtin_fn profile w n name tplt args).answer w args) (rw (q, e) (asks_nothing w n args (type_builtin_fn profile w n name tplt args).answer))
 
-  pub call-unknown : rule_of profile name ≡ unknown → r ≡ untold a → CallAsks
+    pub call-ruled : (b : Bool) → b ≡ has_ruling (numbered k) → r ≡ told_by a (then_some b k) → CallAsks
+    call-ruled true h q = call_asks (sym h) q
+    call-ruled false h q = call-silent (sym h) q
+
+  pub call-unknown : rule_of profile name ≡ unknown → r ≡ told_by a None → CallAsks
   unfolding ruled_pieces
   call-unknown p q = asks-as [] unknown p refl (rw (q, e) (asks_nothing w n args (type_builtin_fn profile w n name tplt args).answer))
 

@@ -18,9 +18,9 @@ use Rattle.std.specs.Prelude.{Ok, Err}
 use Rattle.reasons.specs.Reasons.{together}
 use Rattle.reasons.specs.inner.Told.{piece_room}
 use Rattle.why.specs.Why.{written_reply, why_bytes}
-use Rattle.why.specs.inner.Asks.{Tells, asked_pieces, asked_reply, Written, Telling}
-use Rattle.why.specs.declared.Asked.{Asked}
-use Rattle.why.specs.declared.Asked.TheVariants.{Nothing, Tell, Refused}
+use Rattle.std.proofs.Common.{Option, Ok, Err}
+use Rattle.why.specs.inner.Asks.{Asked, Tells, asked_pieces, asked_reply, Written, Telling}
+use Rattle.why.specs.declared.Verdict.{Verdict}
 
 together-append : (xs ys : List (List ℕ)) → together (xs ++ ys) ≡ together xs ++ together ys
 unfolding together
@@ -68,17 +68,10 @@ module _ (n : ℕ) (text out : List ℕ) where
 -- TOLD by what there is to tell
 
 module _ (w : List ℕ) (n : ℕ) (args : List ℕ) (asked : Asked) (out : List ℕ) where
-  pub tell-nothing : {r : Spelled} {v : List ℕ} → asked ≡ Nothing → Written n (together (asked_pieces w args asked)) out r v → Telling w n args asked out r v
+  pub tell-put : {r : Spelled} {v : List ℕ} {x : Option Verdict} → asked ≡ Ok x → Written n (together (asked_pieces w args asked)) out r v → Telling w n args asked out r v
   unfolding asked_reply
-  tell-nothing {r} {v} e p = record { reply = p.reply ∙ ap (λ (x : Asked). asked_reply n x (together (asked_pieces w args asked)) out) (sym e); bytes = p.bytes }
+  tell-put {r} {v} e p = record { reply = p.reply ∙ ap (λ (x : Asked). asked_reply n x (together (asked_pieces w args asked)) out) (sym e); bytes = p.bytes }
 
-  pub tell-told : {r : Spelled} {v : List ℕ} (k : ℕ) (b : Bool) → asked ≡ Tell k b → Written n (together (asked_pieces w args (Tell k b))) out r v → Telling w n args asked out r v
-  unfolding asked_reply
-  tell-told {r} {v} k b e p = rw e (record { reply = p.reply; bytes = p.bytes })
-
-  pub tells_as : (x : Asked) → asked ≡ x → Tells w n args asked → Tells w n args x
-  tells_as x e t = subst (λ (y : Asked). Tells w n args y) e t
-
-  pub tell-refused : (q : Refusal) → asked ≡ Refused q → Telling w n args asked out (Err q) out
+  pub tell-refused : (q : Refusal) → asked ≡ Err q → Telling w n args asked out (Err q) out
   unfolding asked_reply asked_pieces together why_bytes
   tell-refused q e = rw e (record { reply = refl; bytes = rw (le-leb 0 (length out) (omega arith)) })

@@ -12,14 +12,10 @@ ghost use Rattle.call_ty.specs.Calls.{type_builtin_fn};
 ghost use Rattle.reasons.specs.Reasons.{together};
 ghost use Rattle.reasons.specs.inner.Told.{ruling_of, piece_room};
 ghost use Rattle.why.specs.Why.{by_answer, unary_pieces, binary_pieces, call_pieces, WhyDone};
-ghost use Rattle.why.specs.inner.Asks.{has_ruling, Tells, asked_pieces, Asks, Written, Telling, text_room, Short};
-ghost use Rattle.why.specs.declared.Asked.TheVariants as asks;
+ghost use Rattle.why.specs.inner.Asks.{has_ruling, Tells, asked_pieces, said, Asks, Written, Telling, text_room, Short};
 
-use names::{NamedRule, Names};
+use names::Names;
 use table::{Answer, Place, Reason, Refusal};
-
-// The number of the refusal that is told about.
-const NO_OVERLOAD: u8 = 8;
 
 // Unary `!` `-` `~` are rows 0 to 2 of the overloads; behind the rules that names have stand those of `&` and `*`.
 const ADDRESS_OF: usize = 3;
@@ -32,54 +28,33 @@ const RULE_INDIRECTION: u8 = 110;
 
 const BINARY_OPS: usize = 18;
 
-// What there is to tell of a call: nothing; that its rule accepts it, or that it is refused by it with 8; or that it is refused with another number.
+// What the rule of a call said: that it accepts the call, or, if not, that it refuses it with 8.
 #[derive(Clone, Copy)]
-pub enum Asked {
-    Nothing,
-    Tell { rule: u8, accepted: bool },
-    Refused(Refusal),
+pub struct Verdict {
+    pub rule: u8,
+    pub accepted: bool,
 }
 
-// By the answer of a call that has this rule.
-fn told_by(a: Answer, rule: u8) -> Asked
-    ensures { result ≡ by_answer a (asks.Tell rule true) (asks.Tell rule false) asks.Refused }
+// What there is to tell of a call: what its rule said, or nothing; or the call is refused with another number.
+pub type Asked = Result<Option<Verdict>, Refusal>;
+
+// What a rule said, where there is one.
+fn said(rule: Option<u8>, accepted: bool) -> Option<Verdict>
+    ensures { result ≡ said rule accepted }
 {
-    match a {
-        Answer::Value(_, _) => Asked::Tell {
-            rule,
-            accepted: true,
-        },
-        Answer::NoValue(_) => Asked::Tell {
-            rule,
-            accepted: true,
-        },
-        Answer::Refused(r) => {
-            let reason = r.reason;
-            if table::reason_no(reason) == NO_OVERLOAD {
-                return Asked::Tell {
-                    rule,
-                    accepted: false,
-                };
-            }
-            Asked::Refused(r)
-        }
-    }
+    rule.map(|rule| Verdict { rule, accepted })
 }
 
-// The same of a call of which nothing is told.
-fn untold(a: Answer) -> Asked
-    ensures { result ≡ by_answer a asks.Nothing asks.Nothing asks.Refused }
+// By the answer of a call that has this rule; of one without, nothing is told.
+fn told_by(a: Answer, rule: Option<u8>) -> Asked
+    ensures { result ≡ by_answer a (Ok (said rule true)) (Ok (said rule false)) (λ r. Err r) }
 {
     match a {
-        Answer::Value(_, _) => Asked::Nothing,
-        Answer::NoValue(_) => Asked::Nothing,
-        Answer::Refused(r) => {
-            let reason = r.reason;
-            if table::reason_no(reason) == NO_OVERLOAD {
-                return Asked::Nothing;
-            }
-            Asked::Refused(r)
-        }
+        Answer::Value(_, _) | Answer::NoValue(_) => Ok(said(rule, true)),
+        Answer::Refused(r) => match r.reason {
+            Reason::NoOverload => Ok(said(rule, false)),
+            _ => Err(r),
+        },
     }
 }
 
@@ -87,19 +62,13 @@ fn untold(a: Answer) -> Asked
 fn unary_rule(op: usize) -> u8
     ensures { op < 5 → ruling_of result ≡ unary_ruling op }
 {
-    if op == 0 {
-        return 0;
+    match op {
+        0 => 0,
+        1 => 1,
+        ADDRESS_OF => RULE_ADDRESS,
+        INDIRECTION => RULE_INDIRECTION,
+        _ => 2,
     }
-    if op == 1 {
-        return 1;
-    }
-    if op == ADDRESS_OF {
-        return RULE_ADDRESS;
-    }
-    if op == INDIRECTION {
-        return RULE_INDIRECTION;
-    }
-    2
 }
 
 // The number of a binary operator's rule.
@@ -130,7 +99,7 @@ pub fn ask_unary(words: &[u32], n: usize, op: usize, a: u32) -> Asked
     ensures { Asks words.now n (a ∷ []) (unary_pieces words.now n op a) (type_unary_op words.now n op a).answer result }
 {
     let answer = trial::unary(words, n, op, a);
-    told_by(answer, unary_rule(op))
+    told_by(answer, Some(unary_rule(op)))
 }
 
 // What there is to tell of a binary operator on the operands a and b.
@@ -138,7 +107,7 @@ pub fn ask_binary(words: &[u32], n: usize, op: usize, a: u32, b: u32) -> Asked
     ensures { Asks words.now n (a ∷ b ∷ []) (binary_pieces words.now n op a b) (type_binary_op words.now n op a b).answer result }
 {
     let answer = trial::binary(words, n, op, a, b);
-    told_by(answer, binary_rule(op))
+    told_by(answer, Some(binary_rule(op)))
 }
 
 // What there is to tell of a call of a builtin.
@@ -154,13 +123,8 @@ pub fn ask_call(
 {
     let answer = trial::builtin(words, n, profile, name, tplt, args);
     match Names::new().rule_of(profile, name) {
-        Some(NamedRule { rule, running }) => {
-            if has_ruling(rule) {
-                return told_by(answer, rule);
-            }
-            untold(answer)
-        }
-        None => untold(answer),
+        Some(named) => told_by(answer, has_ruling(named.rule).then_some(named.rule)),
+        None => told_by(answer, None),
     }
 }
 
@@ -170,9 +134,9 @@ pub fn piece_count(asked: Asked) -> usize
     ensures upper_bound { result ≤ 256 }
 {
     match asked {
-        Asked::Nothing => 0,
-        Asked::Tell { rule, accepted } => pieces::count(rule, accepted),
-        Asked::Refused(_) => 0,
+        Ok(Some(v)) => pieces::count(v.rule, v.accepted),
+        Ok(None) => 0,
+        Err(_) => 0,
     }
 }
 
@@ -191,11 +155,9 @@ pub fn put_piece(
     ensures upper_bound { result ≤ at + piece_room }
 {
     match asked {
-        Asked::Nothing => at,
-        Asked::Tell { rule, accepted } => pieces::put_piece(
-            words, n, rule, accepted, args, j, out, at,
-        ),
-        Asked::Refused(_) => at,
+        Ok(Some(v)) => pieces::put_piece(words, n, v.rule, v.accepted, args, j, out, at),
+        Ok(None) => at,
+        Err(_) => at,
     }
 }
 
@@ -205,12 +167,9 @@ fn put_all(words: &[u32], n: usize, asked: Asked, args: &[u32], out: &mut [u8]) 
     ensures put { Put out.old 0 (together (asked_pieces words.now args.now asked)) result out.new }
     ensures upper_bound { result ≤ text_room }
 {
-    let count = piece_count(asked);
-    let mut j = 0;
     let mut at = 0;
-    while j < count {
+    for j in 0..piece_count(asked) {
         at = put_piece(words, n, asked, args, j, out, at);
-        j += 1;
     }
     at
 }
@@ -239,11 +198,8 @@ fn tell(words: &[u32], n: usize, asked: Asked, args: &[u32], out: &mut [u8]) -> 
     ensures telling { Telling words.now n args.now asked out.old result out.new }
     ensures short { Short result }
 {
-    match asked {
-        Asked::Nothing => put_fitting(words, n, asked, args, out),
-        Asked::Tell { rule, accepted } => put_fitting(words, n, asked, args, out),
-        Asked::Refused(r) => Err(r),
-    }
+    asked?;
+    put_fitting(words, n, asked, args, out)
 }
 
 // For a host: why a unary operator is accepted or refused with 8, into `out`.

@@ -1,13 +1,12 @@
 -- `why::piece_count` meets its contract, case by case of what is asked. Assumes nothing.
-use native.Mathlib.Omega.{arith}
-use Rattle.why.proofs.Asking.{count-nothing, count-told, count-refused}
+use Rattle.why.proofs.Asking.{count-told, count-nothing, count-refused}
 use Rattle.why.proofs.piece_count.Goals as goal
 
-pub returns-in-Nothing : goal.returns-in-Nothing
-returns-in-Nothing c = record { by_index = count-nothing c.in-Nothing.is; upper_bound = omega arith }
+pub returns-in-Ok-Some-clause-by_index : goal.returns-in-Ok-Some-clause-by_index
+returns-in-Ok-Some-clause-by_index c = let h = c.in-Ok-Some in count-told h.is (rw h.is at h.field-0-is) c.count.ensures.0
 
-pub returns-in-Tell : goal.returns-in-Tell
-returns-in-Tell c = record { by_index = count-told c.in-Tell.is c.count.ensures.0; upper_bound = c.count.ensures.1 }
+pub returns-in-Ok-None-clause-by_index : goal.returns-in-Ok-None-clause-by_index
+returns-in-Ok-None-clause-by_index c = let h = c.in-Ok-None in count-nothing h.is (rw h.is at h.field-0-is)
 
-pub returns-in-Refused : goal.returns-in-Refused
-returns-in-Refused c = record { by_index = count-refused c.in-Refused.is; upper_bound = omega arith }
+pub returns-in-Err-clause-by_index : goal.returns-in-Err-clause-by_index
+returns-in-Err-clause-by_index c = count-refused c.in-Err.is

@@ -1,18 +1,14 @@
--- `why::tell` meets its contract, case by case of what is asked. Assumes nothing.
-use Rattle.why.proofs.Texts.{tell-nothing, tell-told, tells_as, tell-refused}
+-- `why::tell` meets its contract: the text, or the refusal that is handed on. Assumes nothing.
 use Rattle.why.specs.inner.Asks.{Short}
-use Rattle.why.proofs.Texts.{tell-nothing, tell-told, tell-refused}
+use Rattle.why.proofs.Texts.{tell-put, tell-refused}
 use Rattle.why.proofs.tell.Goals as goal
 
-pub put_fitting-requires-in-Tell : goal.put_fitting-requires-in-Tell
-put_fitting-requires-in-Tell c = let a = c.args in tells_as a.words.now a.n a.args.now a.asked a.out.now _ c.in-Tell.is c.requires
+pub returns-in-Ok-clause-telling : goal.returns-in-Ok-clause-telling
+returns-in-Ok-clause-telling c = let a = c.args in tell-put a.words.now a.n a.args.now a.asked a.out.now c.in-Ok.is c.put_fitting.ensures.written
 
-pub returns-in-Nothing : goal.returns-in-Nothing
-returns-in-Nothing c = let a = c.args in record { telling = tell-nothing a.words.now a.n a.args.now a.asked a.out.now c.in-Nothing.is c.put_fitting.ensures.written; short = c.put_fitting.ensures.short }
+pub returns-in-Err-clause-telling : goal.returns-in-Err-clause-telling
+returns-in-Err-clause-telling c = let a = c.args in tell-refused a.words.now a.n a.args.now a.asked a.out.now _ c.in-Err.is
 
-pub returns-in-Tell : goal.returns-in-Tell
-returns-in-Tell c = let a = c.args in record { telling = tell-told a.words.now a.n a.args.now a.asked a.out.now _ _ c.in-Tell.is c.put_fitting-in-Tell.ensures.written; short = c.put_fitting-in-Tell.ensures.short }
-
-pub returns-in-Refused : goal.returns-in-Refused
+pub returns-in-Err-clause-short : goal.returns-in-Err-clause-short
 unfolding Short
-returns-in-Refused c = let a = c.args in record { telling = tell-refused a.words.now a.n a.args.now a.asked a.out.now _ c.in-Refused.is; short = tt }
+returns-in-Err-clause-short c = tt

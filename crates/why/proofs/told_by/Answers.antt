@@ -1,16 +1,15 @@
 -- `why::told_by` meets its contract, case by case of the answer. Assumes nothing.
-use mathlib.Core.Path.{sym, ◌∙◌}
+use mathlib.Core.Path.{sym, ◌∙◌, ap}
+use mathlib.Core.Logic.{⊎_elim}
+use Rattle.std.proofs.Common.{Ok}
 use Rattle.why.proofs.Asking.{by_value, by-none, by-eight, by-other}
 use Rattle.why.proofs.told_by.Goals as goal
 
-pub returns-then-reason_no-eq-NO_OVERLOAD : goal.returns-then-reason_no-eq-NO_OVERLOAD
-returns-then-reason_no-eq-NO_OVERLOAD c = by-eight _ _ _ _ _ c.in-Refused.is (sym c.reason_no.ensures ∙ c.if-reason_no-eq-NO_OVERLOAD.true)
-
 pub returns-in-Value : goal.returns-in-Value
-returns-in-Value c = by_value _ _ _ _ c.in-Value.is
+returns-in-Value c = rw c.said.ensures (⊎_elim (λ x. by_value _ _ _ _ x.2) (λ x. by-none _ _ _ _ x.1) c.in-Value.is)
 
-pub returns-in-NoValue : goal.returns-in-NoValue
-returns-in-NoValue c = by-none _ _ _ _ c.in-NoValue.is
+pub returns-in-NoOverload : goal.returns-in-NoOverload
+returns-in-NoOverload c = let h = c.in-NoOverload in rw c.said-in-NoOverload.ensures (by-eight _ _ _ _ _ c.in-Refused.is h.is)
 
-pub returns-else-reason_no-eq-NO_OVERLOAD : goal.returns-else-reason_no-eq-NO_OVERLOAD
-returns-else-reason_no-eq-NO_OVERLOAD c = by-other _ _ _ _ _ c.in-Refused.is (λ e. c.if-reason_no-eq-NO_OVERLOAD.false (c.reason_no.ensures ∙ e))
+pub returns-in_default : goal.returns-in_default
+returns-in_default c = let h = c.in_default in by-other _ _ _ _ _ c.in-Refused.is h.not-NoOverload
