@@ -13,7 +13,7 @@ use Rattle.frame.specs.Frame.{item_at, items_from, header_size}
 use Rattle.frame.specs.declared.Placed.{Placed}
 use Rattle.frame.proofs.FrameLaws.{own-place}
 use Rattle.frame.proofs.ItemsLaws.{items-from}
-use Rattle.step.specs.Effect.{most, State, Effect, ends, effect_of}
+use Rattle.step.specs.Effect.{most, State, Effect, effect_of}
 use Rattle.step.specs.declared.Did.{Did}
 use Rattle.step.specs.declared.Did.TheVariants as did
 use Rattle.step.specs.inner.Code.{state_of, effect_by, Counted, Ready, Does}
@@ -21,7 +21,7 @@ use Rattle.sheet.specs.Machine.{more, done, after, turn_of}
 use Rattle.sheet.proofs.Running.{turn-item, turn-kept, run-forward}
 use Rattle.desk.specs.Told.{Told, nothing, before, is_told, going_on, told_in, told_of}
 use Rattle.desk.specs.inner.Code.{told_by, Standing, Finds}
-use Rattle.desk.specs.declared.Stand.TheVariants as stand
+use Rattle.std.proofs.Common.{Some, None}
 
 -- what is told of the items from a place on
 abbrev told_from : ℕ → List ℕ → Answer → ℕ → State → Told
@@ -67,7 +67,7 @@ module _ (profile : ℕ) (s : List ℕ) (a : Answer) (w₀ : List ℕ) (n₀ : �
   abbrev st : State
   st = state_of count vals n w
 
-  pub found : is_told a (length s) x ≡ true → Finds s (told_of profile w₀ n₀ s a) (stand.At x count n) vals w
+  pub found : is_told a (length s) x ≡ true → Finds s (told_of profile w₀ n₀ s a) (Some (record { placed = x; count = count; used = n })) vals w
   unfolding told_by Standing
   found h =
       record {
@@ -107,18 +107,14 @@ module _ (profile : ℕ) (s : List ℕ) (a : Answer) (w₀ : List ℕ) (n₀ : �
       left_less = let f = run-forward profile s at st (state_of c vals' u w') went_on in (omega (arith, f.0, next), omega (arith, f.1, next))
 
     -- the run ends before an item is told
-    nowhere : (o : Outcome) → turn_of profile s (item_at s at) st ≡ done o → Finds s (told_of profile w₀ n₀ s a) stand.Nowhere vals' w'
+    nowhere : (o : Outcome) → turn_of profile s (item_at s at) st ≡ done o → Finds s (told_of profile w₀ n₀ s a) None vals' w'
     unfolding told_by Standing
     nowhere o e = record { told = sym (over profile s a at st not-here o e) ∙ l.rest; standing = tt }
 
-    pub left-silent : (c u : ℕ) → Does (effect_of profile at st s x.item) (did.Silent c u) vals' w' → Finds s (told_of profile w₀ n₀ s a) stand.Nowhere vals' w'
+    -- so it is wherever the step did not go on
+    pub left_over : (d : Did) → ((c u : ℕ) → d ≡ did.Went c u → ⊥) → Does (effect_of profile at st s x.item) d vals' w' → Finds s (told_of profile w₀ n₀ s a) None vals' w'
     unfolding effect_by after
-    left-silent c u g = nowhere _ (turns (did.Silent c u) g)
-
-    pub left_ended : (c u : ℕ) → Does (effect_of profile at st s x.item) (did.Ended c u) vals' w' → Finds s (told_of profile w₀ n₀ s a) stand.Nowhere vals' w'
-    unfolding effect_by after
-    left_ended c u g = nowhere _ (turns (did.Ended c u) g)
-
-    pub left-refused : (r : _) → Does (effect_of profile at st s x.item) (did.Refused r) vals' w' → Finds s (told_of profile w₀ n₀ s a) stand.Nowhere vals' w'
-    unfolding effect_by after
-    left-refused r g = nowhere _ (turns (did.Refused r) g)
+    left_over (did.Went c u) f g = absurd (f c u refl)
+    left_over (did.Silent c u) f g = nowhere _ (turns (did.Silent c u) g)
+    left_over (did.Ended c u) f g = nowhere _ (turns (did.Ended c u) g)
+    left_over (did.Refused r) f g = nowhere _ (turns (did.Refused r) g)

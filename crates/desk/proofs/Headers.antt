@@ -21,7 +21,7 @@ use Rattle.lines.proofs.Valued.{start-sound}
 use Rattle.desk.specs.Told.{Told, nothing, before, is_told, going_on, told_in, told_of}
 use Rattle.desk.specs.inner.Code.{told_by, Standing, Finds}
 use Rattle.desk.specs.declared.Stand.{Stand}
-use Rattle.desk.specs.declared.Stand.TheVariants as stand
+use Rattle.std.proofs.Common.{Option, Some, None}
 
 -- going on from a turn, to the same
 going-alike : (u : Turned) (f g : State → Told) → ((st : State) → f st ≡ g st) → going_on u f ≡ going_on u g
@@ -59,12 +59,12 @@ module _ (profile : ℕ) (a : Answer) where
     unfolding items_from
     told-alike w n = within-alike (length s) header_size (begun w n) ∙ ap (λ (xs : List Placed). told_in profile t a xs (begun w n)) (items_alike l header_size)
 
-    standing-alike : (r : Stand) (vals words : List ℕ) → Standing s r vals words → Standing t r vals words
+    standing-alike : (r : Option Stand) (vals words : List ℕ) → Standing s r vals words → Standing t r vals words
     unfolding Standing
-    standing-alike stand.Nowhere vals words h = tt
-    standing-alike (stand.At x count used) vals words h = (h.0, h.1 ∙ item-alike l x.at.0)
+    standing-alike None vals words h = tt
+    standing-alike (Some r) vals words h = (h.0, h.1 ∙ item-alike l r.placed.at.0)
 
-    pub finds-alike : (w : List ℕ) (n : ℕ) (r : Stand) (vals words : List ℕ) → Finds s (told_of profile w n s a) r vals words → Finds t (told_of profile w n t a) r vals words
+    pub finds-alike : (w : List ℕ) (n : ℕ) (r : Option Stand) (vals words : List ℕ) → Finds s (told_of profile w n s a) r vals words → Finds t (told_of profile w n t a) r vals words
     finds-alike w n r vals words f = record { told = f.told ∙ told-alike w n; standing = standing-alike r vals words f.standing }
 
 -- A REFUSAL FOR THE HEADER tells of no item
@@ -78,7 +78,7 @@ unfolding told_in is_told
 none_told profile s n [] st = refl
 none_told profile s n (x ∷ xs) st = going-alike (turn_of profile s x st) (told_in profile s (refuse Framing 0 n) xs) (λ st'. nothing) (none_told profile s n xs) ∙ still (turn_of profile s x st)
 
-pub finds-nothing : (profile : ℕ) (s : List ℕ) → header_ok s ≡ false → (vals words : List ℕ) → Finds s (told_of profile start scalars s (outcome profile s).answer) stand.Nowhere vals words
+pub finds-nothing : (profile : ℕ) (s : List ℕ) → header_ok s ≡ false → (vals words : List ℕ) → Finds s (told_of profile start scalars s (outcome profile s).answer) None vals words
 unfolding told_by Standing
 finds-nothing profile s h vals words =
     record {

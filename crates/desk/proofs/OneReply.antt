@@ -8,17 +8,27 @@ use Rattle.text.specs.Text.{Put}
 use Rattle.text.proofs.OneReply.{one-put}
 use Rattle.desk.specs.declared.Query.{Query}
 use Rattle.desk.specs.Desk.{desk_pieces}
-use Rattle.desk.specs.inner.Code.{pieces_of, Queries, Counted}
+use Rattle.desk.specs.inner.Code.{pieces_of, all_pieces, Queries, Counted}
+use Rattle.std.proofs.Common.{Some, None}
 
-module _ (profile : ℕ) (s : List ℕ) {q : Query} {vals words : List ℕ} (t : Queries (desk_pieces profile s) q vals words) where
+module _ (profile : ℕ) (s : List ℕ) {q : Query} {vals words : List ℕ} (t : Queries (desk_pieces profile s) (Some q) vals words) where
+  unfolded : pieces_of q vals words ≡ desk_pieces profile s
+  unfolding all_pieces
+  unfolded = t.pieces
+
   pub told-count : {r : ℕ} → Counted q r → r ≡ length (desk_pieces profile s)
-  told-count h = h vals words ∙ ap length t.pieces
+  told-count h = h vals words ∙ ap length unfolded
 
   pub told-piece : (j : ℕ) {at r : ℕ} {d v : List ℕ} → Put d at (get_or (pieces_of q vals words) j []) r v → Put d at (get_or (desk_pieces profile s) j []) r v
-  told-piece j {at} {r} {d} {v} h = subst (λ (ps : List (List ℕ)). Put d at (get_or ps j []) r v) t.pieces h
+  told-piece j {at} {r} {d} {v} h = subst (λ (ps : List (List ℕ)). Put d at (get_or ps j []) r v) unfolded h
+
+-- where nothing is asked, nothing is told
+pub told-none : (profile : ℕ) (s : List ℕ) {vals words : List ℕ} → Queries (desk_pieces profile s) None vals words → desk_pieces profile s ≡ []
+unfolding all_pieces
+told-none profile s t = sym t.pieces
 
 -- so with two queries
-module _ (profile : ℕ) (s : List ℕ) {q q' : Query} {vals words vals' words' : List ℕ} (t : Queries (desk_pieces profile s) q vals words) (t' : Queries (desk_pieces profile s) q' vals' words') where
+module _ (profile : ℕ) (s : List ℕ) {q q' : Query} {vals words vals' words' : List ℕ} (t : Queries (desk_pieces profile s) (Some q) vals words) (t' : Queries (desk_pieces profile s) (Some q') vals' words') where
   pub one-count : {r r' : ℕ} → Counted q r → Counted q' r' → r ≡ r'
   one-count h h' = told-count profile s t h ∙ sym (told-count profile s t' h')
 

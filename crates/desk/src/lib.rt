@@ -13,27 +13,21 @@ ghost use Rattle.lines.specs.Lines.{start, outcome};
 ghost use Rattle.reasons.specs.inner.Told.{piece_room};
 ghost use Rattle.desk.specs.Told.{is_told, told_of};
 ghost use Rattle.desk.specs.Desk.{unary_lines, binary_lines, call_lines, template_lines, item_lines, desk_pieces};
-ghost use Rattle.desk.specs.inner.Code.{Finds, pieces_of, Asking, Queries, NoQuery, Counted};
+ghost use Rattle.desk.specs.inner.Code.{Finds, pieces_of, Asking, Queries, Counted};
 
 use cast::wide;
 use frame::{HEADER, Item, Placed};
 use names::Names;
 use step::Did;
-use table::{Answer, Place, SCALARS};
+use table::{Answer, Place, Reason, SCALARS};
 use why::Asked;
 
-// The number of the refusal where no overload fits.
-const NO_OVERLOAD: u8 = 8;
-
-// The item that is told, with the values and the entries that stand before it; or none is.
+// The item that is told, and how many values and entries stand before it.
 #[derive(Clone, Copy)]
-pub enum Stand {
-    Nowhere,
-    At {
-        placed: Placed,
-        count: usize,
-        used: usize,
-    },
+pub struct Stand {
+    pub placed: Placed,
+    pub count: usize,
+    pub used: usize,
 }
 
 // What is asked: the single call that the item stands for, over so many entries, on the values of the stack from the first to the end.
@@ -54,44 +48,19 @@ const BINARY: usize = 2;
 fn is_item(item: Item) -> bool
     ensures { result ≡ is_item item }
 {
-    match item {
-        Item::Push { ty: _, running: _ } => true,
-        Item::Unary(_) => true,
-        Item::Binary(_) => true,
-        Item::Call { count: _, name: _ } => true,
-        Item::CallTemplate {
-            template: _,
-            count: _,
-            name: _,
-        } => true,
-        Item::Take {
-            kind: _,
-            p: _,
-            q: _,
-            elem: _,
-            running: _,
-        } => true,
-        Item::End => false,
-        Item::Bad => false,
-    }
+    !matches!(item, Item::End | Item::Bad)
 }
 
 // Whether what stands at a place of a sheet of `size` bytes is the item that is told, by the sheet's answer.
 fn is_told(a: Answer, size: usize, x: Placed) -> bool
     ensures { result ≡ is_told a size x }
 {
-    let next = x.next;
-    let item = x.item;
-    let last = is_item(item) & (next.0 == size);
     match a {
-        Answer::Value(_, _) => last,
-        Answer::NoValue(_) => last,
-        Answer::Refused(r) => {
-            let why = r.reason;
-            let there = r.place;
-            let at = x.at;
-            (table::reason_no(why) == NO_OVERLOAD) & (at.0 == there.0)
-        }
+        Answer::Value(_, _) | Answer::NoValue(_) => is_item(x.item) & (x.next.0 == size),
+        Answer::Refused(r) => match r.reason {
+            Reason::NoOverload => x.at.0 == r.place.0,
+            _ => false,
+        },
     }
 }
 
@@ -105,7 +74,7 @@ fn find(
     table: &mut [u32],
     used: usize,
     stack: &mut [u32],
-) -> Stand
+) -> Option<Stand>
     requires { Sound table.old used × (length stack.old ≡ 64) }
     ensures { Finds (sheet_of version items.now) (told_of profile table.old used (sheet_of version items.now) a) result stack.new table.new }
 {
@@ -113,43 +82,31 @@ fn find(
     let mut used = used;
     let mut at = HEADER;
     loop {
-        let x = frame::item_in(version, items, Place(at));
-        if is_told(a, HEADER + items.len(), x) {
-            return Stand::At {
-                placed: x,
+        let placed = frame::item_in(version, items, Place(at));
+        if is_told(a, HEADER + items.len(), placed) {
+            return Some(Stand {
+                placed,
                 count,
                 used,
-            };
+            });
         }
-        let item = x.item;
-        match step::step(
+        let Did::Went { count: c, used: u } = step::step(
             version,
             items,
             names,
             profile,
-            item,
+            placed.item,
             Place(at),
             stack,
             count,
             table,
             used,
-        ) {
-            Did::Went { count: c, used: u } => {
-                let next = x.next;
-                at = next.0;
-                count = c;
-                used = u;
-            }
-            Did::Silent { count: _, used: _ } => {
-                return Stand::Nowhere;
-            }
-            Did::Ended { count: _, used: _ } => {
-                return Stand::Nowhere;
-            }
-            Did::Refused(_) => {
-                return Stand::Nowhere;
-            }
-        }
+        ) else {
+            return None;
+        };
+        at = placed.next.0;
+        count = c;
+        used = u;
     }
 }
 
@@ -163,12 +120,12 @@ fn answer_of(profile: u32, sheet: &[u8]) -> Answer
 }
 
 // The item of a sheet that is told, over the seven scalars: the stack and the table stand then as they do before it.
-fn stand_in(profile: u32, sheet: &[u8], words: &mut [u32], stack: &mut [u32]) -> Stand
+fn stand_in(profile: u32, sheet: &[u8], words: &mut [u32], stack: &mut [u32]) -> Option<Stand>
     requires { (words.old ≡ start) × (length stack.old ≡ 64) }
     ensures { Finds sheet.now (told_of profile start scalars sheet.now (outcome profile sheet.now).answer) result stack.new words.new }
 {
     if !frame::header(sheet) {
-        return Stand::Nowhere;
+        return None;
     }
     let a = answer_of(profile, sheet);
     find(
@@ -183,52 +140,34 @@ fn stand_in(profile: u32, sheet: &[u8], words: &mut [u32], stack: &mut [u32]) ->
     )
 }
 
-// Nothing is asked.
-fn no_query() -> Query
-    ensures { NoQuery result }
-{
-    Query {
-        asked: Asked::Nothing,
-        used: 0,
-        first: 0,
-        end: 0,
-    }
-}
-
 // What a unary operator asks, on the last of the values.
-fn unary_query(op: u8, words: &[u32], used: usize, stack: &[u32], count: usize) -> Query
+fn unary_query(op: u8, words: &[u32], used: usize, stack: &[u32], count: usize) -> Option<Query>
     requires { Ready count stack.now used words.now }
     ensures { Queries (unary_lines (state_of count stack.now used words.now) op) result stack.now words.now }
 {
-    if count < UNARY {
-        return no_query();
-    }
-    let first = count - UNARY;
+    let first = count.checked_sub(UNARY)?;
     let asked = why::ask_unary(words, used, wide(op), stack[first]);
-    Query {
+    Some(Query {
         asked,
         used,
         first,
         end: count,
-    }
+    })
 }
 
 // What a binary operator asks, on the last two.
-fn binary_query(op: u8, words: &[u32], used: usize, stack: &[u32], count: usize) -> Query
+fn binary_query(op: u8, words: &[u32], used: usize, stack: &[u32], count: usize) -> Option<Query>
     requires { Ready count stack.now used words.now }
     ensures { Queries (binary_lines (state_of count stack.now used words.now) op) result stack.now words.now }
 {
-    if count < BINARY {
-        return no_query();
-    }
-    let first = count - BINARY;
+    let first = count.checked_sub(BINARY)?;
     let asked = why::ask_binary(words, used, wide(op), stack[first], stack[first + 1]);
-    Query {
+    Some(Query {
         asked,
         used,
         first,
         end: count,
-    }
+    })
 }
 
 // What a call asks, on the last k, with its template list.
@@ -241,22 +180,19 @@ fn call_query(
     used: usize,
     stack: &[u32],
     count: usize,
-) -> Query
+) -> Option<Query>
     requires { Ready count stack.now used words.now }
     ensures { Queries (call_lines (state_of count stack.now used words.now) profile name.now tplt.now k) result stack.now words.now }
 {
     let k = wide(k);
-    if count < k {
-        return no_query();
-    }
-    let first = count - k;
+    let first = count.checked_sub(k)?;
     let asked = why::ask_call(words, used, profile, name, tplt, &stack[first..count]);
-    Query {
+    Some(Query {
         asked,
         used,
         first,
         end: count,
-    }
+    })
 }
 
 // What a call with a template asks.
@@ -269,16 +205,14 @@ fn template_query(
     used: usize,
     stack: &[u32],
     count: usize,
-) -> Query
+) -> Option<Query>
     requires { Ready count stack.now used words.now }
     ensures { Queries (template_lines (state_of count stack.now used words.now) profile name.now t k) result stack.now words.now }
 {
     if used <= t {
-        return no_query();
+        return None;
     }
-    let template = t as u32;
-    let list = [template];
-    call_query(profile, name, &list, k, words, used, stack, count)
+    call_query(profile, name, &[t as u32], k, words, used, stack, count)
 }
 
 // What an item of the sheet asks.
@@ -290,18 +224,16 @@ fn item_query(
     used: usize,
     stack: &[u32],
     count: usize,
-) -> Query
+) -> Option<Query>
     requires { Ready count stack.now used words.now × Within (length sheet.now) (name_of item) }
     ensures { Queries (item_lines profile sheet.now (state_of count stack.now used words.now) item) result stack.now words.now }
 {
     match item {
-        Item::Push { ty: _, running: _ } => no_query(),
         Item::Unary(op) => unary_query(op, words, used, stack, count),
         Item::Binary(op) => binary_query(op, words, used, stack, count),
         Item::Call { count: k, name } => {
             let bytes = frame::part_of(sheet, name);
-            let list: [u32; 0] = [];
-            call_query(profile, bytes, &list, k, words, used, stack, count)
+            call_query(profile, bytes, &[], k, words, used, stack, count)
         }
         Item::CallTemplate {
             template,
@@ -311,42 +243,32 @@ fn item_query(
             let bytes = frame::part_of(sheet, name);
             template_query(profile, bytes, template.0, k, words, used, stack, count)
         }
-        Item::Take {
-            kind: _,
-            p: _,
-            q: _,
-            elem: _,
-            running: _,
-        } => no_query(),
-        Item::End => no_query(),
-        Item::Bad => no_query(),
+        Item::Push { .. } | Item::Take { .. } | Item::End | Item::Bad => None,
     }
 }
 
 // What is asked of a sheet, over the table of the seven scalars and a stack that are lent: they are those before the item that is told afterwards.
-pub fn tell(profile: u32, sheet: &[u8], words: &mut [u32], stack: &mut [u32]) -> Query
+pub fn tell(profile: u32, sheet: &[u8], words: &mut [u32], stack: &mut [u32]) -> Option<Query>
     requires { (words.old ≡ start) × (length stack.old ≡ 64) }
     ensures { Queries (desk_pieces profile sheet.now) result stack.new words.new }
 {
-    match stand_in(profile, sheet, words, stack) {
-        Stand::Nowhere => no_query(),
-        Stand::At {
-            placed,
-            count,
-            used,
-        } => {
-            let item = placed.item;
-            item_query(profile, sheet, item, words, used, stack, count)
-        }
-    }
+    let at = stand_in(profile, sheet, words, stack)?;
+    item_query(
+        profile,
+        sheet,
+        at.placed.item,
+        words,
+        at.used,
+        stack,
+        at.count,
+    )
 }
 
 // How many pieces were asked for.
 pub fn piece_count(q: Query) -> usize
     ensures { Counted q result }
 {
-    let asked = q.asked;
-    why::piece_count(asked)
+    why::piece_count(q.asked)
 }
 
 // Piece j, put into a lent output from a place on; the place after it.
@@ -362,8 +284,5 @@ pub fn put_piece(
     ensures put { Put out.old at (get_or (pieces_of q stack.now words.now) j []) result out.new }
     ensures upper_bound { result ≤ at + piece_room }
 {
-    let first = q.first;
-    let end = q.end;
-    let asked = q.asked;
-    why::put_piece(words, q.used, asked, &stack[first..end], j, out, at)
+    why::put_piece(words, q.used, q.asked, &stack[q.first..q.end], j, out, at)
 }

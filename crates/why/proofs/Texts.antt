@@ -2,8 +2,7 @@
 use Prim.Native.Nat.{ℕ, ◌+◌, ◌*◌, ◌≤◌, ◌<◌}
 use native.Mathlib.Omega.{arith}
 use native.Mathlib.Numerals.{add-one}
-use mathlib.Core.Path.{◌≡◌, refl, sym, ◌∙◌, ap, subst}
-use mathlib.Core.Bool.{Bool}
+use mathlib.Core.Path.{◌≡◌, refl, sym, ◌∙◌, ap}
 use mathlib.Core.List.{List, [], ◌∷◌, ◌++◌, append_assoc, append-nil}
 use lib.ListN.{length, get_or, take}
 use lib.Seq.{sets, take-suc, take-length}
@@ -19,7 +18,7 @@ use Rattle.reasons.specs.Reasons.{together}
 use Rattle.reasons.specs.inner.Told.{piece_room}
 use Rattle.why.specs.Why.{written_reply, why_bytes}
 use Rattle.std.proofs.Common.{Option, Ok, Err}
-use Rattle.why.specs.inner.Asks.{Asked, Tells, asked_pieces, asked_reply, Written, Telling}
+use Rattle.why.specs.inner.Asks.{Asked, asked_pieces, asked_reply, Written, Telling}
 use Rattle.why.specs.declared.Verdict.{Verdict}
 
 together-append : (xs ys : List (List ℕ)) → together (xs ++ ys) ≡ together xs ++ together ys

@@ -175,7 +175,13 @@ fn put_all(words: &[u32], n: usize, asked: Asked, args: &[u32], out: &mut [u8]) 
 }
 
 // The text, or 12, and then nothing is written: a first run into no bytes gives the length.
-fn put_fitting(words: &[u32], n: usize, asked: Asked, args: &[u32], out: &mut [u8]) -> Result<usize, Refusal>
+fn put_fitting(
+    words: &[u32],
+    n: usize,
+    asked: Asked,
+    args: &[u32],
+    out: &mut [u8],
+) -> Result<usize, Refusal>
     requires { Tells words.now n args.now asked }
     ensures written { Written n (together (asked_pieces words.now args.now asked)) out.old result out.new }
     ensures short { Short result }
@@ -193,7 +199,13 @@ fn put_fitting(words: &[u32], n: usize, asked: Asked, args: &[u32], out: &mut [u
 }
 
 // What there is to tell of a call, told.
-fn tell(words: &[u32], n: usize, asked: Asked, args: &[u32], out: &mut [u8]) -> Result<usize, Refusal>
+fn tell(
+    words: &[u32],
+    n: usize,
+    asked: Asked,
+    args: &[u32],
+    out: &mut [u8],
+) -> Result<usize, Refusal>
     requires { Tells words.now n args.now asked }
     ensures telling { Telling words.now n args.now asked out.old result out.new }
     ensures short { Short result }
@@ -203,7 +215,13 @@ fn tell(words: &[u32], n: usize, asked: Asked, args: &[u32], out: &mut [u8]) -> 
 }
 
 // For a host: why a unary operator is accepted or refused with 8, into `out`.
-pub fn why_unary(words: &[u32], n: usize, op: usize, a: u32, out: &mut [u8]) -> Result<usize, Refusal>
+pub fn why_unary(
+    words: &[u32],
+    n: usize,
+    op: usize,
+    a: u32,
+    out: &mut [u8],
+) -> Result<usize, Refusal>
     ensures why_done { WhyDone n (type_unary_op words.now n op a).answer (unary_pieces words.now n op a) out.old result out.new }
     ensures short { Short result }
 {
@@ -213,7 +231,14 @@ pub fn why_unary(words: &[u32], n: usize, op: usize, a: u32, out: &mut [u8]) -> 
 }
 
 // For a host: the same of a binary operator.
-pub fn why_binary(words: &[u32], n: usize, op: usize, a: u32, b: u32, out: &mut [u8]) -> Result<usize, Refusal>
+pub fn why_binary(
+    words: &[u32],
+    n: usize,
+    op: usize,
+    a: u32,
+    b: u32,
+    out: &mut [u8],
+) -> Result<usize, Refusal>
     ensures why_done { WhyDone n (type_binary_op words.now n op a b).answer (binary_pieces words.now n op a b) out.old result out.new }
     ensures short { Short result }
 {

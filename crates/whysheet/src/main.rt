@@ -48,6 +48,8 @@ fn main(rt: HostRuntime) -> io::Result<()> {
     rt.write_all(&out[..k])?;
     let mut words = lines::scalars();
     let mut stack = [0u32; VALUES];
-    let q = desk::tell(profile_no, &buffer[..n], &mut words, &mut stack);
-    write_pieces(&rt, &words, &stack, q, &mut out)
+    match desk::tell(profile_no, &buffer[..n], &mut words, &mut stack) {
+        Some(q) => write_pieces(&rt, &words, &stack, q, &mut out),
+        None => Ok(()),
+    }
 }

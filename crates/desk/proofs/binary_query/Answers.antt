@@ -1,9 +1,10 @@
 -- `desk::binary_query` meets its contract: nothing where values lack, else the operator on the last two. Assumes nothing.
+use native.Mathlib.Omega.{arith}
 use Rattle.desk.proofs.Queried.{binary-short, binary-asked}
 use Rattle.desk.proofs.binary_query.Goals as goal
 
-pub returns-then-count-lt-BINARY : goal.returns-then-count-lt-BINARY
-returns-then-count-lt-BINARY c = let a = c.args in binary-short a.count a.stack.now a.used a.words.now c.requires (c.no_query.ensures a.stack.now a.words.now) a.op c.if-count-lt-BINARY.true
+pub returns-in_err-first : goal.returns-in_err-first
+returns-in_err-first c = let a = c.args in rw c.from_residual.ensures (binary-short a.count a.stack.now a.used a.words.now c.requires a.op (omega (arith, c.in_err-first.ensures)))
 
 pub returns : goal.returns
-returns c = let a = c.args in binary-asked a.count a.stack.now a.used a.words.now c.requires a.op c.if-count-lt-BINARY.false _ (rw c.wide.ensures at c.ask_binary-asked.ensures)
+returns c = let a = c.args in let e = c.in_ok-first.ensures in rw e.1 (binary-asked a.count a.stack.now a.used a.words.now c.requires a.op e.0 _ (rw (c.wide.ensures, e.1) at c.ask_binary-asked.ensures))

@@ -1,19 +1,29 @@
 -- `desk::is_told` meets its contract: a case for each answer. Assumes nothing.
 use Prim.Native.Nat.{ℕ}
-use mathlib.Core.Bool.{Bool, ◌&&◌}
-use mathlib.Core.Path.{ap}
+use mathlib.Core.Bool.{◌&&◌}
+use mathlib.Core.Path.{◌≡◌}
+use mathlib.Core.Logic.{◌⊎◌, ⊎_elim}
 use lib.Dec.{eqb}
+use Rattle.answer.specs.declared.TypeNo.{TypeNo}
+use Rattle.answer.specs.declared.Answer.{Answer}
+use Rattle.answer.specs.declared.Answer.TheVariants.{Value, NoValue}
+use Rattle.frame.specs.Frame.{is_item}
+use Rattle.frame.specs.declared.Placed.{Placed}
+use Rattle.why.proofs.Asking.{not-eight}
 use Rattle.desk.specs.Told.{is_told}
 use Rattle.desk.proofs.is_told.Goals as goal
 
+accepted : (a : Answer) (size : ℕ) (x : Placed) → ((t : TypeNo) × (m : ℕ) × (a ≡ Value t m)) ⊎ ((m : ℕ) × (a ≡ NoValue m)) → (is_item x.item && eqb x.next.0 size) ≡ is_told a size x
+unfolding is_told
+accepted a size x h = ⊎_elim (λ (v : (t : TypeNo) × (m : ℕ) × (a ≡ Value t m)). rw v.2) (λ (v : (m : ℕ) × (a ≡ NoValue m)). rw v.1) h
+
 pub returns-in-Value : goal.returns-in-Value
-unfolding is_told
-returns-in-Value c = rw c.in-Value.is (ap (λ (b : Bool). b && eqb c.args.x.next.0 c.args.size) c.is_item.ensures)
+returns-in-Value c = let a = c.args in rw c.is_item.ensures (accepted a.a a.size a.x c.in-Value.is)
 
-pub returns-in-NoValue : goal.returns-in-NoValue
+pub returns-in-NoOverload : goal.returns-in-NoOverload
 unfolding is_told
-returns-in-NoValue c = rw c.in-NoValue.is (ap (λ (b : Bool). b && eqb c.args.x.next.0 c.args.size) c.is_item.ensures)
+returns-in-NoOverload c = rw (c.in-Refused.is, c.in-NoOverload.is)
 
-pub returns-in-Refused : goal.returns-in-Refused
+pub returns-in_default : goal.returns-in_default
 unfolding is_told
-returns-in-Refused c = rw c.in-Refused.is (ap (λ (k : ℕ). eqb k 8 && eqb c.args.x.at.0 c.in-Refused.r.place.0) c.reason_no.ensures)
+returns-in_default c = rw (c.in-Refused.is, not-eight c.in-Refused.r.reason c.in_default.not-NoOverload)

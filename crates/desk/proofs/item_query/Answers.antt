@@ -1,16 +1,31 @@
 -- `desk::item_query` meets its contract: each item by the function of its kind. Assumes nothing.
+use Prim.Native.Nat.{ℕ}
+use mathlib.Core.Bool.{Bool}
+use mathlib.Core.List.{List, []}
+use mathlib.Core.Path.{◌≡◌}
+use mathlib.Core.Logic.{◌⊎◌, ⊎_elim}
+use Rattle.answer.specs.declared.TypeNo.{TypeNo}
+use Rattle.frame.specs.declared.Item.{Item}
+use Rattle.frame.specs.declared.Item.TheVariants.{Push, Take, End, Bad}
+use Rattle.step.specs.Effect.{State}
+use Rattle.step.specs.inner.Code.{state_of}
 use Rattle.desk.specs.Desk.{item_lines}
+use Rattle.desk.proofs.Queried.{none}
 use Rattle.desk.proofs.item_query.Goals as goal
+
+-- a push and a take have no lines, nor has what is no item
+silent : (profile : ℕ) (s : List ℕ) (st : State) (i : Item)
+    → ((t : TypeNo) × (m : Bool) × (i ≡ Push t m)) ⊎ (((kind : ℕ) × (p : ℕ) × (q : ℕ) × (elem : ℕ) × (m : Bool) × (i ≡ Take kind p q elem m)) ⊎ ((i ≡ End) ⊎ (i ≡ Bad))) → item_lines profile s st i ≡ []
+unfolding item_lines
+silent profile s st i h =
+    ⊎_elim (λ (x : (t : TypeNo) × (m : Bool) × (i ≡ Push t m)). rw x.2)
+    (⊎_elim (λ (x : (kind : ℕ) × (p : ℕ) × (q : ℕ) × (elem : ℕ) × (m : Bool) × (i ≡ Take kind p q elem m)). rw x.5) (⊎_elim (λ (e : i ≡ End). rw e) (λ (e : i ≡ Bad). rw e))) h
 
 pub part_of-bytes-requires : goal.part_of-bytes-requires
 part_of-bytes-requires c = rw c.in-Call.is at c.requires.1
 
 pub part_of-bytes-requires-in-CallTemplate : goal.part_of-bytes-requires-in-CallTemplate
 part_of-bytes-requires-in-CallTemplate c = rw c.in-CallTemplate.is at c.requires.1
-
-pub returns-in-Push : goal.returns-in-Push
-unfolding item_lines
-returns-in-Push c = rw c.in-Push.is (c.no_query.ensures c.args.stack.now c.args.words.now)
 
 pub returns-in-Unary : goal.returns-in-Unary
 unfolding item_lines
@@ -28,14 +43,5 @@ pub returns-in-CallTemplate : goal.returns-in-CallTemplate
 unfolding item_lines
 returns-in-CallTemplate c = rw c.in-CallTemplate.is (rw c.part_of-bytes-in-CallTemplate.ensures.bytes at c.template_query.ensures)
 
-pub returns-in-Take : goal.returns-in-Take
-unfolding item_lines
-returns-in-Take c = rw c.in-Take.is (c.no_query-in-Take.ensures c.args.stack.now c.args.words.now)
-
-pub returns-in-End : goal.returns-in-End
-unfolding item_lines
-returns-in-End c = rw c.in-End.is (c.no_query-in-End.ensures c.args.stack.now c.args.words.now)
-
-pub returns-in-Bad : goal.returns-in-Bad
-unfolding item_lines
-returns-in-Bad c = rw c.in-Bad.is (c.no_query-in-Bad.ensures c.args.stack.now c.args.words.now)
+pub returns-in-Push : goal.returns-in-Push
+returns-in-Push c = let a = c.args in rw (silent a.profile a.sheet.now (state_of a.count a.stack.now a.used a.words.now) a.item c.in-Push.is) (none a.count a.stack.now a.used a.words.now c.requires.0)

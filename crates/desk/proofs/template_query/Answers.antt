@@ -3,7 +3,7 @@ use Rattle.desk.proofs.Queried.{template-short, template-call}
 use Rattle.desk.proofs.template_query.Goals as goal
 
 pub returns-then-used-t : goal.returns-then-used-t
-returns-then-used-t c = let a = c.args in template-short a.count a.stack.now a.used a.words.now c.requires (c.no_query.ensures a.stack.now a.words.now) a.profile a.name.now a.t a.k c.if-used-t.true
+returns-then-used-t c = let a = c.args in template-short a.count a.stack.now a.used a.words.now c.requires a.profile a.name.now a.t a.k c.if-used-t.true
 
 pub returns : goal.returns
 returns c = let a = c.args in template-call a.count a.stack.now a.used a.words.now c.requires a.profile a.name.now a.t a.k c.if-used-t.false c.call_query.ensures

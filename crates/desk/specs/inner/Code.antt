@@ -1,24 +1,23 @@
 -- What the code goes by: the item that is told stands over the first values of a lent slice and the words of a lent table. Assumes nothing.
-use Rattle.std.specs.Prelude.{ℕ, ◌-◌, ◌≤◌, ◌≡◌, List, [], length, take, drop}
+use Rattle.std.specs.Prelude.{ℕ, ◌-◌, ◌≤◌, ◌≡◌, List, [], Option, Some, None, length, take, drop}
 use Rattle.frame.specs.Frame.{item_at}
 use Rattle.step.specs.inner.Code.{state_of, Ready}
 use Rattle.why.specs.inner.Asks.{Tells, asked_pieces}
 use Rattle.desk.specs.declared.Query.{Query}
 use Rattle.desk.specs.Told.{Told, nothing, before}
 use Rattle.desk.specs.declared.Stand.{Stand}
-use Rattle.desk.specs.declared.Stand.TheVariants as stand
 
 -- the item that is told, by the code's answer, the values and the words
-unfoldable pub told_by : Stand → List ℕ → List ℕ → Told
-told_by stand.Nowhere vals words = nothing
-told_by (stand.At x count used) vals words = before (state_of count vals used words) x.item
+unfoldable pub told_by : Option Stand → List ℕ → List ℕ → Told
+told_by None vals words = nothing
+told_by (Some r) vals words = before (state_of r.count vals r.used words) r.placed.item
 
 -- its state is one that a run reaches, and it stands in the sheet
-unfoldable pub Standing : List ℕ → Stand → List ℕ → List ℕ → Type 0
-Standing s stand.Nowhere vals words = Unit {0}
-Standing s (stand.At x count used) vals words = Ready count vals used words × (x ≡ item_at s x.at.0)
+unfoldable pub Standing : List ℕ → Option Stand → List ℕ → List ℕ → Type 0
+Standing s None vals words = Unit {0}
+Standing s (Some r) vals words = Ready r.count vals r.used words × (r.placed ≡ item_at s r.placed.at.0)
 
-pub record Finds (s : List ℕ) (t : Told) (r : Stand) (vals words : List ℕ) : Type 0 where
+pub record Finds (s : List ℕ) (t : Told) (r : Option Stand) (vals words : List ℕ) : Type 0 where
   pub told : told_by r vals words ≡ t
   pub standing : Standing s r vals words
 
@@ -35,15 +34,20 @@ pub record Asking (q : Query) (vals words : List ℕ) : Type 0 where
   pub order : q.first ≤ q.end
   pub fits : q.end ≤ length vals
 
+-- where nothing is asked there is nothing to know, and no piece
+abbrev pub AllAsking : Option Query → List ℕ → List ℕ → Type 0
+AllAsking None vals words = Unit {0}
+AllAsking (Some q) vals words = Asking q vals words
+
+abbrev pub all_pieces : Option Query → List ℕ → List ℕ → List (List ℕ)
+all_pieces None vals words = []
+all_pieces (Some q) vals words = pieces_of q vals words
+
 -- these pieces are asked for
-pub record Queries (ps : List (List ℕ)) (q : Query) (vals words : List ℕ) : Type 0 where
-  pub asking : Asking q vals words
-  pub pieces : pieces_of q vals words ≡ ps
+pub record Queries (ps : List (List ℕ)) (q : Option Query) (vals words : List ℕ) : Type 0 where
+  pub asking : AllAsking q vals words
+  pub pieces : all_pieces q vals words ≡ ps
 
--- none are, over whatever stack and table
-abbrev pub NoQuery : Query → Type 0
-NoQuery q = (vals words : List ℕ) → Queries [] q vals words
-
--- how many are, over whatever stack and table
+-- how many pieces a query has, over whatever stack and table
 abbrev pub Counted : Query → ℕ → Type 0
 Counted q r = (vals words : List ℕ) → r ≡ length (pieces_of q vals words)

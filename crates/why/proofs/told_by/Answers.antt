@@ -1,7 +1,5 @@
 -- `why::told_by` meets its contract, case by case of the answer. Assumes nothing.
-use mathlib.Core.Path.{sym, ◌∙◌, ap}
 use mathlib.Core.Logic.{⊎_elim}
-use Rattle.std.proofs.Common.{Ok}
 use Rattle.why.proofs.Asking.{by_value, by-none, by-eight, by-other}
 use Rattle.why.proofs.told_by.Goals as goal
 
