@@ -4,10 +4,9 @@
 // A line that begins with `#` ends a group: it is written with the group's counts.
 #![tactic(auto)]
 
-ghost use Rattle.std.specs.Prelude.{◌≤◌, length};
-
 use names::{NamedRule, Names};
 use std::io;
+use vectors::Lines;
 
 const GROUP: u8 = b'#';
 
@@ -18,38 +17,60 @@ const CONST: u8 = b' ';
 const ADDED: u8 = b'+';
 
 const ZERO: u8 = b'0';
-// Where the mark stands in a line, and where the name begins.
-const MARK_AT: usize = 3;
+// Two profiles, the first one that is unknown, and the last.
+const FEWER: u32 = 0;
 
-const NAME_AT: usize = 4;
-// The first profile that is unknown, and the last.
+const SUBGROUPS: u32 = 1;
+
 const NO_PROFILE: u32 = 2;
 
-const LAST_PROFILE: u32 = 4294967295;
+const LAST_PROFILE: u32 = u32::MAX;
 
-#[derive(Clone, Copy)]
+// Whether the reply to a name that has a rule is right, or to bytes that are no name, or wrong to either.
+#[derive(Clone, Copy, PartialEq, Eq)]
 enum Verdict {
-    Group,
     Known,
     Unknown,
     Wrong,
 }
 
-// How many lines of a group agreed, with a rule and without, and how many did not.
-#[derive(Clone, Copy)]
+// How many lines of a group had which verdict.
+#[derive(Clone, Copy, Default)]
 struct Tally {
     known: u64,
     unknown: u64,
     wrong: u64,
 }
 
-// Whether a reply is the one of a line's three digits and mark.
-fn is_reply(reply: Option<NamedRule>, hundreds: u8, tens: u8, ones: u8, mark: u8) -> bool {
-    match reply {
-        Some(NamedRule { rule, running }) => (ZERO + rule / 100 == hundreds)
-            & (ZERO + rule / 10 % 10 == tens)
-            & (ZERO + rule % 10 == ones)
-            & (running == (mark != CONST)),
+impl Tally {
+    fn count(&mut self, verdict: Verdict) {
+        self.known = vectors::counted(self.known, verdict == Verdict::Known);
+        self.unknown = vectors::counted(self.unknown, verdict == Verdict::Unknown);
+        self.wrong = vectors::counted(self.wrong, verdict == Verdict::Wrong);
+    }
+
+    // A group's line, with its counts.
+    fn write(self, rt: &impl Print, line: &[u8]) -> io::Result<()> {
+        let Tally {
+            known,
+            unknown,
+            wrong,
+        } = self;
+        rt.write_all(line)?;
+        println!(rt; "{known} known, {unknown} unknown, {wrong} wrong")
+    }
+}
+
+// A rule, as a line has it: three digits and a mark.
+type Rule = [u8; 4];
+
+// Whether a profile gives a name the rule of its line.
+fn is_right(names: &Names, profile: u32, [hundreds, tens, ones, mark]: Rule, name: &[u8]) -> bool {
+    match names.rule_of(profile, name) {
+        Some(NamedRule { rule, running }) => {
+            [ZERO + rule / 100, ZERO + rule / 10 % 10, ZERO + rule % 10] == [hundreds, tens, ones]
+                && running == (mark != CONST)
+        }
         None => false,
     }
 }
@@ -61,121 +82,47 @@ fn is_unknown(names: &Names, profile: u32, name: &[u8]) -> bool {
 
 // Whether two unknown profiles have no such name.
 fn in_no_profile(names: &Names, name: &[u8]) -> bool {
-    is_unknown(names, NO_PROFILE, name) & is_unknown(names, LAST_PROFILE, name)
+    is_unknown(names, NO_PROFILE, name) && is_unknown(names, LAST_PROFILE, name)
 }
 
-// Whether the reply in a profile that has a line's name is right.
-fn is_right(names: &Names, profile: u32, line: &[u8]) -> bool
-    requires { 4 ≤ length line.now }
-{
-    let reply = names.rule_of(profile, &line[NAME_AT..]);
-    is_reply(reply, line[0], line[1], line[2], line[MARK_AT])
-}
-
-// The same in profile 0, which does not have every name.
-fn is_right_in_fewer(names: &Names, line: &[u8]) -> bool
-    requires { 4 ≤ length line.now }
-{
-    if line[MARK_AT] == ADDED {
-        return is_unknown(names, 0, &line[NAME_AT..]);
-    }
-    is_right(names, 0, line)
-}
-
-// The verdict on bytes that are no name.
-fn judged_unknown(names: &Names, name: &[u8]) -> Verdict {
-    let profiles = is_unknown(names, 0, name) & is_unknown(names, 1, name);
-    if profiles & in_no_profile(names, name) {
-        return Verdict::Unknown;
-    }
-    Verdict::Wrong
-}
-
-// The verdict on a line that has a name.
-fn judged_known(names: &Names, line: &[u8]) -> Verdict {
-    if line.len() < NAME_AT {
-        return Verdict::Wrong;
-    }
-    let profiles = is_right_in_fewer(names, line) & is_right(names, 1, line);
-    if profiles & in_no_profile(names, &line[NAME_AT..]) {
-        return Verdict::Known;
-    }
-    Verdict::Wrong
-}
-
-fn judged(names: &Names, line: &[u8]) -> Verdict {
-    if line.len() == 0 {
-        return Verdict::Wrong;
-    }
-    let first = line[0];
-    if first == GROUP {
-        return Verdict::Group;
-    }
-    if first == NO_RULE {
-        return judged_unknown(names, &line[1..]);
-    }
-    judged_known(names, line)
-}
-
-fn write_count(rt: &impl Print, n: u64, what: &[u8]) -> io::Result<()> {
-    print!(rt; "{n}")?;
-    rt.write_all(what)
-}
-
-// A group's line, with its counts.
-fn write_group(rt: &impl Print, line: &[u8], tally: Tally) -> io::Result<()> {
-    rt.write_all(line)?;
-    write_count(rt, tally.known, b" known, ")?;
-    write_count(rt, tally.unknown, b" unknown, ")?;
-    write_count(rt, tally.wrong, b" wrong\n")
-}
-
-fn more(n: u64) -> u64 {
-    std::num::wrapping_add_u64(n, 1)
-}
-
-fn counted(tally: Tally, verdict: Verdict) -> Tally {
-    match verdict {
-        Verdict::Group => Tally {
-            known: 0,
-            unknown: 0,
-            wrong: 0,
-        },
-        Verdict::Known => Tally {
-            known: more(tally.known),
-            unknown: tally.unknown,
-            wrong: tally.wrong,
-        },
-        Verdict::Unknown => Tally {
-            known: tally.known,
-            unknown: more(tally.unknown),
-            wrong: tally.wrong,
-        },
-        Verdict::Wrong => Tally {
-            known: tally.known,
-            unknown: tally.unknown,
-            wrong: more(tally.wrong),
-        },
-    }
-}
-
-fn replay(rt: &impl Print, s: &[u8]) -> io::Result<()> {
-    let names = Names::new();
-    let mut tally = Tally {
-        known: 0,
-        unknown: 0,
-        wrong: 0,
+// Whether the profiles have a name with its rule; profile 0 does not have every name.
+fn is_known(names: &Names, rule: Rule, name: &[u8]) -> bool {
+    let in_fewer = if rule[3] == ADDED {
+        is_unknown(names, FEWER, name)
+    } else {
+        is_right(names, FEWER, rule, name)
     };
-    let mut at = 0;
-    while at < s.len() {
-        let end = vectors::line_end(s, at);
-        let line = &s[at..end];
-        let verdict = judged(&names, line);
-        if let Verdict::Group = verdict {
-            write_group(rt, line, tally)?;
+    in_fewer && is_right(names, SUBGROUPS, rule, name) && in_no_profile(names, name)
+}
+
+// Whether no profile has such a name.
+fn is_no_name(names: &Names, name: &[u8]) -> bool {
+    is_unknown(names, FEWER, name)
+        && is_unknown(names, SUBGROUPS, name)
+        && in_no_profile(names, name)
+}
+
+// The verdict on a line that ends no group.
+fn judged(names: &Names, line: &[u8]) -> Verdict {
+    match line {
+        [NO_RULE, name @ ..] if is_no_name(names, name) => Verdict::Unknown,
+        [NO_RULE, ..] => Verdict::Wrong,
+        [hundreds, tens, ones, mark, name @ ..]
+            if is_known(names, [*hundreds, *tens, *ones, *mark], name) => { Verdict::Known }
+        _ => Verdict::Wrong,
+    }
+}
+
+fn replay(rt: &impl Print, input: &[u8]) -> io::Result<()> {
+    let names = Names::new();
+    let mut tally = Tally::default();
+    for line in Lines(input) {
+        if let [GROUP, ..] = line {
+            tally.write(rt, line)?;
+            tally = Tally::default();
+        } else {
+            tally.count(judged(&names, line));
         }
-        tally = counted(tally, verdict);
-        at = end + 1;
     }
     Ok(())
 }
