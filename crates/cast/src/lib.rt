@@ -3,28 +3,15 @@
 
 ghost use Rattle.std.specs.Prelude.{◌≡◌};
 
-// A byte as an index.
-pub fn wide(byte: u8) -> usize
-    ensures { result ≡ byte }
+// A byte as a number of a wider type: an index, a word of a table, a long number. Of each, `from_gives` says that it is the byte.
+pub fn wide<T: From<u8>>(byte: u8) -> T
+    ensures { T.from_gives byte result }
 {
-    byte as usize
-}
-
-// A byte as a word of a table.
-pub fn wide32(byte: u8) -> u32
-    ensures { result ≡ byte }
-{
-    byte as u32
-}
-
-// A byte as a long number.
-pub fn wide64(byte: u8) -> u64
-    ensures { result ≡ byte }
-{
-    byte as u64
+    T::from(byte)
 }
 
 // A word of a table as an index.
+// Stays: std has no `From<u32>` for `usize`, so this and `word64` have no bound in common.
 pub fn word(value: u32) -> usize
     ensures { result ≡ value }
 {
@@ -35,5 +22,5 @@ pub fn word(value: u32) -> usize
 pub fn word64(value: u32) -> u64
     ensures { result ≡ value }
 {
-    value as u64
+    u64::from(value)
 }

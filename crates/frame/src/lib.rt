@@ -6,7 +6,7 @@ ghost use Rattle.frame.specs.Frame.{version2, known_version, marks, header_size,
 ghost use Rattle.frame.specs.inner.Items.{sheet_of, no_short, short_of, in_items, LiesIn};
 
 use answer::{Place, TypeNo};
-use cast::{wide, wide32};
+use cast::wide;
 
 // The versions that are read, the bytes of the header, and the most bytes that may follow it.
 pub const VERSION_1: u8 = 1;
@@ -127,7 +127,7 @@ pub fn header(sheet: &[u8]) -> bool
     if !known_version(sheet[0]) {
         return false;
     }
-    let len = wide(sheet[1]) * 256 + wide(sheet[2]);
+    let len = wide::<usize>(sheet[1]) * 256 + wide::<usize>(sheet[2]);
     if LONGEST < len {
         return false;
     }
@@ -138,7 +138,7 @@ pub fn header(sheet: &[u8]) -> bool
 fn number(a: u8, b: u8, c: u8, d: u8) -> u32
     ensures { result ≡ be32 a b c d }
 {
-    ((wide32(a) * 256 + wide32(b)) * 256 + wide32(c)) * 256 + wide32(d)
+    ((wide::<u32>(a) * 256 + wide::<u32>(b)) * 256 + wide::<u32>(c)) * 256 + wide::<u32>(d)
 }
 
 // Where no item stands: the end, or bad framing.

@@ -15,7 +15,7 @@ ghost use Rattle.memo.specs.inner.Memo.{digit_of, digits, key_of, Recalls, Hinte
 ghost use Rattle.memo.specs.inner.Asking.{Small, Coded, runs_on, Asks, AsksRow, Keyed};
 ghost use Rattle.memo.specs.inner.Quick.{AsksShort, Answers, Quick, QuickEver, QuickAt, CallAt};
 
-use cast::{wide, wide32, word64};
+use cast::{wide, word64};
 use frame::{ITEM_BINARY, ITEM_PUSH, ITEM_UNARY, Item, Part, SHORT_BYTES, Short};
 use names::{NamedRule, Names};
 use step::{Did, VALUES};
@@ -162,7 +162,7 @@ fn no_ask() -> Ask
 fn asked_short(x: Short) -> Ask
     ensures { AsksShort x result.code result.operands result.runs }
 {
-    let op = wide32(x.number);
+    let op = wide(x.number);
     if x.kind == ITEM_BINARY {
         if BINARY_OPS <= op {
             return no_ask();
@@ -194,8 +194,8 @@ fn hint_of(name: &[u8]) -> usize
     if length == 0 {
         return FIRST_HINT;
     }
-    let ends = wide(name[0]) * MIX_BEGIN + wide(name[length - 1]) * MIX_END;
-    let mix = ends + wide(name[length / 2]) * MIX_MIDDLE + length % HINTS;
+    let ends = wide::<usize>(name[0]) * MIX_BEGIN + wide::<usize>(name[length - 1]) * MIX_END;
+    let mix = ends + wide::<usize>(name[length / 2]) * MIX_MIDDLE + length % HINTS;
     FIRST_HINT + mix % HINTS
 }
 
@@ -212,7 +212,7 @@ fn asked_row(names: &Names, profile: u32, row: usize, k: u8) -> Ask
                 return no_ask();
             }
             Ask {
-                code: word64(BUILTIN_CODES + wide32(rule)),
+                code: word64(BUILTIN_CODES + wide::<u32>(rule)),
                 operands: wide(k),
                 runs: running,
             }

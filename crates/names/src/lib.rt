@@ -165,7 +165,7 @@ impl Names {
             return None;
         }
         let number = row * LINE_WIDTH + NAME_WIDTH;
-        if profile < cast::wide32(self.rows[number + PROFILE_AT]) {
+        if profile < cast::wide(self.rows[number + PROFILE_AT]) {
             return None;
         }
         Some(NamedRule {

@@ -286,7 +286,7 @@ fn try_family(f: u64, running: bool, a: u8, b: u8, xs: &[u8]) -> Tried
     ensures { Resolved (passing (kept running) (listed (of_family (family_of f)))) (map operand xs.now) (tried_of result) }
 {
     let w = tables::family_word(f);
-    if wide(tables::digit(f, w, COUNT)) != xs.len() {
+    if wide::<usize>(tables::digit(f, w, COUNT)) != xs.len() {
         return Tried::Not;
     }
     let k = ((w >> 52) % 16) as u8;

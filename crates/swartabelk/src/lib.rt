@@ -98,7 +98,7 @@ fn reply_of(typed: Typed) -> Reply
             let reason = r.reason;
             let place = r.place;
             told(
-                cast::wide32(table::reason_no(reason)),
+                cast::wide(table::reason_no(reason)),
                 NO_VALUE,
                 mark,
                 place.0,
@@ -133,7 +133,7 @@ fn spelled_of(n: u32, s: Result<usize, Refusal>) -> SpelledReply
             let reason = r.reason;
             let place = r.place;
             SpelledReply {
-                refusal: cast::wide32(table::reason_no(reason)),
+                refusal: cast::wide(table::reason_no(reason)),
                 length: 0,
                 place: narrow(place.0),
                 used: narrow(r.used),

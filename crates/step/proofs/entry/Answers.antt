@@ -3,4 +3,4 @@ use mathlib.Core.Path.{refl}
 use Rattle.step.proofs.entry.Goals as goal
 
 pub returns : goal.returns
-returns c = rw (c.wide32.ensures, c.wide32-2.ensures, c.wide32-3.ensures) refl
+returns c = rw (c.wide.ensures, c.wide-2.ensures, c.wide-3.ensures) refl

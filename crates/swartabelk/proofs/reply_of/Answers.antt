@@ -23,4 +23,4 @@ pub returns-in-NoValue : goal.returns-in-NoValue
 returns-in-NoValue c = none_told c.args.typed _ c.mark_bit-mark.ensures _ c.in-NoValue.n c.in-NoValue.is c.told-in-NoValue.ensures
 
 pub returns-in-Refused : goal.returns-in-Refused
-returns-in-Refused c = refused-told c.args.typed _ c.mark_bit-mark.ensures _ c.in-Refused.r _ _ c.in-Refused.is (c.wide32.ensures ∙ c.reason_no.ensures) c.lacking_of.ensures c.told-in-Refused.ensures
+returns-in-Refused c = refused-told c.args.typed _ c.mark_bit-mark.ensures _ c.in-Refused.r _ _ c.in-Refused.is (c.wide.ensures ∙ c.reason_no.ensures) c.lacking_of.ensures c.told-in-Refused.ensures

@@ -41,12 +41,12 @@ overflow_add-number-2 c = record { fits = omega (arith, few, row_in (goal.at.ove
 pub bounds-self-number : goal.bounds-self-number
 bounds-self-number c = omega (arith, row_in (goal.at.bounds-self-number c).Else-row-ge-COUNT, whole (goal.at.bounds-self-number c).Else-row-ge-COUNT)
 
-pub returns-then-profile-wide32 : goal.returns-then-profile-wide32
+pub returns-then-profile-wide : goal.returns-then-profile-wide
 unfolding replied
-returns-then-profile-wide32 c = let row = c.args.row in
-    let l = row_in (goal.at.returns-then-profile-wide32 c).Else-row-ge-COUNT in
+returns-then-profile-wide c = let row = c.args.row in
+    let l = row_in (goal.at.returns-then-profile-wide c).Else-row-ge-COUNT in
     let p = profile-at c.args.self.now.rows c.args.self.now.stand row l in
-    sym (ap replied (row-later c.args.profile row l (omega (arith, c.wide32.ensures, c.if-profile-wide32.true))))
+    sym (ap replied (row-later c.args.profile row l (omega (arith, c.wide.ensures, c.if-profile-wide.true))))
 
 pub bounds-self-number-2 : goal.bounds-self-number-2
 bounds-self-number-2 c = omega (arith, row_in (goal.at.bounds-self-number-2 c).Else-row-ge-COUNT, whole (goal.at.bounds-self-number-2 c).Else-row-ge-COUNT)
@@ -63,4 +63,4 @@ returns c = let row = c.args.row in
     let l = row_in (goal.at.returns c).Else-row-ge-COUNT in
     let p = profile-at c.args.self.now.rows c.args.self.now.stand row l in
     (λ i. Some (record { rule = number_at c.args.self.now.rows c.args.self.now.stand row l i; running = mark-at c.args.self.now.rows c.args.self.now.stand row l i }))
-    ∙ sym (ap replied (row_here c.args.profile row l c.if-profile-ge-PROFILES.false (omega (arith, c.wide32.ensures, c.if-profile-wide32.false))))
+    ∙ sym (ap replied (row_here c.args.profile row l c.if-profile-ge-PROFILES.false (omega (arith, c.wide.ensures, c.if-profile-wide.false))))

@@ -28,7 +28,7 @@ bounds-name-at c = omega (arith, c.loop-left.invariant.0, c.loop-left-test.true)
 pub overflow_add-key : goal.overflow_add-key
 overflow_add-key c = let l = small (goal.at.overflow_add-key c).In-loop-left in
     let b = (c.shared_slice_known-1.given (c.loop-left.left - 1)).fits in
-    let e = c.wide64.ensures in
+    let e = c.wide.ensures in
     record { fits = omega arith }
 
 pub loop-left-smaller : goal.loop-left-smaller
@@ -37,7 +37,7 @@ loop-left-smaller c = omega (arith, c.loop-left-test.true)
 pub loop-left-preserved : goal.loop-left-preserved
 loop-left-preserved c = let l = c.loop-left in (
   omega (arith, l.invariant.0),
-  (λ i. l.invariant.1 i * 256 + c.wide64.ensures i) ∙ key-next c.args.name.now c.shared_slice_known-1.given l.left c.loop-left-test.true l.invariant.0,
+  (λ i. l.invariant.1 i * 256 + c.wide.ensures i) ∙ key-next c.args.name.now c.shared_slice_known-1.given l.left c.loop-left-test.true l.invariant.0,
 )
 
 pub returns : goal.returns
