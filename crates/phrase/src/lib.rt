@@ -33,7 +33,7 @@ pub fn put_shaped(out: &mut [u8], at: usize, x: u8) -> usize
     if x < SCALARS {
         return spell::put_text(out, at, s);
     }
-    let shape = wide(x / SCALARS);
+    let shape = wide::<usize>(x / SCALARS);
     if x < PLAINS {
         let a = text::put_after(out, at, b"vec", shape + 1);
         return put_component(out, a, s);

@@ -54,7 +54,7 @@ fn key_of(name: &[u8]) -> u64
     let mut left = name.len();
     while 0 < left {
         let at = left - 1;
-        key = key * 256 + cast::wide(name[at]);
+        key = key * 256 + cast::wide::<u64>(name[at]);
         left = at;
     }
     key
