@@ -14,7 +14,7 @@ returns-then-rule-ge-RULES c = let a = c.args in row-none a.profile a.row a.k c.
 pub returns-else-rule-ge-RULES : goal.returns-else-rule-ge-RULES
 returns-else-rule-ge-RULES c = let a = c.args in
     let n = neither _ _ c.if-k.false in
-    row-asked a.profile a.row a.k c.in-Some.field-0 c.word64.result c.wide.result (ltb-false _ _ n.0) (ltb-false _ _ n.1) c.if-rule-ge-RULES.false (sym c.rule_at.ensures ∙ c.in-Some.is) (c.word64.ensures ∙ ap (λ (x : ℕ). 24 + x) c.wide32.ensures) c.wide.ensures
+    row-asked a.profile a.row a.k c.in-Some.field-0 c.word64.result c.wide-in-Some.result (ltb-false _ _ n.0) (ltb-false _ _ n.1) c.if-rule-ge-RULES.false (sym c.rule_at.ensures ∙ c.in-Some.is) (c.word64.ensures ∙ ap (λ (x : ℕ). 24 + x) c.wide.ensures) c.wide-in-Some.ensures
 
 pub returns-in-None : goal.returns-in-None
 returns-in-None c = let a = c.args in row-none a.profile a.row a.k c.no_ask-in-None.result.code c.no_ask-in-None.result.operands c.no_ask-in-None.result.runs c.no_ask-in-None.ensures
