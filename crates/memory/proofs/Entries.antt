@@ -7,7 +7,8 @@ use mathlib.Core.Bool.{Bool, true, false, ◌&&◌, ◌||◌, not, cond}
 use mathlib.Core.List.{List}
 use lib.Dec.{eqb}
 use borrow.Author.Tests.{ltb-true, eq-eqb, eqb-true, ne_eqb}
-use Rattle.conv.specs.Types.{Ty, bool, u32, workgroup, storage, read, read_write, is_runtime, holds_atomic, formed}
+use Rattle.std.specs.Prelude.{Option, Some, None}
+use Rattle.conv.specs.Types.{Ty, u32, workgroup, storage, read, read_write, is_runtime, holds_atomic, formed}
 use Rattle.conv.specs.Types.Ty.{scalar, vec, mat, array, runtime, atomic, ptr, ref, frexp, modf, exchange}
 use Rattle.conv.specs.Rank.{tag_of, is_pointer, first_of, second_of, element_of}
 use Rattle.overload.specs.Overload.Judged.{gives, none_fits}
@@ -111,6 +112,9 @@ module _ (w : List ℕ) (n : ℕ) (s : Sound w n) where
     pub atomic-type : f.kind ≡ kind_atomic → type_at w e.elem ≡ atomic f.elem
     atomic-type h = type-atomic w n s e.elem inner_below (ap (λ (x : Entry). x.kind) (sym b) ∙ h) ∙ ap (λ (x : Entry). atomic x.elem) (sym b)
 
+    pub component-small : f.kind ≡ kind_atomic → f.elem < 7
+    component-small h = integer-small f.elem (ap formed (sym (atomic-type h)) ∙ formed-at w n s e.elem inner_below)
+
     -- CALLS ON ATOMICS
 
     takes-is : takes_atomic (type_at w t) ≡ ((eqb e.p storage || eqb e.p workgroup) && eqb e.q read_write && eqb f.kind kind_atomic)
@@ -122,14 +126,14 @@ module _ (w : List ℕ) (n : ℕ) (s : Sound w n) where
     component-is h = ap atomic_in type-is ∙ ap first_of (atomic-type h)
 
     pub taken : ((eqb e.p storage || eqb e.p workgroup) && eqb e.q read_write && eqb f.kind kind_atomic) ≡ true
-        → f.elem ≡ cond (takes_atomic (type_at w t)) (atomic_in (type_at w t)) bool
+        → Some f.elem ≡ cond {A = Option ℕ} (takes_atomic (type_at w t)) (Some (atomic_in (type_at w t))) None
     taken h =
         let k = eqb-true f.kind kind_atomic (and_right ((eqb e.p storage || eqb e.p workgroup) && eqb e.q read_write) _ h) in
-        sym (component-is k) ∙ sym (ap (λ (x : Bool). cond x (atomic_in (type_at w t)) bool) (takes-is ∙ h))
+        ap Some (sym (component-is k)) ∙ sym (ap (λ (x : Bool). cond {A = Option ℕ} x (Some (atomic_in (type_at w t))) None) (takes-is ∙ h))
 
     pub not_taken : ((eqb e.p storage || eqb e.p workgroup) && eqb e.q read_write && eqb f.kind kind_atomic) ≡ false
-        → bool ≡ cond (takes_atomic (type_at w t)) (atomic_in (type_at w t)) bool
-    not_taken h = sym (ap (λ (x : Bool). cond x (atomic_in (type_at w t)) bool) (takes-is ∙ h))
+        → None ≡ cond {A = Option ℕ} (takes_atomic (type_at w t)) (Some (atomic_in (type_at w t))) None
+    not_taken h = sym (ap (λ (x : Bool). cond {A = Option ℕ} x (Some (atomic_in (type_at w t))) None) (takes-is ∙ h))
 
     -- ARRAYLENGTH
 
@@ -181,7 +185,7 @@ module _ (w : List ℕ) (n : ℕ) (s : Sound w n) where
   -- NO SUCH POINTER
 
   module _ (t : ℕ) (l : t < n) where
-    pub no-taken : (entry_at w t).kind ≢ kind_ptr → bool ≡ cond (takes_atomic (type_at w t)) (atomic_in (type_at w t)) bool
+    pub no-taken : (entry_at w t).kind ≢ kind_ptr → None ≡ cond {A = Option ℕ} (takes_atomic (type_at w t)) (Some (atomic_in (type_at w t))) None
     no-taken k = sym (rw (no_pointer t l k))
 
     pub no_length : (entry_at w t).kind ≢ kind_ptr → none_fits ≡ judge_length (type_at w t)
@@ -223,7 +227,7 @@ module _ (w : List ℕ) (n : ℕ) (s : Sound w n) where
 
     pub passed-atomic : f.kind ≡ kind_atomic → (f.elem < 7) × (gives (scalar f.elem) ≡ judge_load (type_at w t))
     passed-atomic h = (
-      integer-small f.elem (ap formed (sym (atomic-type t l e f a k b h)) ∙ formed-at w n s e.elem passed-below),
+      component-small t l e f a k b h,
       sym (load-atomic t l e f a k b p q h),
     )
 

@@ -3,13 +3,14 @@ use Prim.Native.Nat.{ℕ, zero, suc, ◌<◌}
 use native.Mathlib.Nat.{not-suc-le-zero}
 use native.Mathlib.Omega.{arith}
 use mathlib.Core.Path.{◌≡◌, refl, sym, ◌∙◌, ap}
-use mathlib.Core.Logic.{◌≢◌}
 use mathlib.Core.Bool.{Bool, true, false, ◌&&◌, cond}
 use mathlib.Core.List.{List, [], ◌∷◌, map}
 use lib.Dec.{eqb, ltb}
 use lib.ListN.{length, get_or, length-map}
 use borrow.Author.Tests.{ltb-true, lt-ltb, le-ltb, eqb-true, eq-eqb}
-use Rattle.conv.specs.Types.{Ty, bool, formed, is_width}
+use Rattle.std.specs.Prelude.{Option, Some, None}
+use Rattle.std.proofs.lemmas.Option.{none-some, same_Some}
+use Rattle.conv.specs.Types.{Ty, formed, is_width}
 use Rattle.conv.specs.Types.Ty.{scalar, vec, mat, array, runtime, atomic, ptr, ref, frexp, modf, exchange}
 use Rattle.conv.specs.Rank.{pick, both, none, rank_of, shape_of, component_of, tag_of, first_of, second_of, same_ty, conversion_rank, converts}
 use Rattle.held.specs.Held.{number_of}
@@ -18,7 +19,7 @@ use Rattle.overload.specs.Overload.Judged.{gives, none_fits}
 use Rattle.overload.specs.Rows.{values, takes_atomic, atomic_in, judge_atomic}
 use Rattle.overload.specs.inner.Code.{code_of}
 use Rattle.overload.proofs.Operands.{code-scalar, code-vec, code-mat, code_other, between, and_left, and_right}
-use Rattle.overload.proofs.Memory.{integer-small, integer-some, taken-formed}
+use Rattle.overload.proofs.Memory.{integer-small, taken-formed}
 use Rattle.table.specs.Denote.{type_at}
 use Rattle.memory.specs.inner.Component.{atomic_component}
 
@@ -90,62 +91,64 @@ module _ (w : List ℕ) (s : ℕ) where
 -- THE COMPONENT, from what the pointer and the values say
 
 module _ (x : Ty) where
-  abbrev pub pointed_by : ℕ
-  pointed_by = cond (takes_atomic x) (atomic_in x) bool
+  abbrev pub pointed_by : Option ℕ
+  pointed_by = cond (takes_atomic x) (Some (atomic_in x)) None
 
-  pub pointed-small : formed x ≡ true → pointed_by < 7
-  pointed-small f = go (takes_atomic x) refl
+  -- there is none exactly where no call takes the pointer
+  pub pointed-none : pointed_by ≡ None → takes_atomic x ≡ false
+  pointed-none h = go (takes_atomic x) h
     where
-      go : (b : Bool) → takes_atomic x ≡ b → cond b (atomic_in x) bool < 7
-      go true e = integer-small (atomic_in x) (taken-formed x f e)
-      go false e = omega arith
+      go : (b : Bool) → cond {A = Option ℕ} b (Some (atomic_in x)) None ≡ None → b ≡ false
+      go true e = absurd (none-some _ (sym e))
+      go false e = refl
+
+  pub pointed-some : (s : ℕ) → pointed_by ≡ Some s → (takes_atomic x ≡ true) × (s ≡ atomic_in x)
+  pointed-some s h = go (takes_atomic x) h
+    where
+      go : (b : Bool) → cond {A = Option ℕ} b (Some (atomic_in x)) None ≡ Some s → (b ≡ true) × (s ≡ atomic_in x)
+      go true e = (refl, sym (same_Some _ _ e))
+      go false e = absurd (none-some _ e)
+
+  pub pointed-small : formed x ≡ true → (s : ℕ) → pointed_by ≡ Some s → s < 7
+  pointed-small f s h = let p = pointed-some s h in rw p.1 (integer-small (atomic_in x) (taken-formed x f p.0))
 
   module _ (xs : List Ty) where
-    pub no_pointer : pointed_by ≡ bool → bool ≡ atomic_component x xs
-    no_pointer h = go (takes_atomic x) (fits (values (length xs) (atomic_in x)) xs) h
-      where
-        go : (a b : Bool) → cond a (atomic_in x) bool ≡ bool → bool ≡ cond (a && b) (atomic_in x) bool
-        go true true e = sym e
-        go true false e = refl
-        go false b e = refl
+    pub no_pointer : pointed_by ≡ None → None ≡ atomic_component x xs
+    no_pointer h = sym (rw (pointed-none h) refl)
 
     -- the values fit the component, or one does not
-    module _ (some : pointed_by ≢ bool) (b : Bool) (fit : fits (values (length xs) pointed_by) xs ≡ b) where
-      pub by_values : cond b pointed_by bool ≡ atomic_component x xs
-      by_values = go (takes_atomic x) refl some fit
-        where
-          go : (a : Bool) → takes_atomic x ≡ a → cond a (atomic_in x) bool ≢ bool → fits (values (length xs) (cond a (atomic_in x) bool)) xs ≡ b
-              → cond b (cond a (atomic_in x) bool) bool ≡ cond (a && fits (values (length xs) (atomic_in x)) xs) (atomic_in x) bool
-          go true e h f = ap (λ (y : Bool). cond y (atomic_in x) bool) (sym f)
-          go false e h f = absurd (h refl)
+    pub by_values : (s : ℕ) → pointed_by ≡ Some s → (b : Bool) → fits (values (length xs) s) xs ≡ b → cond {A = Option ℕ} b (Some s) None ≡ atomic_component x xs
+    by_values s h b fit =
+        let p = pointed-some s h in
+        let same : fits (values (length xs) (atomic_in x)) xs ≡ b = rw p.1 at fit in
+        sym (rw (p.0, same, p.1) refl)
 
     -- WHAT THE CALL IS JUDGED BY IT
 
-    module _ (out : ℕ → Ty) (f : formed x ≡ true) where
-      pub judged-none : atomic_component x xs ≡ bool → judge_atomic (length xs) out (x ∷ xs) ≡ none_fits
+    module _ (out : ℕ → Ty) where
+      pub judged-none : atomic_component x xs ≡ None → judge_atomic (length xs) out (x ∷ xs) ≡ none_fits
       unfolding judge_atomic
-      judged-none h = go (takes_atomic x) refl (fits (values (length xs) (atomic_in x)) xs) h
+      judged-none h = go (takes_atomic x && fits (values (length xs) (atomic_in x)) xs) h
         where
-          go : (a : Bool) → takes_atomic x ≡ a → (b : Bool) → cond (a && b) (atomic_in x) bool ≡ bool → cond (a && b) (gives (out (atomic_in x))) none_fits ≡ none_fits
-          go true e true h = absurd (integer-some (atomic_in x) (taken-formed x f e) h)
-          go true e false h = refl
-          go false e b h = refl
+          go : (b : Bool) → cond {A = Option ℕ} b (Some (atomic_in x)) None ≡ None → cond b (gives (out (atomic_in x))) none_fits ≡ none_fits
+          go true e = absurd (none-some _ (sym e))
+          go false e = refl
 
-      pub judged-some : atomic_component x xs ≢ bool → judge_atomic (length xs) out (x ∷ xs) ≡ gives (out (atomic_component x xs))
+      pub judged-some : (s : ℕ) → atomic_component x xs ≡ Some s → judge_atomic (length xs) out (x ∷ xs) ≡ gives (out s)
       unfolding judge_atomic
-      judged-some h = go (takes_atomic x && fits (values (length xs) (atomic_in x)) xs) h
+      judged-some s h = go (takes_atomic x && fits (values (length xs) (atomic_in x)) xs) h
         where
-          go : (b : Bool) → cond b (atomic_in x) bool ≢ bool → cond b (gives (out (atomic_in x))) none_fits ≡ gives (out (cond b (atomic_in x) bool))
-          go true h = refl
-          go false h = absurd (h refl)
+          go : (b : Bool) → cond {A = Option ℕ} b (Some (atomic_in x)) None ≡ Some s → cond b (gives (out (atomic_in x))) none_fits ≡ gives (out s)
+          go true e = ap (λ (k : ℕ). gives (out k)) (same_Some _ _ e)
+          go false e = absurd (none-some _ e)
 
-      pub component-formed : atomic_component x xs ≢ bool → formed (atomic (atomic_component x xs)) ≡ true
-      component-formed h = go (takes_atomic x) refl (fits (values (length xs) (atomic_in x)) xs) h
-        where
-          go : (a : Bool) → takes_atomic x ≡ a → (b : Bool) → cond (a && b) (atomic_in x) bool ≢ bool → formed (atomic (cond (a && b) (atomic_in x) bool)) ≡ true
-          go true e true h = taken-formed x f e
-          go true e false h = absurd (h refl)
-          go false e b h = absurd (h refl)
+    pub component-formed : formed x ≡ true → (s : ℕ) → atomic_component x xs ≡ Some s → formed (atomic s) ≡ true
+    component-formed f s h = go (takes_atomic x) refl (fits (values (length xs) (atomic_in x)) xs) h
+      where
+        go : (a : Bool) → takes_atomic x ≡ a → (b : Bool) → cond {A = Option ℕ} (a && b) (Some (atomic_in x)) None ≡ Some s → formed (atomic s) ≡ true
+        go true e true h = ap (λ (k : ℕ). formed (atomic k)) (sym (same_Some _ _ h)) ∙ taken-formed x f e
+        go true e false h = absurd (none-some _ h)
+        go false e b h = absurd (none-some _ h)
 
 -- THE SAME over a table, of operands by their numbers
 
@@ -156,20 +159,15 @@ module _ (w : List ℕ) (x : Ty) (vs : List ℕ) where
   pub counted : length types ≡ length vs
   counted = length-map (map number_of vs) (type_at w) ∙ length-map vs number_of
 
-  pub values-here : (s : ℕ) → s ≡ pointed_by x → s ≢ bool → (b : Bool) → fits (values (length vs) s) types ≡ b → cond b s bool ≡ atomic_component x types
-  values-here s e h b f =
-      ap (λ (k : ℕ). cond b k bool) e
-      ∙ by_values x types (λ z. h (e ∙ z)) b ((λ i. fits (values (counted i) (sym e i)) types) ∙ f)
+  pub values-here : (s : ℕ) → pointed_by x ≡ Some s → (b : Bool) → fits (values (length vs) s) types ≡ b → cond {A = Option ℕ} b (Some s) None ≡ atomic_component x types
+  values-here s h b f = by_values x types s h b (ap (λ (k : ℕ). fits (values k s) types) counted ∙ f)
 
-  module _ (out : ℕ → Ty) (f : formed x ≡ true) (s : ℕ) (e : s ≡ atomic_component x types) where
+  module _ (out : ℕ → Ty) where
     as-counted : judge_atomic (length vs) out (x ∷ types) ≡ judge_atomic (length types) out (x ∷ types)
     as-counted = ap (λ (k : ℕ). judge_atomic k out (x ∷ types)) (sym counted)
 
-    pub none_here : s ≡ bool → none_fits ≡ judge_atomic (length vs) out (x ∷ types)
-    none_here h = sym (as-counted ∙ judged-none x types out f (sym e ∙ h))
+    pub none_here : atomic_component x types ≡ None → none_fits ≡ judge_atomic (length vs) out (x ∷ types)
+    none_here h = sym (as-counted ∙ judged-none x types out h)
 
-    pub some-here : s ≢ bool → gives (out s) ≡ judge_atomic (length vs) out (x ∷ types)
-    some-here h = sym (as-counted ∙ judged-some x types out f (λ z. h (e ∙ z)) ∙ ap (λ (k : ℕ). gives (out k)) (sym e))
-
-    pub component-here : s ≢ bool → formed (atomic s) ≡ true
-    component-here h = ap (λ (k : ℕ). formed (atomic k)) e ∙ component-formed x types out f (λ z. h (e ∙ z))
+    pub some-here : (s : ℕ) → atomic_component x types ≡ Some s → gives (out s) ≡ judge_atomic (length vs) out (x ∷ types)
+    some-here s h = sym (as-counted ∙ judged-some x types out s h)

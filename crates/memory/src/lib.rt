@@ -2,8 +2,8 @@
 // nothing is searched.
 #![tactic(auto)]
 
-ghost use Rattle.std.specs.Prelude.{◌≡◌, cond, ◌&&◌, ◌∷◌, ◌<◌, length};
-ghost use Rattle.conv.specs.Types.{bool, holds_atomic};
+ghost use Rattle.std.specs.Prelude.{◌≡◌, cond, ◌∷◌, ◌<◌, length, Some, None};
+ghost use Rattle.conv.specs.Types.{holds_atomic};
 ghost use Rattle.conv.specs.Types.Ty.{scalar, exchange};
 ghost use Rattle.conv.specs.Rank.{converts};
 ghost use Rattle.held.specs.Held.{number_of};
@@ -21,24 +21,21 @@ use table::{
     KIND_RUNTIME, Place, Reason, SPACE_STORAGE, SPACE_WORKGROUP, TypeNo,
 };
 
-// Stands where there is no component: none is bool.
-const NO_COMPONENT: usize = table::BOOL;
-
 // The component of the atomic to which the type at t points, where calls on atomics take such a pointer.
-pub fn pointed(words: &[u32], n: usize, t: usize) -> usize
+pub fn pointed(words: &[u32], n: usize, t: usize) -> Option<u8>
     requires { Sound words.now n × (t < n) }
-    ensures { result ≡ cond (takes_atomic (type_at words.now t)) (atomic_in (type_at words.now t)) bool }
+    ensures { result ≡ cond (takes_atomic (type_at words.now t)) (Some (atomic_in (type_at words.now t))) None }
 {
     let e = table::entry_at(words, t);
     if e.kind != KIND_PTR {
-        return NO_COMPONENT;
+        return None;
     }
     let f = table::entry_at(words, cast::word(e.elem));
     let shared = (e.p == SPACE_STORAGE) | (e.p == SPACE_WORKGROUP);
     if shared & (e.q == ACCESS_READ_WRITE) & (f.kind == KIND_ATOMIC) {
-        return cast::word(f.elem);
+        return Some(f.elem as u8);
     }
-    NO_COMPONENT
+    None
 }
 
 // Whether an operand converts to the scalar s.
@@ -58,30 +55,24 @@ fn values_fit(words: &[u32], n: usize, rest: &[u32], s: u8) -> bool
     requires { Sound words.now n × Below n rest.now × (s < 7) }
     ensures { result ≡ fits (values (length rest.now) s) (operand_tys words.now rest.now) }
 {
-    let mut i = 0;
-    while i < rest.len() {
-        let goes = value_fits(words, n, rest[i], s);
-        if !goes {
+    for v in rest {
+        if !value_fits(words, n, *v, s) {
             return false;
         }
-        i += 1;
     }
     true
 }
 
 // The component of the atomic that a call takes: `a` is its first operand, a pointer to it, and all others convert to the component.
-fn component(words: &[u32], n: usize, a: u32, rest: &[u32]) -> usize
+fn component(words: &[u32], n: usize, a: u32, rest: &[u32]) -> Option<u8>
     requires { Sound words.now n × (number_of a < n) × Below n rest.now }
     ensures { result ≡ atomic_component (operand_ty words.now a) (operand_tys words.now rest.now) }
 {
-    let s = pointed(words, n, held::number(a).0);
-    if s == NO_COMPONENT {
-        return NO_COMPONENT;
+    let s = pointed(words, n, held::number(a).0)?;
+    if values_fit(words, n, rest, s) {
+        return Some(s);
     }
-    if values_fit(words, n, rest, s as u8) {
-        return s;
-    }
-    NO_COMPONENT
+    None
 }
 
 // A call on an atomic that gives its component, which stands in every table.
@@ -89,11 +80,10 @@ pub fn on_atomic(words: &[u32], n: usize, place: Place, a: u32, rest: &[u32]) ->
     requires { Sound words.now n × (number_of a < n) × Below n rest.now }
     ensures { Gave (judged_outcome place.0 words.now n (judge_atomic (length rest.now) scalar (operand_ty words.now a ∷ operand_tys words.now rest.now))) result words.now }
 {
-    let s = component(words, n, a, rest);
-    if s == NO_COMPONENT {
-        return table::refused(Reason::NoOverload, place, n);
+    match component(words, n, a, rest) {
+        Some(s) => table::accepted(TypeNo(s as usize), n),
+        None => table::refused(Reason::NoOverload, place, n),
     }
-    table::accepted(TypeNo(s), n)
 }
 
 // One that gives no value.
@@ -101,11 +91,10 @@ pub fn storing(words: &[u32], n: usize, place: Place, a: u32, rest: &[u32]) -> A
     requires { Sound words.now n × (number_of a < n) × Below n rest.now }
     ensures { Gave (silent_outcome place.0 words.now n (judge_atomic (length rest.now) scalar (operand_ty words.now a ∷ operand_tys words.now rest.now))) result words.now }
 {
-    let s = component(words, n, a, rest);
-    if s == NO_COMPONENT {
-        return table::refused(Reason::NoOverload, place, n);
+    match component(words, n, a, rest) {
+        Some(_) => table::no_value(n),
+        None => table::refused(Reason::NoOverload, place, n),
     }
-    table::no_value(n)
 }
 
 // One that gives the result of a compare, which is entered where it is absent.
@@ -113,10 +102,9 @@ pub fn comparing(words: &mut [u32], n: usize, place: Place, a: u32, rest: &[u32]
     requires { Sound words.old n × (number_of a < n) × Below n rest.now }
     ensures { Gave (judged_outcome place.0 words.old n (judge_atomic (length rest.now) exchange (operand_ty words.old a ∷ operand_tys words.old rest.now))) result words.new }
 {
-    let s = component(words, n, a, rest);
-    if s == NO_COMPONENT {
+    let Some(s) = component(words, n, a, rest) else {
         return table::refused(Reason::NoOverload, place, n);
-    }
+    };
     let e = Entry {
         kind: KIND_EXCHANGE,
         p: 0,

@@ -6,14 +6,14 @@ use Rattle.conv.specs.Types.Ty.{scalar}
 use mathlib.Core.Path.{refl}
 use Rattle.memory.proofs.on_atomic.Goals as goal
 
-pub returns-then-s-eq-NO_COMPONENT : goal.returns-then-s-eq-NO_COMPONENT
-returns-then-s-eq-NO_COMPONENT c = let a = c.args in
+pub returns-in-Some : goal.returns-in-Some
+returns-in-Some c = let a = c.args in
     gave-as
-    (no-component a.place.0 a.words.now a.n c.requires.0 a.a c.requires.1 a.rest.now _ c.component-s.ensures scalar c.if-s-eq-NO_COMPONENT.true)
-    (gave-refused _ _ a.words.now a.n c.refused.ensures)
-
-pub returns : goal.returns
-returns c = let a = c.args in
-    gave-as
-    (gives-component a.place.0 a.words.now a.n c.requires.0 a.a c.requires.1 a.rest.now _ c.component-s.ensures c.if-s-eq-NO_COMPONENT.false)
+    (gives-component a.place.0 a.words.now a.n c.requires.0 a.a c.requires.1 a.rest.now _ c.component.ensures _ c.in-Some.is)
     (gave c.accepted.ensures.made refl)
+
+pub returns-in-None : goal.returns-in-None
+returns-in-None c = let a = c.args in
+    gave-as
+    (no-component a.place.0 a.words.now a.n c.requires.0 a.a c.requires.1 a.rest.now _ c.component.ensures scalar c.in-None.is)
+    (gave-refused _ _ a.words.now a.n c.refused.ensures)

@@ -1,12 +1,9 @@
-use Prim.Native.Nat.{ℕ, ◌≤◌, ◌<◌, ◌-◌}
+use Prim.Native.Nat.{ℕ, ◌<◌}
 use mathlib.Core.Path.{◌≡◌}
 use mathlib.Core.Bool.{true}
-use lib.ListN.{length, get_or}
+use lib.ListN.{get_or}
 use Rattle.memory.proofs.Fitting.{goes}
 use Rattle.memory.proofs.values_fit.Given as goal
 
-abbrev pub invariant-loop-i : goal.invariant-loop-i
-invariant-loop-i l = (l.i ≤ length l.rest) × ((k : ℕ) → k < l.i → goes l.words l.s (get_or l.rest k 0) ≡ true)
-
-abbrev pub decreases-loop-i : goal.decreases-loop-i
-decreases-loop-i l = length l.rest - l.i
+abbrev pub invariant-loop-v : goal.invariant-loop-v
+invariant-loop-v l = (k : ℕ) → k < l.v-index → goes l.words l.s (get_or l.rest k 0) ≡ true
