@@ -9,7 +9,8 @@ use native.Mathlib.Omega.{arith}
 use lib.Dec.{T, eqb, ltb}
 use lib.ListN.{length, get_or}
 use borrow.Author.Tests.{ne_eqb, le-ltb, eqb-true, eqb-false, ltb-true, ltb-false}
-use Rattle.conv.specs.Types.{Ty, bool, i32, u32, formed}
+use Rattle.std.specs.Prelude.{Some}
+use Rattle.conv.specs.Types.{Ty, i32, u32, formed}
 use Rattle.conv.specs.Types.Ty.{scalar, exchange}
 use Rattle.conv.specs.Rank.{converts}
 use Rattle.held.specs.Held.{number_of}
@@ -19,7 +20,8 @@ use Rattle.overload.specs.Overload.{fits, Judged}
 use Rattle.overload.specs.Overload.Judged.{gives, none_fits}
 use Rattle.overload.specs.Rows.{row_at, Ruling, values, takes_atomic, atomic_in, judge_atomic, judge_by}
 use Rattle.overload.specs.Rows.Ruling.{by_row, address, indirection, on_atomic, comparing, uniform_load, array_length}
-use Rattle.overload.proofs.Memory.{integer-some, taken-formed}
+use Rattle.overload.proofs.Memory.{taken-formed}
+use Rattle.memory.proofs.Fitting.{pointed_by, pointed-some}
 use Rattle.call_ty.specs.Calls.{operands_by}
 use Rattle.weigh.specs.Weigh.{first_miss}
 use Rattle.weigh.proofs.Firsts.{unmissed}
@@ -184,18 +186,13 @@ broken-alone k e ts = go (eqb k 101) refl (eqb k 108) refl (eqb k 109) refl (eqb
     go false ea false eb false ec true ed h = subst Line (sym (ruling-indirection k (eqb-true k 110 ed))) refl
     go false ea false eb false ec false ed h = absurd (subst T (sym h) tt)
 
--- THE COMPONENT that a pointer has, or bool
-module _ (x : Ty) (f : formed x ≡ true) (s : ℕ) (e : s ≡ cond (takes_atomic x) (atomic_in x) bool) where
-  pub points-not : s ≡ 0 → takes_atomic x ≡ false
-  points-not z = go (takes_atomic x) refl
-    where
-      go : (b : Bool) → takes_atomic x ≡ b → takes_atomic x ≡ false
-      go false q = q
-      go true q = absurd (integer-some (atomic_in x) (taken-formed x f q) (sym (ap (λ (b : Bool). cond b (atomic_in x) bool) q) ∙ sym e ∙ z))
-
-  pub points : s ≢ 0 → (takes_atomic x ≡ true) × (s ≡ atomic_in x) × ((s ≡ i32) ⊎ (s ≡ u32))
+-- THE COMPONENT that a pointer has
+module _ (x : Ty) (f : formed x ≡ true) where
+  pub points : (s : ℕ) → pointed_by x ≡ Some s → (takes_atomic x ≡ true) × (s ≡ atomic_in x) × ((s ≡ i32) ⊎ (s ≡ u32))
   unfolding formed
-  points z = go (takes_atomic x) refl
+  points s h =
+      let p = pointed-some x s h in
+      (p.0, p.1, subst (λ (t : ℕ). (t ≡ i32) ⊎ (t ≡ u32)) (sym p.1) (kind (atomic_in x) (taken-formed x f p.0)))
     where
       kind : (t : ℕ) → (eqb t i32 || eqb t u32) ≡ true → (t ≡ i32) ⊎ (t ≡ u32)
       kind t h = pick (eqb t i32) refl h
@@ -203,9 +200,3 @@ module _ (x : Ty) (f : formed x ≡ true) (s : ℕ) (e : s ≡ cond (takes_atomi
           pick : (b : Bool) → eqb t i32 ≡ b → (b || eqb t u32) ≡ true → (t ≡ i32) ⊎ (t ≡ u32)
           pick true q h = inl (eqb-true t i32 q)
           pick false q h = inr (eqb-true t u32 h)
-
-      go : (b : Bool) → takes_atomic x ≡ b → (takes_atomic x ≡ true) × (s ≡ atomic_in x) × ((s ≡ i32) ⊎ (s ≡ u32))
-      go true q =
-          let a = e ∙ ap (λ (b : Bool). cond b (atomic_in x) bool) q in
-          (q, a, subst (λ (t : ℕ). (t ≡ i32) ⊎ (t ≡ u32)) (sym a) (kind (atomic_in x) (taken-formed x f q)))
-      go false q = absurd (z (e ∙ ap (λ (b : Bool). cond b (atomic_in x) bool) q))

@@ -125,9 +125,8 @@ pub fn broken_line(
     if is_alone(rule) {
         return first_line(words, n, rule, v, out, at);
     }
-    let s = memory::pointed(words, n, held::number(v).0);
-    if s == table::BOOL {
-        return first_line(words, n, rule, v, out, at);
+    match memory::pointed(words, n, held::number(v).0) {
+        Some(s) => value_line(words, n, &args[1..], s, out, at),
+        None => first_line(words, n, rule, v, out, at),
     }
-    value_line(words, n, &args[1..], s as u8, out, at)
 }
