@@ -5,11 +5,12 @@ use mathlib.Core.Bool.{Bool, true, false, ◌&&◌, cond}
 use mathlib.Core.List.{List, [], ◌∷◌}
 use native.Mathlib.Numerals.{add-one}
 use native.Mathlib.Omega.{arith}
-use lib.Dec.{ltb, leb}
+use lib.Dec.{ltb}
 use lib.ListN.{length, get_or, drop, drop_of_length-le}
 use lib.Seq.{drop-cons}
-use borrow.Author.Tests.{lt-ltb, le-ltb, le-leb, lt-leb}
-use Rattle.text.specs.Text.{all_digits, value_after, value_of, no_number, number_in}
+use borrow.Author.Tests.{lt-ltb, le-ltb}
+use Rattle.text.specs.Text.{is_digit, all_digits, value_after, value_of, number_in}
+use Rattle.std.specs.Prelude.{Option, Some, None}
 
 -- the digits before place i make n, which is small enough so far; the rest decides
 pub record Read (s : List ℕ) (i n : ℕ) : Type 0 where
@@ -24,28 +25,24 @@ unfolding value_after
 grows n [] = omega arith
 grows n (b ∷ s) = omega (arith, grows (n * 10 + (b - 48)) s)
 
-and-false : (a : Bool) → a && false ≡ false
-and-false true = refl
-and-false false = refl
-
-no-digits : (s : List ℕ) → all_digits s ≡ false → no_number ≡ number_in s
+no-digits : (s : List ℕ) → all_digits s ≡ false → None ≡ number_in s
 unfolding number_in
-no-digits s h = go (ltb 0 (length s)) ∙ sym (ap (λ (d : Bool). cond (ltb 0 (length s) && d && ltb (value_of s) (2 ^ 32)) (value_of s) no_number) h)
+no-digits s h = go (ltb 0 (length s)) ∙ sym (ap (λ (d : Bool). cond (ltb 0 (length s) && d && ltb (value_of s) (2 ^ 32)) (Some (value_of s)) None) h)
   where
-    go : (b : Bool) → no_number ≡ cond (b && false && ltb (value_of s) (2 ^ 32)) (value_of s) no_number
+    go : (b : Bool) → None ≡ cond (b && false && ltb (value_of s) (2 ^ 32)) (Some (value_of s)) None
     go true = refl
     go false = refl
 
-large : (s : List ℕ) → 2 ^ 32 ≤ value_of s → no_number ≡ number_in s
+large : (s : List ℕ) → 2 ^ 32 ≤ value_of s → None ≡ number_in s
 unfolding number_in
-large s h = go (ltb 0 (length s)) (all_digits s) ∙ sym (ap (λ (d : Bool). cond (ltb 0 (length s) && all_digits s && d) (value_of s) no_number) (le-ltb (value_of s) (2 ^ 32) h))
+large s h = go (ltb 0 (length s)) (all_digits s) ∙ sym (ap (λ (d : Bool). cond (ltb 0 (length s) && all_digits s && d) (Some (value_of s)) None) (le-ltb (value_of s) (2 ^ 32) h))
   where
-    go : (a b : Bool) → no_number ≡ cond (a && b && false) (value_of s) no_number
+    go : (a b : Bool) → None ≡ cond (a && b && false) (Some (value_of s)) None
     go true true = refl
     go true false = refl
     go false b = refl
 
-pub nothing : (s : List ℕ) → length s ≡ 0 → no_number ≡ number_in s
+pub nothing : (s : List ℕ) → length s ≡ 0 → None ≡ number_in s
 unfolding number_in
 nothing s h = rw h
 
@@ -53,7 +50,7 @@ pub none_read : (s : List ℕ) → Read s 0 0
 none_read s = record { within = omega arith; small = omega arith; digits = refl; value = refl }
 
 module _ (s : List ℕ) (i n : ℕ) (r : Read s i n) where
-  pub all_read : length s ≤ i → (length s ≡ 0 → ⊥) → n ≡ number_in s
+  pub all_read : length s ≤ i → (length s ≡ 0 → ⊥) → Some n ≡ number_in s
   unfolding number_in all_digits value_after
   all_read h e =
       let d : all_digits s ≡ true = r.digits ∙ ap all_digits (drop_of_length-le s h) in
@@ -67,26 +64,22 @@ module _ (s : List ℕ) (i n : ℕ) (r : Read s i n) where
     here : drop i s ≡ b ∷ drop (i + 1) s
     here = rw (add-one, drop-cons s i 0)
 
-    pub below-zero : b < 48 → no_number ≡ number_in s
+    pub no_digit : is_digit b ≡ false → None ≡ number_in s
     unfolding all_digits
-    below-zero h = no-digits s (r.digits ∙ rw (here, lt-leb 48 b h))
+    no_digit h = no-digits s (r.digits ∙ rw (here, h))
 
-    pub above-nine : 57 < b → no_number ≡ number_in s
-    unfolding all_digits
-    above-nine h = no-digits s (r.digits ∙ rw (here, lt-leb b 57 h) (ap (λ (d : Bool). d && all_digits (drop (i + 1) s)) (and-false (leb 48 b))))
-
-    pub too_large : 2 ^ 32 ≤ n * 10 + (b - 48) → no_number ≡ number_in s
+    pub too_large : 2 ^ 32 ≤ n * 10 + (b - 48) → None ≡ number_in s
     unfolding value_after
     too_large h =
         let v : value_of s ≡ value_after (n * 10 + (b - 48)) (drop (i + 1) s) = r.value ∙ rw here in
         large s (omega (arith, v, grows (n * 10 + (b - 48)) (drop (i + 1) s)))
 
-    pub digit-read : 48 ≤ b → b ≤ 57 → n * 10 + (b - 48) < 2 ^ 32 → Read s (i + 1) (n * 10 + (b - 48))
+    pub digit-read : is_digit b ≡ true → n * 10 + (b - 48) < 2 ^ 32 → Read s (i + 1) (n * 10 + (b - 48))
     unfolding all_digits value_after
-    digit-read h k m =
+    digit-read h m =
         record {
           within = omega arith;
           small = m;
-          digits = r.digits ∙ rw (here, le-leb 48 b h, le-leb b 57 k);
+          digits = r.digits ∙ rw (here, h);
           value = r.value ∙ rw here;
         }

@@ -8,6 +8,7 @@ use lib.Dec.{ltb}
 use lib.ListN.{length, length-append}
 use borrow.Author.Tests.{lt-ltb, le-leb, ltb-true, ltb-false}
 use Rattle.text.specs.Text.{digit, decimal_by, decimal, is_digit, all_digits, value_after, value_of, number_in}
+use Rattle.std.specs.Prelude.{Some}
 
 -- digits after digits
 digits_append : (s t : List ℕ) → all_digits s ≡ true → all_digits (s ++ t) ≡ all_digits t
@@ -72,9 +73,9 @@ unfolding zeros all_digits value_after
 padded zero n s d = d
 padded (suc k) n s d = let r = padded k n s d in record { some = omega arith; digits = r.digits; value = r.value }
 
-read : (n : ℕ) (s : List ℕ) → Digits n s → n < 2 ^ 32 → number_in s ≡ n
+read : (n : ℕ) (s : List ℕ) → Digits n s → n < 2 ^ 32 → number_in s ≡ Some n
 unfolding number_in
 read n s d h = rw (lt-ltb 0 (length s) d.some, d.digits, d.value, lt-ltb n (2 ^ 32) h)
 
-pub read_back : (k n : ℕ) → n < 2 ^ 32 → number_in (zeros k (decimal n)) ≡ n
+pub read_back : (k n : ℕ) → n < 2 ^ 32 → number_in (zeros k (decimal n)) ≡ Some n
 read_back k n h = read n (zeros k (decimal n)) (padded k n (decimal n) (written n)) h

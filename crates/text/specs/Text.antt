@@ -1,5 +1,5 @@
 -- Texts as bytes, numbers in decimal, the number that a text is, and what it is to put bytes into an output. Assumes nothing.
-use Rattle.std.specs.Prelude.{ℕ, zero, suc, ◌+◌, ◌-◌, ◌*◌, ◌/◌, ◌%◌, ◌^◌, ◌≡◌, Bool, true, ◌&&◌, cond, List, [], ◌∷◌, ◌++◌, ltb, leb, length}
+use Rattle.std.specs.Prelude.{ℕ, zero, suc, ◌+◌, ◌-◌, ◌*◌, ◌/◌, ◌%◌, ◌^◌, ◌≡◌, Bool, true, ◌&&◌, cond, List, [], ◌∷◌, ◌++◌, ltb, leb, length, Option, Some, None}
 use Prim.Native.Char.{code}
 use Prim.Native.String.{String}
 use Rattle.std.proofs.lemmas.List.Edits.{sets}
@@ -39,12 +39,9 @@ value_after n (b ∷ s) = value_after (n * 10 + (b - 48)) s
 abbrev pub value_of : List ℕ → ℕ
 value_of s = value_after 0 s
 
--- what stands for a text that is no number, or one of 2 to the 32 or more: the largest of 32 bits
-abbrev pub no_number : ℕ
-no_number = 4294967295
-
-unfoldable pub number_in : List ℕ → ℕ
-number_in s = cond (ltb 0 (length s) && all_digits s && ltb (value_of s) (2 ^ 32)) (value_of s) no_number
+-- any other text is none, and so is one of 2 to the 32 or more
+unfoldable pub number_in : List ℕ → Option ℕ
+number_in s = cond (ltb 0 (length s) && all_digits s && ltb (value_of s) (2 ^ 32)) (Some (value_of s)) None
 
 -- s put into d from place at on, as far as d goes: the place after it, and the bytes
 pub record Put (d : List ℕ) (at : ℕ) (s : List ℕ) (r : ℕ) (after : List ℕ) : Type 0 where

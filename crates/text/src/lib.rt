@@ -5,20 +5,6 @@
 ghost use Rattle.std.specs.Prelude.{◌≡◌, [], ◌∷◌, ◌++◌, ◌+◌, ◌*◌, ◌<◌, length};
 ghost use Rattle.text.specs.Text.{decimal, number_in, Put, far};
 
-// The byte of the digit 0.
-const DIGIT_ZERO: usize = 48;
-
-// The first digit and the last.
-const ZERO: u8 = b'0';
-
-const NINE: u8 = b'9';
-
-// Above every number of 32 bits.
-const LIMIT: u64 = 4294967296;
-
-// For a text that is no number below LIMIT.
-const NO_NUMBER: u32 = 4294967295;
-
 // A byte at a place, or nothing past the end of the output; the place after it.
 pub fn put_byte(out: &mut [u8], at: usize, b: u8) -> usize
     requires { at < far * 4 }
@@ -36,12 +22,10 @@ pub fn put_text(out: &mut [u8], at: usize, text: &[u8]) -> usize
     requires { at + length text.now < far * 4 }
     ensures { Put out.old at text.now result out.new }
 {
-    let mut j = 0;
-    while j < text.len() {
-        put_byte(out, at + j, text[j]);
-        j += 1;
+    for (j, b) in text.iter().enumerate() {
+        put_byte(out, at + j, *b);
     }
-    at + j
+    at + text.len()
 }
 
 // n in decimal.
@@ -49,7 +33,7 @@ pub fn put_number(out: &mut [u8], at: usize, n: usize) -> usize
     requires { at < far * 2 }
     ensures { Put out.old at (decimal n) result out.new }
 {
-    let last = (DIGIT_ZERO + n % 10) as u8;
+    let last = b'0' + (n % 10) as u8;
     if n < 10 {
         return put_byte(out, at, last);
     }
@@ -66,28 +50,20 @@ pub fn put_after(out: &mut [u8], at: usize, text: &[u8], n: usize) -> usize
     put_number(out, a, n)
 }
 
-// The number that a text is: one or more digits, zeros in front allowed. It is NO_NUMBER for any other text, and for a number that has more than 32 bits.
-pub fn number_in(text: &[u8]) -> u32
+// The number that a text is: one or more digits, zeros in front allowed, of 32 bits. Any other text is none.
+// Stays: std's `parse` takes a `+` in front of the digits, and a `str`; document 01 has digits alone, and a text here is any bytes.
+pub fn number_in(text: &[u8]) -> Option<u32>
     ensures { result ≡ number_in text.now }
 {
-    if text.len() == 0 {
-        return NO_NUMBER;
+    if text.is_empty() {
+        return None;
     }
-    let mut n: u64 = 0;
-    let mut i = 0;
-    while i < text.len() {
-        let b = text[i];
-        if b < ZERO {
-            return NO_NUMBER;
+    let mut n: u32 = 0;
+    for b in text {
+        if !b.is_ascii_digit() {
+            return None;
         }
-        if NINE < b {
-            return NO_NUMBER;
-        }
-        n = n * 10 + (b - ZERO) as u64;
-        if LIMIT <= n {
-            return NO_NUMBER;
-        }
-        i += 1;
+        n = n.checked_mul(10)?.checked_add(u32::from(*b - b'0'))?;
     }
-    n as u32
+    Some(n)
 }

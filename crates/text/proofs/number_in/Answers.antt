@@ -1,29 +1,32 @@
--- `text::number_in` meets its contract. The loop's invariant: the digits before `i` are read and make `n`, which has 32 bits. Where a byte is no digit, or
+-- `text::number_in` meets its contract. The loop's invariant: the digits before `b` are read and make `n`, which has 32 bits. Where a byte is no digit, or
 -- the digits make more, the text is no number whatever follows. Assumes nothing.
-use Rattle.text.proofs.Numbers.{nothing, none_read, all_read, below-zero, above-nine, too_large, digit-read}
+use Rattle.std.proofs.Common.{◌≡◌, ◌≤◌, ◌+◌, ◌*◌, ◌-◌, ◌<◌, ◌^◌, ◌∙◌, sym, get_or, length, arith, subst, ap}
+use borrow.Author.Tests.{eqb-true, eqb-false}
+use Rattle.text.proofs.Numbers.{Read, nothing, none_read, all_read, no_digit, too_large, digit-read}
 use Rattle.text.proofs.number_in.Goals as goal
 
-pub returns-then-text-eq0 : goal.returns-then-text-eq0
-returns-then-text-eq0 c = nothing _ c.if-text-eq0.true
+pub returns-then-is_empty : goal.returns-then-is_empty
+returns-then-is_empty c = nothing _ (eqb-true _ _ (sym c.if-is_empty.ensures))
 
-pub loop-i-init : goal.loop-i-init
-loop-i-init c = none_read _
+pub loop-b-init : goal.loop-b-init
+loop-b-init c = none_read _
 
-pub returns-then-b-lt-ZERO : goal.returns-then-b-lt-ZERO
-returns-then-b-lt-ZERO c = below-zero _ _ _ c.loop-i.invariant c.loop-i-test.true c.if-b-lt-ZERO.true
+pub returns-then-not-is_ascii_digit : goal.returns-then-not-is_ascii_digit
+returns-then-not-is_ascii_digit c = no_digit _ _ _ c.loop-b.invariant c.loop-b-test.true (sym c.is_ascii_digit.ensures.value ∙ c.if-not-is_ascii_digit.true)
 
-pub returns-then-b-gt-NINE : goal.returns-then-b-gt-NINE
-returns-then-b-gt-NINE c = above-nine _ _ _ c.loop-i.invariant c.loop-i-test.true c.if-b-gt-NINE.true
+pub returns-in_err-checked_mul : goal.returns-in_err-checked_mul
+returns-in_err-checked_mul c = c.from_residual.ensures ∙ too_large _ _ _ c.loop-b.invariant c.loop-b-test.true (omega (arith, c.in_err-checked_mul.ensures))
 
-pub returns-then-n-ge-LIMIT : goal.returns-then-n-ge-LIMIT
-returns-then-n-ge-LIMIT c = too_large _ _ _ c.loop-i.invariant c.loop-i-test.true c.if-n-ge-LIMIT.true
+pub returns-in_err-n : goal.returns-in_err-n
+returns-in_err-n c =
+    c.from_residual-in_err-n.ensures
+    ∙ too_large _ _ _ c.loop-b.invariant c.loop-b-test.true (omega (arith, c.in_ok-checked_mul.ensures.1, c.in_err-n.ensures, c.from.ensures))
 
-pub loop-i-preserved : goal.loop-i-preserved
-loop-i-preserved c =
-    digit-read _ _ _ c.loop-i.invariant c.loop-i-test.true
-    c.if-b-lt-ZERO.false
-    c.if-b-gt-NINE.false
-    c.if-n-ge-LIMIT.false
+pub loop-b-preserved : goal.loop-b-preserved
+loop-b-preserved c =
+    let e : c.in_ok-n.n ≡ c.loop-b.n * 10 + (get_or c.args.text.now c.loop-b.b-index 0 - 48) =
+    c.in_ok-n.ensures.1 ∙ ap (λ k. k + c.from.result) c.in_ok-checked_mul.ensures.1 ∙ ap (λ k. c.loop-b.n * 10 + k) c.from.ensures in
+    rw e (digit-read _ _ _ c.loop-b.invariant c.loop-b-test.true (sym c.is_ascii_digit.ensures.value ∙ c.if-not-is_ascii_digit.false) (omega (arith, c.in_ok-n.ensures.0, e)))
 
 pub returns : goal.returns
-returns c = all_read _ _ _ c.loop-i.invariant c.loop-i-test.false c.if-text-eq0.false
+returns c = all_read _ _ _ c.loop-b.invariant (omega (arith, c.loop-b-test.false)) (eqb-false _ _ (sym c.if-is_empty.ensures))

@@ -7,18 +7,18 @@ use Rattle.text.proofs.Puts.{put-more}
 use Rattle.text.proofs.put_text.Goals as goal
 
 pub loop-j-init : goal.loop-j-init
-loop-j-init c = (omega arith, refl)
+loop-j-init c = refl
 
 pub loop-j-preserved : goal.loop-j-preserved
 loop-j-preserved c =
     let a = c.args in
-    (omega arith, c.put_byte.ensures.bytes ∙ put-more a.out.now c.loop-j.out a.at c.loop-j.j a.text.now 0 (omega arith) c.loop-j.invariant.1)
+    c.put_byte.ensures.bytes ∙ put-more a.out.now c.loop-j.out a.at c.loop-j.j a.text.now 0 (omega arith) c.loop-j.invariant
 
 pub shape_of-out : goal.shape_of-out
-shape_of-out c = ap length c.loop-j.invariant.1 ∙ simp length-sets
+shape_of-out c = ap length c.loop-j.invariant ∙ simp length-sets
 
 pub returns : goal.returns
 returns c =
     let a = c.args in
     let e : take c.loop-j.j a.text.now ≡ a.text.now = take_all c.loop-j.j a.text.now (omega arith) in
-    record { place = omega arith; bytes = c.loop-j.invariant.1 ∙ ap (sets a.out.now a.at) e }
+    record { place = omega arith; bytes = c.loop-j.invariant ∙ ap (sets a.out.now a.at) e }
