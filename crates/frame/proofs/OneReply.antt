@@ -4,6 +4,7 @@ use Prim.Native.Nat.{ℕ}
 use mathlib.Core.Path.{◌≡◌, sym, ◌∙◌}
 use mathlib.Core.List.{List}
 use mathlib.Core.Bool.{Bool}
+use Rattle.std.proofs.Common.{Option}
 use denote.Ref.{Bor}
 use Rattle.frame.specs.declared.Part.{Part}
 use Rattle.frame.specs.declared.Placed.{Placed}
@@ -24,7 +25,7 @@ item-at-one s at p q = one p q
 pub item-in-one : (v : ℕ) (items : List ℕ) (at : ℕ) {a b : Placed} → a ≡ item_at (sheet_of v items) at → b ≡ item_at (sheet_of v items) at → a ≡ b
 item-in-one v items at p q = one p q
 
-pub short-in-one : (v : ℕ) (items : List ℕ) (at : ℕ) {a b : Short} → a ≡ short_of (item_at (sheet_of v items) at) → b ≡ short_of (item_at (sheet_of v items) at) → a ≡ b
+pub short-in-one : (v : ℕ) (items : List ℕ) (at : ℕ) {a b : Option Short} → a ≡ short_of (item_at (sheet_of v items) at) → b ≡ short_of (item_at (sheet_of v items) at) → a ≡ b
 short-in-one v items at p q = one p q
 
 pub call-part-one : (s : List ℕ) (at : ℕ) {a b : Part} → a ≡ name_part s at → b ≡ name_part s at → a ≡ b

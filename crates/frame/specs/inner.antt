@@ -1,2 +1,3 @@
 -- What only the functions for the crates above promise.
 pub mod Items
+pub mod Payloads

@@ -1,12 +1,13 @@
 // The sheet's header and its items. An item is answered by value, with its own place and the place of the next.
 #![tactic(auto)]
 
-ghost use Rattle.std.specs.Prelude.{◌≡◌, ◌+◌, ◌<◌, ◌≤◌, ◌^◌, length, get_or};
-ghost use Rattle.frame.specs.Frame.{version2, known_version, marks, header_size, kind_push, header_ok, be32, still, mark_bytes, mark_after, push_item, take_item, payload_item, item_at, name_part, Within, IsPart};
-ghost use Rattle.frame.specs.inner.Items.{sheet_of, no_short, short_of, in_items, LiesIn};
+ghost use Rattle.std.specs.Prelude.{◌≡◌, ℕ, ◌+◌, ◌<◌, ◌≤◌, ◌^◌, length, get_or};
+ghost use Rattle.frame.specs.Frame.{version2, known_version, marked, header_size, kind_push, header_ok, still, mark_bytes, push_item, take_item, payload_item, item_at, name_part, Within, IsPart};
+ghost use Rattle.frame.specs.inner.Items.{sheet_of, sheet_in, short_of, in_items, LiesIn};
+ghost use Rattle.frame.specs.inner.Payloads.{mark_read, name_read, number_read, placed, short_as};
 
 use answer::{Place, TypeNo};
-use cast::wide;
+use cast::{wide, wide32};
 
 // The versions that are read, the bytes of the header, and the most bytes that may follow it.
 pub const VERSION_1: u8 = 1;
@@ -18,6 +19,7 @@ pub const HEADER: usize = 3;
 pub const LONGEST: usize = 60000;
 
 // The kinds of items.
+// Stays: numbers, since they are the bytes of a sheet (document 01); each is read in one `match` on them.
 pub const ITEM_PUSH: u8 = 1;
 
 pub const ITEM_UNARY: u8 = 2;
@@ -42,8 +44,10 @@ const TEMPLATE_NUMBERS: usize = 2;
 
 const NAME_LONGEST: usize = 32;
 
-// The mark byte of a value that is known only when running; that of any other is 0, and no byte above 1 is a mark.
+// The mark byte of a value that is known only when running, and that of any other; no other byte is a mark.
 const MARK_RUNNING: u8 = 1;
+
+const MARK_CONST: u8 = 0;
 
 // How many bytes a push and an operator have, and how many of them follow the length byte; and those of a push with a mark.
 pub const SHORT_BYTES: usize = 3;
@@ -62,6 +66,7 @@ pub struct Part {
 }
 
 // What stands at a place of a sheet: one of the six items, or instead of an item its end or bad framing.
+// Stays: the end and bad framing are no `None` or `Err`, since `items_from` lists them as what stands last, and `effect_of` and `Visits` say of them what they come to.
 #[derive(Clone, Copy)]
 pub enum Item {
     Push {
@@ -98,23 +103,37 @@ pub struct Placed {
     pub next: Place,
 }
 
-// A push or an operator, by its kind, its number, its mark and how many bytes it has; kind 0 and no bytes for all else.
+// A push or an operator.
+#[derive(Clone, Copy)]
+pub enum ShortItem {
+    Push {
+        ty: TypeNo,
+        running: bool,
+    },
+    Unary(u8),
+    Binary(u8),
+}
+
+// A push or an operator, and how many bytes it has.
 #[derive(Clone, Copy)]
 pub struct Short {
-    pub kind: u8,
-    pub number: u8,
-    pub running: bool,
+    pub item: ShortItem,
     pub bytes: usize,
+}
+
+// The part of a sheet after its header, with the sheet's version. Places are counted from the sheet's first byte there too.
+// Stays: the version is a byte and no enum of those that are read, since `item_at` and `call_name` read sheets whose header nobody has judged.
+#[derive(Clone, Copy)]
+pub struct Items<'a> {
+    pub version: u8,
+    pub bytes: &'a [u8],
 }
 
 // Whether the version is read.
 fn known_version(version: u8) -> bool
     ensures { result ≡ known_version version }
 {
-    if version == VERSION_1 {
-        return true;
-    }
-    version == VERSION_2
+    matches!(version, VERSION_1 | VERSION_2)
 }
 
 // Whether the header is right: a version that is read, a length that is not too large, and as many bytes after the header.
@@ -127,18 +146,11 @@ pub fn header(sheet: &[u8]) -> bool
     if !known_version(sheet[0]) {
         return false;
     }
-    let len = wide::<usize>(sheet[1]) * 256 + wide::<usize>(sheet[2]);
+    let len = wide(sheet[1]) * 256 + wide(sheet[2]);
     if LONGEST < len {
         return false;
     }
     sheet.len() == HEADER + len
-}
-
-// Four bytes as a number, the first the highest.
-fn number(a: u8, b: u8, c: u8, d: u8) -> u32
-    ensures { result ≡ be32 a b c d }
-{
-    ((wide::<u32>(a) * 256 + wide::<u32>(b)) * 256 + wide::<u32>(c)) * 256 + wide::<u32>(d)
 }
 
 // Where no item stands: the end, or bad framing.
@@ -148,225 +160,230 @@ fn no_item(item: Item, at: Place) -> Placed
     Placed { item, at, next: at }
 }
 
-// MARKS: under version 2 a push and a take end with a mark byte. Under version 1 they have none, which is the mark 0.
+// PAYLOADS. Where a sheet has marks, a push and a take end with a mark byte. Where it has none there is no such byte, which is the mark of a const.
 
-fn mark_bytes(version: u8) -> usize
-    ensures { (result ≡ mark_bytes (marks version)) × (result ≤ 1) }
+fn mark_bytes(marks: bool) -> usize
+    ensures { (result ≡ mark_bytes marks) × (result ≤ 1) }
 {
-    if version == VERSION_2 { 1 } else { 0 }
+    if marks { 1 } else { 0 }
 }
 
-// The mark of a payload that has n bytes before it.
-fn mark_after(version: u8, p: &[u8], n: usize) -> u8
-    requires { length p.now ≡ n + mark_bytes (marks version) }
-    ensures { result ≡ mark_after (marks version) p.now n }
+// Whether a payload of n bytes before its mark is marked as running; none where it is longer or shorter, or has a byte there that is no mark.
+fn mark(marks: bool, p: &[u8], n: usize) -> Option<bool>
+    requires { n < 8 }
+    ensures { result ≡ mark_read marks p.now n }
 {
-    if version == VERSION_2 {
-        return p[n];
+    if p.len() != n + mark_bytes(marks) {
+        return None;
     }
-    0
+    let mark = if marks { p[n] } else { MARK_CONST };
+    match mark {
+        MARK_CONST => Some(false),
+        MARK_RUNNING => Some(true),
+        _ => None,
+    }
 }
 
-// A push at a place, by its payload and the next place.
-fn push_item(version: u8, at: Place, next: Place, p: &[u8]) -> Placed
-    requires { next.0 ≡ at.0 + 2 + length p.now }
-    ensures { result ≡ push_item at.0 p.now (marks version) }
+// The number of a payload that is no more than a number.
+fn number(p: &[u8]) -> Option<u8>
+    ensures { result ≡ number_read p.now }
 {
-    if p.len() != ONE_NUMBER + mark_bytes(version) {
-        return no_item(Item::Bad, at);
+    if p.len() != ONE_NUMBER {
+        return None;
     }
-    let mark = mark_after(version, p, ONE_NUMBER);
-    if MARK_RUNNING < mark {
-        return no_item(Item::Bad, at);
+    Some(p[0])
+}
+
+// The name of a payload that begins at a byte of the sheet, behind n numbers; none where it is empty or too long.
+fn name(p: &[u8], from: usize, n: usize) -> Option<Part>
+    requires { (n < 8) × (from + length p.now < 2 ^ 64) }
+    ensures { result ≡ name_read from p.now n }
+{
+    if p.len() <= n {
+        return None;
     }
-    let item = Item::Push {
+    if n + NAME_LONGEST < p.len() {
+        return None;
+    }
+    Some(Part {
+        start: Place(from + n),
+        length: p.len() - n,
+    })
+}
+
+fn push(marks: bool, p: &[u8]) -> Option<Item>
+    ensures { (at : ℕ) → placed at p.now result ≡ push_item at p.now marks }
+{
+    let running = mark(marks, p, ONE_NUMBER)?;
+    Some(Item::Push {
         ty: TypeNo(wide(p[0])),
-        running: mark == MARK_RUNNING,
-    };
-    Placed { item, at, next }
+        running,
+    })
 }
 
-// The same of a take.
-fn take_item(version: u8, at: Place, next: Place, p: &[u8]) -> Placed
-    requires { next.0 ≡ at.0 + 2 + length p.now }
-    ensures { result ≡ take_item at.0 p.now (marks version) }
+fn take(marks: bool, p: &[u8]) -> Option<Item>
+    ensures { (at : ℕ) → placed at p.now result ≡ take_item at p.now marks }
 {
-    if p.len() != ENTRY_NUMBERS + mark_bytes(version) {
-        return no_item(Item::Bad, at);
-    }
-    let mark = mark_after(version, p, ENTRY_NUMBERS);
-    if MARK_RUNNING < mark {
-        return no_item(Item::Bad, at);
-    }
-    let item = Item::Take {
+    let running = mark(marks, p, ENTRY_NUMBERS)?;
+    Some(Item::Take {
         kind: p[0],
-        p: number(p[1], p[2], p[3], p[4]),
+        p: u32::from_be_bytes([p[1], p[2], p[3], p[4]]),
         q: p[5],
         elem: p[6],
-        running: mark == MARK_RUNNING,
-    };
-    Placed { item, at, next }
+        running,
+    })
 }
 
-// The item at a place, by its kind and its payload, a part of the sheet.
-fn payload_item(version: u8, at: Place, kind: u8, p: &[u8]) -> Placed
+// The item at a place, by its kind and its payload, a part of the sheet; none where that is bad framing.
+fn payload(marks: bool, at: Place, kind: u8, p: &[u8]) -> Option<Item>
     requires { at.0 + 2 + length p.now < 2 ^ 64 }
-    ensures { result ≡ payload_item at.0 p.now (marks version) kind }
+    ensures { placed at.0 p.now result ≡ payload_item at.0 p.now marks kind }
 {
     let from = at.0 + 2;
-    let next = Place(from + p.len());
-    let bad = Placed {
-        item: Item::Bad,
-        at,
-        next: at,
-    };
     match kind {
-        ITEM_PUSH => push_item(version, at, next, p),
-        ITEM_UNARY => {
-            if p.len() == ONE_NUMBER {
-                let item = Item::Unary(p[0]);
-                return Placed { item, at, next };
-            }
-            bad
-        }
-        ITEM_BINARY => {
-            if p.len() == ONE_NUMBER {
-                let item = Item::Binary(p[0]);
-                return Placed { item, at, next };
-            }
-            bad
-        }
+        ITEM_PUSH => push(marks, p),
+        ITEM_UNARY => Some(Item::Unary(number(p)?)),
+        ITEM_BINARY => Some(Item::Binary(number(p)?)),
         ITEM_CALL => {
-            if p.len() <= CALL_NUMBERS {
-                return bad;
-            }
-            if CALL_NUMBERS + NAME_LONGEST < p.len() {
-                return bad;
-            }
-            let name = Part {
-                start: Place(from + CALL_NUMBERS),
-                length: p.len() - CALL_NUMBERS,
-            };
-            let item = Item::Call { count: p[0], name };
-            Placed { item, at, next }
+            let name = name(p, from, CALL_NUMBERS)?;
+            Some(Item::Call { count: p[0], name })
         }
         ITEM_TEMPLATE => {
-            if p.len() <= TEMPLATE_NUMBERS {
-                return bad;
-            }
-            if TEMPLATE_NUMBERS + NAME_LONGEST < p.len() {
-                return bad;
-            }
-            let name = Part {
-                start: Place(from + TEMPLATE_NUMBERS),
-                length: p.len() - TEMPLATE_NUMBERS,
-            };
-            let item = Item::CallTemplate {
+            let name = name(p, from, TEMPLATE_NUMBERS)?;
+            Some(Item::CallTemplate {
                 template: TypeNo(wide(p[0])),
                 count: p[1],
                 name,
-            };
-            Placed { item, at, next }
+            })
         }
-        ITEM_TAKE => take_item(version, at, next, p),
-        _ => bad,
+        ITEM_TAKE => take(marks, p),
+        _ => None,
     }
 }
 
-// THE PART AFTER THE HEADER is handed on as `items`, with the sheet's version. Places are counted from the sheet's first byte there too.
+// SHORT ITEMS: a push and the operators, read in the part after the header.
 
-// What stands at a place of a sheet, read in the part after its header.
-pub fn item_in(version: u8, items: &[u8], at: Place) -> Placed
-    ensures { result ≡ item_at (sheet_of version items.now) at.0 }
+// A push without a mark or an operator, by its kind and its number.
+fn short_item(kind: u8, number: u8) -> Option<ShortItem>
+    ensures { result ≡ short_as kind number }
 {
-    if at.0 < HEADER {
-        return no_item(Item::Bad, at);
-    }
-    let first = at.0 - HEADER;
-    if items.len() <= first {
-        return no_item(Item::End, at);
-    }
-    let len = wide(items[first]);
-    if len == 0 {
-        return no_item(Item::Bad, at);
-    }
-    if items.len() - first <= len {
-        return no_item(Item::Bad, at);
-    }
-    let kind = items[first + 1];
-    let from = first + 2;
-    let to = first + 1 + len;
-    payload_item(version, at, kind, &items[from..to])
-}
-
-// What is neither a push nor an operator.
-fn no_short() -> Short
-    ensures { result ≡ no_short }
-{
-    Short {
-        kind: 0,
-        number: 0,
-        running: false,
-        bytes: 0,
+    match kind {
+        ITEM_PUSH => Some(ShortItem::Push {
+            ty: TypeNo(wide(number)),
+            running: false,
+        }),
+        ITEM_UNARY => Some(ShortItem::Unary(number)),
+        ITEM_BINARY => Some(ShortItem::Binary(number)),
+        _ => None,
     }
 }
 
 // The push of version 2 that begins at this byte of the part after the header.
-fn marked_push(items: &[u8], first: usize) -> Short
+fn marked_push(items: &[u8], first: usize) -> Option<Short>
     requires { (first + 3 ≤ length items.now) × (get_or items.now (first + 1) 0 ≡ kind_push) }
     ensures { result ≡ short_of (item_at (sheet_of version2 items.now) (header_size + first)) }
 {
     if items[first] != MARKED_FOLLOWING {
-        return no_short();
+        return None;
     }
     if items.len() - first < MARKED_BYTES {
-        return no_short();
+        return None;
     }
     let mark = items[first + 3];
     if MARK_RUNNING < mark {
-        return no_short();
+        return None;
     }
-    Short {
-        kind: ITEM_PUSH,
-        number: items[first + 2],
+    let item = ShortItem::Push {
+        ty: TypeNo(wide(items[first + 2])),
         running: mark == MARK_RUNNING,
+    };
+    Some(Short {
+        item,
         bytes: MARKED_BYTES,
-    }
+    })
 }
 
-// The push or the operator at a place, read in the part after the header.
-pub fn short_in(version: u8, items: &[u8], at: Place) -> Short
-    ensures { result ≡ short_of (item_at (sheet_of version items.now) at.0) }
-{
-    let none = no_short();
-    if at.0 < HEADER {
-        return none;
+impl<'a> Items<'a> {
+    // Whether the sheet has marks: a push and a take end with one, and results keep theirs.
+    pub fn has_marks(self) -> bool
+        ensures { result ≡ marked (sheet_in self.entry) }
+    {
+        self.version == VERSION_2
     }
-    let first = at.0 - HEADER;
-    if items.len() < first + SHORT_BYTES {
-        return none;
-    }
-    let kind = items[first + 1];
-    if kind < ITEM_PUSH {
-        return none;
-    }
-    if ITEM_BINARY < kind {
-        return none;
-    }
-    if version == VERSION_2 {
-        if kind == ITEM_PUSH {
-            return marked_push(items, first);
+
+    // What stands at a place of the sheet.
+    pub fn item(self, at: Place) -> Placed
+        ensures { result ≡ item_at (sheet_in self.entry) at.0 }
+    {
+        if at.0 < HEADER {
+            return no_item(Item::Bad, at);
+        }
+        let items = self.bytes;
+        let first = at.0 - HEADER;
+        if items.len() <= first {
+            return no_item(Item::End, at);
+        }
+        let len = wide(items[first]);
+        if len == 0 {
+            return no_item(Item::Bad, at);
+        }
+        if items.len() - first <= len {
+            return no_item(Item::Bad, at);
+        }
+        let kind = items[first + 1];
+        let from = first + 2;
+        let to = first + 1 + len;
+        match payload(self.has_marks(), at, kind, &items[from..to]) {
+            Some(item) => Placed {
+                item,
+                at,
+                next: Place(at.0 + 1 + len),
+            },
+            None => no_item(Item::Bad, at),
         }
     }
-    if items[first] != SHORT_FOLLOWING {
-        return none;
+
+    // The push or the operator that stands at a place.
+    pub fn short(self, at: Place) -> Option<Short>
+        ensures { result ≡ short_of (item_at (sheet_in self.entry) at.0) }
+    {
+        if at.0 < HEADER {
+            return None;
+        }
+        let items = self.bytes;
+        let first = at.0 - HEADER;
+        if items.len() < first + SHORT_BYTES {
+            return None;
+        }
+        let kind = items[first + 1];
+        if self.has_marks() {
+            if kind == ITEM_PUSH {
+                return marked_push(items, first);
+            }
+        }
+        let item = short_item(kind, items[first + 2])?;
+        if items[first] != SHORT_FOLLOWING {
+            return None;
+        }
+        Some(Short {
+            item,
+            bytes: SHORT_BYTES,
+        })
     }
-    let number = items[first + 2];
-    Short {
-        kind,
-        number,
-        running: false,
-        bytes: SHORT_BYTES,
+
+    // A name that lies in the part after the header, as that part of it.
+    pub fn name(self, name: Part) -> &'a [u8]
+        requires { LiesIn (length self.bytes.now) name }
+        ensures { IsPart self.entry.bytes (in_items name) result }
+    {
+        let start = name.start;
+        part_of(
+            self.bytes,
+            Part {
+                start: Place(start.0 - HEADER),
+                length: name.length,
+            },
+        )
     }
 }
 
@@ -380,7 +397,11 @@ pub fn item_at(sheet: &[u8], at: Place) -> Placed
     if sheet.len() < HEADER {
         return no_item(Item::End, at);
     }
-    item_in(sheet[0], &sheet[HEADER..], at)
+    let items = Items {
+        version: sheet[0],
+        bytes: &sheet[HEADER..],
+    };
+    items.item(at)
 }
 
 // The name of the call that stands at a place, by its start and its length; the empty part where no well-framed call begins.
@@ -412,21 +433,6 @@ pub fn part_of(sheet: &[u8], part: Part) -> &[u8]
     let from = start.0;
     let to = from + part.length;
     &sheet[from..to]
-}
-
-// A name that lies in the part after the header, as that part of it.
-pub fn name_in(items: &[u8], name: Part) -> &[u8]
-    requires { LiesIn (length items.now) name }
-    ensures { IsPart items.entry (in_items name) result }
-{
-    let start = name.start;
-    part_of(
-        items,
-        Part {
-            start: Place(start.0 - HEADER),
-            length: name.length,
-        },
-    )
 }
 
 // The name of the call that stands at a place, as that part of the sheet; empty where no well-framed call begins.

@@ -4,6 +4,7 @@ use Prim.Native.Nat.{ℕ, zero, suc, ◌+◌, ◌-◌, ◌<◌, ◌≤◌}
 use mathlib.Core.Path.{◌≡◌, refl, sym, ◌∙◌, ap}
 use mathlib.Core.Bool.{Bool, true, false, ◌&&◌}
 use mathlib.Core.List.{List, [], ◌∷◌, ◌++◌}
+use Rattle.std.proofs.Common.{Option, Some, None}
 use native.Mathlib.Omega.{arith}
 use lib.ListN.{length, get_or, take, drop, set, length-drop, length-map}
 use lib.Seq.{length-take-le}
@@ -31,7 +32,7 @@ use Rattle.call_ty.proofs.Lists.{number_at, type-in}
 use Rattle.step.specs.declared.Did.{Did}
 use Rattle.step.specs.declared.Did.TheVariants as did
 use Rattle.step.specs.Effect.{most, State, Effect, goes, stop, pushed, answered, onto, push_effect, unary_effect, binary_effect, is_valued, landing, calling, call_effect, template_effect, take_effect}
-use Rattle.step.specs.inner.Code.{state_of, Arity, operator_outcome, operator_effect, Ready, turned_away, effect_by, Counted, Does, Settles}
+use Rattle.step.specs.inner.Code.{state_of, Arity, operator_outcome, operator_effect, called_effect, Ready, turned_away, effect_by, Counted, Does, Settles}
 use Rattle.step.proofs.StackLaws.{next-value, sized, below-them, operands-lent, value_in, value-under, mark-at}
 
 -- the same effect
@@ -165,7 +166,7 @@ module _ (place : Place) (count : ℕ) (vals : List ℕ) (used : ℕ) (w : List 
           → landing place.0 st k (keeps && builtin_runs profile name (lent k)) (call_outcome profile place.0 w used name ts (types w (numbers (lent k))) (marks_of (lent k))) ≡ calling keeps profile place.0 st name ts k
       calling-on name ts k h = sym (rw (operands-lent count vals fits k h))
 
-      pub call-short : (name : List ℕ) (k : ℕ) → count < k → stop Stack place.0 st ≡ call_effect keeps profile place.0 st name k
+      call-short : (name : List ℕ) (k : ℕ) → count < k → stop Stack place.0 st ≡ call_effect keeps profile place.0 st name k
       unfolding call_effect
       call-short name k h = rw (high, lt-leb k count h)
 
@@ -173,9 +174,13 @@ module _ (place : Place) (count : ℕ) (vals : List ℕ) (used : ℕ) (w : List 
       unfolding call_effect
       call-goes name k h = let b : leb k (length (take count vals)) ≡ true = rw high (le-leb k count h) in sym (rw b)
 
-      pub template-short : (name : List ℕ) (t k : ℕ) → count < k → stop Stack place.0 st ≡ template_effect keeps profile place.0 st name t k
+      template-short : (name : List ℕ) (t k : ℕ) → count < k → stop Stack place.0 st ≡ template_effect keeps profile place.0 st name t k
       unfolding template_effect
       template-short name t k h = rw (high, lt-leb k count h)
+
+      pub called-short : (name : List ℕ) (t : Option TypeNo) (k : ℕ) → count < k → stop Stack place.0 st ≡ called_effect keeps profile place.0 st name t k
+      called-short name None k h = call-short name k h
+      called-short name (Some t) k h = template-short name t.0 k h
 
       pub template-unknown : (name : List ℕ) (t k : ℕ) → k ≤ count → used ≤ t → stop NoSuchType place.0 st ≡ template_effect keeps profile place.0 st name t k
       unfolding template_effect

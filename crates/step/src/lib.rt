@@ -6,16 +6,16 @@ ghost use Rattle.std.specs.Prelude.{◌≡◌, ◌<◌, ◌≤◌, length};
 ghost use Rattle.table.specs.Table.{Sound};
 ghost use Rattle.table.specs.Denote.{type_at};
 ghost use Rattle.table.specs.Placing.{Gave};
-ghost use Rattle.frame.specs.Frame.{marks};
-ghost use Rattle.frame.specs.inner.Items.{sheet_of, LiesIn, NameIn};
+ghost use Rattle.frame.specs.Frame.{marked};
+ghost use Rattle.frame.specs.inner.Items.{sheet_in, NameIn};
+ghost use Rattle.names.specs.inner.Table.{name_table};
 ghost use Rattle.call_ty.specs.Calls.{numbers, marks_of, types};
 ghost use Rattle.call_ty.specs.inner.Codes.{Under};
-ghost use Rattle.step.specs.Effect.{bytes_of, entry_of, push_effect, is_valued, calling, call_effect, template_effect, take_effect, effect_of};
-ghost use Rattle.step.specs.inner.Code.{state_of, turned_away, Arity, operator_outcome, operator_effect, Ready, Pushes, Settles, Does};
+ghost use Rattle.step.specs.Effect.{bytes_of, entry_of, push_effect, is_valued, calling, take_effect, effect_of};
+ghost use Rattle.step.specs.inner.Code.{state_of, turned_away, Arity, operator_outcome, operator_effect, called_effect, Ready, Pushes, Settles, Does};
 
-use cast::wide;
-use frame::{Item, Part, VERSION_2};
-use names::Names;
+use cast::{wide, wide32};
+use frame::{Item, Items};
 use table::{Answer, Entry, Place, Reason, Refusal, TypeNo};
 
 // How many values the stack holds.
@@ -26,23 +26,14 @@ const UNARY: usize = 1;
 
 const BINARY: usize = 2;
 
-// The number of the refusal where the table lacks room.
-const NO_ROOM: u8 = 9;
-
 // What an item did: it left so many values and entries; it was a call without value; the items ended; or it was refused.
+// Stays: a refusal is one of four outcomes and no `Err`, as in `Effect`: the end and a call without value end a sheet too, and `effect_by` says of each of the four what it is.
 #[derive(Clone, Copy)]
 pub enum Did {
     Went { count: usize, used: usize },
     Silent { count: usize, used: usize },
     Ended { count: usize, used: usize },
     Refused(Refusal),
-}
-
-// Whether a sheet of that version keeps the marks of results.
-pub fn keeps_marks(version: u8) -> bool
-    ensures { result ≡ marks version }
-{
-    version == VERSION_2
 }
 
 // A refusal of the item at a place.
@@ -109,11 +100,11 @@ fn operator_at(op: u8, at: Place, args: &[u32], table: &mut [u32], used: usize) 
     ensures { Gave (operator_outcome at.0 table.old used op (types table.old (numbers args.now)) (marks_of args.now)) result table.new }
 {
     let op = wide(op);
-    let a = args[0];
-    if args.len() == UNARY {
-        return ops_ty::unary_at(table, used, at, op, a);
+    match *args {
+        [a] => ops_ty::unary_at(table, used, at, op, a),
+        [a, b] => ops_ty::binary_at(table, used, at, op, a, b),
+        _ => unreachable!(),
     }
-    ops_ty::binary_at(table, used, at, op, a, args[1])
 }
 
 // An operator on the last k values; the mark of its result is kept, or not.
@@ -146,16 +137,13 @@ fn is_valued(a: Answer) -> bool
     match a {
         Answer::Value(_, _) => true,
         Answer::NoValue(_) => false,
-        Answer::Refused(r) => {
-            let reason = r.reason;
-            table::reason_no(reason) == NO_ROOM
-        }
+        Answer::Refused(r) => matches!(r.reason, Reason::NoRoom(_)),
     }
 }
 
-// A call on the last k values, with its template list; the names are lent. On a full stack it has no operand, and its value has no place.
+// A call on the last k values, with its template list; the table of names is lent as rows. On a full stack it has no operand, and its value has no place.
 fn call_on(
-    names: &Names,
+    rows: &[u8],
     keeps: bool,
     profile: u32,
     name: &[u8],
@@ -167,7 +155,7 @@ fn call_on(
     table: &mut [u32],
     used: usize,
 ) -> Did
-    requires { Ready count stack.old used table.old × Under used tplt.now × (k ≤ count) }
+    requires { Ready count stack.old used table.old × Under used tplt.now × (k ≤ count) × (rows.now ≡ name_table) }
     ensures { Does (calling keeps profile at.0 (state_of count stack.old used table.old) name.now (types table.old tplt.now) k) result stack.new table.new }
 {
     let base = count - k;
@@ -175,7 +163,7 @@ fn call_on(
         table,
         used,
         at,
-        names,
+        rows,
         profile,
         name,
         tplt,
@@ -188,12 +176,13 @@ fn call_on(
     settle(stack, base, keeps & r.running, answer)
 }
 
+// A call of so many operands, with or without a template.
 fn call(
-    version: u8,
-    items: &[u8],
-    names: &Names,
+    rows: &[u8],
+    keeps: bool,
     profile: u32,
-    name: Part,
+    name: &[u8],
+    template: Option<TypeNo>,
     k: u8,
     at: Place,
     stack: &mut [u32],
@@ -201,70 +190,25 @@ fn call(
     table: &mut [u32],
     used: usize,
 ) -> Did
-    requires { Ready count stack.old used table.old × LiesIn (length items.now) name }
-    ensures { Does (call_effect (marks version) profile at.0 (state_of count stack.old used table.old) (bytes_of (sheet_of version items.now) name) k) result stack.new table.new }
+    requires { Ready count stack.old used table.old × (rows.now ≡ name_table) }
+    ensures { Does (called_effect keeps profile at.0 (state_of count stack.old used table.old) name.now template k) result stack.new table.new }
 {
     let k = wide(k);
     if count < k {
         return stopped(Reason::Stack, at, used);
     }
-    let bytes = frame::name_in(items, name);
-    let list: [u32; 0] = [];
-    call_on(
-        names,
-        keeps_marks(version),
-        profile,
-        bytes,
-        &list,
-        k,
-        at,
-        stack,
-        count,
-        table,
-        used,
-    )
-}
-
-fn call_template(
-    version: u8,
-    items: &[u8],
-    names: &Names,
-    profile: u32,
-    name: Part,
-    t: TypeNo,
-    k: u8,
-    at: Place,
-    stack: &mut [u32],
-    count: usize,
-    table: &mut [u32],
-    used: usize,
-) -> Did
-    requires { Ready count stack.old used table.old × LiesIn (length items.now) name }
-    ensures { Does (template_effect (marks version) profile at.0 (state_of count stack.old used table.old) (bytes_of (sheet_of version items.now) name) t.0 k) result stack.new table.new }
-{
-    let template = t.0;
-    let wanted = wide(k);
-    if count < wanted {
-        return stopped(Reason::Stack, at, used);
-    }
-    if used <= template {
+    let Some(t) = template else {
+        let list: [u32; 0] = [];
+        return call_on(
+            rows, keeps, profile, name, &list, k, at, stack, count, table, used,
+        );
+    };
+    if used <= t.0 {
         return stopped(Reason::NoSuchType, at, used);
     }
-    let bytes = frame::name_in(items, name);
-    let first = template as u32;
-    let list = [first];
+    let list = [t.0 as u32];
     call_on(
-        names,
-        keeps_marks(version),
-        profile,
-        bytes,
-        &list,
-        wanted,
-        at,
-        stack,
-        count,
-        table,
-        used,
+        rows, keeps, profile, name, &list, k, at, stack, count, table, used,
     )
 }
 
@@ -297,18 +241,17 @@ fn entry(kind: u8, p: u32, q: u8, elem: u8) -> Entry
     ensures { result ≡ entry_of kind p q elem }
 {
     Entry {
-        kind: wide(kind),
+        kind: wide32(kind),
         p,
-        q: wide(q),
-        elem: wide(elem),
+        q: wide32(q),
+        elem: wide32(elem),
     }
 }
 
-// What stands at a place of a sheet of that version, in a profile, on the stack of `count` values and the table.
+// What stands at a place of a sheet, in a profile, on the stack of `count` values and the table.
 pub fn step(
-    version: u8,
-    items: &[u8],
-    names: &Names,
+    items: Items,
+    rows: &[u8],
     profile: u32,
     item: Item,
     at: Place,
@@ -317,29 +260,40 @@ pub fn step(
     table: &mut [u32],
     used: usize,
 ) -> Did
-    requires { Ready count stack.old used table.old × NameIn (length items.now) item }
-    ensures { Does (effect_of profile at.0 (state_of count stack.old used table.old) (sheet_of version items.now) item) result stack.new table.new }
+    requires { Ready count stack.old used table.old × NameIn (length items.bytes.now) item × (rows.now ≡ name_table) }
+    ensures { Does (effect_of profile at.0 (state_of count stack.old used table.old) (sheet_in items.entry) item) result stack.new table.new }
 {
+    let keeps = items.has_marks();
     match item {
         Item::Push { ty, running } => push(ty, running, at, stack, count, table, used),
-        Item::Unary(op) => {
-            let keeps = keeps_marks(version);
-            operator(op, UNARY, keeps, at, stack, count, table, used)
+        Item::Unary(op) => operator(op, UNARY, keeps, at, stack, count, table, used),
+        Item::Binary(op) => operator(op, BINARY, keeps, at, stack, count, table, used),
+        Item::Call { count: k, name } => {
+            let name = items.name(name);
+            call(
+                rows, keeps, profile, name, None, k, at, stack, count, table, used,
+            )
         }
-        Item::Binary(op) => {
-            let keeps = keeps_marks(version);
-            operator(op, BINARY, keeps, at, stack, count, table, used)
-        }
-        Item::Call { count: k, name } => call(
-            version, items, names, profile, name, k, at, stack, count, table, used,
-        ),
         Item::CallTemplate {
             template,
             count: k,
             name,
-        } => call_template(
-            version, items, names, profile, name, template, k, at, stack, count, table, used,
-        ),
+        } => {
+            let name = items.name(name);
+            call(
+                rows,
+                keeps,
+                profile,
+                name,
+                Some(template),
+                k,
+                at,
+                stack,
+                count,
+                table,
+                used,
+            )
+        }
         Item::Take {
             kind,
             p,

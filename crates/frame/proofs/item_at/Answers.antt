@@ -12,4 +12,4 @@ pub returns-then-sheet-lt-HEADER : goal.returns-then-sheet-lt-HEADER
 returns-then-sheet-lt-HEADER c = let a = c.args in c.no_item-then-sheet-lt-HEADER.ensures ∙ past_end a.sheet.now a.at.0 c.if-at-lt-HEADER.false (omega (arith, c.if-sheet-lt-HEADER.true, c.if-at-lt-HEADER.false))
 
 pub returns : goal.returns
-returns c = let a = c.args in c.item_in.ensures ∙ item-alike (rest-alike a.sheet.now c.if-sheet-lt-HEADER.false) a.at.0
+returns c = let a = c.args in c.item.ensures ∙ item-alike (rest-alike a.sheet.now c.if-sheet-lt-HEADER.false) a.at.0

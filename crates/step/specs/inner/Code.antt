@@ -1,9 +1,10 @@
 -- What the code goes by: a stack is the first values of a lent slice. Assumes nothing.
-use Rattle.std.specs.Prelude.{ℕ, ◌≤◌, ◌<◌, ◌≡◌, Bool, false, cond, List, length, get_or, take, eqb}
+use Rattle.std.specs.Prelude.{ℕ, ◌≤◌, ◌<◌, ◌≡◌, Bool, false, cond, Option, Some, None, List, length, get_or, take, eqb}
 use Rattle.conv.specs.Types.{Ty}
 use Rattle.table.specs.Table.{Sound}
 use Rattle.answer.specs.declared.Place.{Place}
 use Rattle.answer.specs.declared.Reason.{Reason}
+use Rattle.answer.specs.declared.TypeNo.{TypeNo}
 use Rattle.answer.specs.declared.Answer.{Answer}
 use Rattle.answer.specs.declared.Answer.TheVariants.{Value, NoValue, Refused}
 use Rattle.table.specs.Placing.{Outcome}
@@ -12,7 +13,7 @@ use Rattle.call_ty.specs.Calls.{first_in, second_in, numbers}
 use Rattle.call_ty.specs.inner.Codes.{Under}
 use Rattle.step.specs.declared.Did.{Did}
 use Rattle.step.specs.declared.Did.TheVariants as did
-use Rattle.step.specs.Effect.{most, State, Effect, goes, silent, ends, stops, onto, unary_effect, binary_effect}
+use Rattle.step.specs.Effect.{most, State, Effect, goes, silent, ends, stops, onto, unary_effect, binary_effect, call_effect, template_effect}
 
 -- the state of a slice of values of which the first are the stack
 abbrev pub state_of : ℕ → List ℕ → ℕ → List ℕ → State
@@ -43,6 +44,11 @@ operator_outcome place w n op us ms =
 
 unfoldable pub operator_effect : Bool → ℕ → ℕ → State → ℕ → Effect
 operator_effect keeps k place st op = cond (eqb k 1) (unary_effect keeps place st op) (binary_effect keeps place st op)
+
+-- CALLS, with or without a template
+abbrev pub called_effect : Bool → ℕ → ℕ → State → List ℕ → Option TypeNo → ℕ → Effect
+called_effect keeps profile place st name None k = call_effect keeps profile place st name k
+called_effect keeps profile place st name (Some t) k = template_effect keeps profile place st name t.0 k
 
 -- an answer whose value can be pushed over the values below
 abbrev pub Pushes : ℕ → Answer → Type 0
