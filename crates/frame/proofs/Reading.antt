@@ -19,9 +19,9 @@ use Rattle.frame.specs.declared.Placed.{Placed}
 use Rattle.frame.specs.declared.ShortItem.{ShortItem}
 use Rattle.frame.specs.declared.ShortItem.TheVariants as brief
 use Rattle.frame.specs.declared.Short.{Short}
-use Rattle.frame.specs.Frame.{version2, marks, marked, header_size, place, part, type_no, still, follows, running_mark, mark_bytes, mark_after, exactly, naming, marking, payload_item, payload_at, item_at, is_item}
+use Rattle.frame.specs.Frame.{version2, marks, marked, header_size, place, part, type_no, still, follows, mark_bytes, mark_after, exactly, naming, payload_item, payload_at, item_at, is_item}
 use Rattle.frame.specs.inner.Items.{sheet_of, short, short_by, short_of, item_of}
-use Rattle.frame.specs.inner.Payloads.{placed, mark_read, number_read, name_read, short_as}
+use Rattle.frame.specs.inner.Payloads.{placed, number_read, name_read, short_as}
 use Rattle.frame.proofs.FrameLaws.{cond-elim, framed, own-place}
 use Rattle.frame.proofs.Parts.{whole_length, whole-marked, whole-at, whole_part}
 

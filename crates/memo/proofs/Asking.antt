@@ -1,12 +1,9 @@
 -- Items that ask: what the memo has for one is what typing gives, and what typing gave for one may be noted. Assumes nothing.
-use Prim.Native.Nat.{ℕ, ◌+◌, ◌-◌, ◌<◌, ◌≤◌, ◌^◌}
+use Prim.Native.Nat.{ℕ, ◌+◌, ◌-◌, ◌<◌, ◌≤◌}
 use mathlib.Core.Path.{◌≡◌, refl, sym, ◌∙◌, ap, subst}
-use mathlib.Core.Logic.{◌⊎◌, inl, inr, ◌≢◌, ⊎_elim}
-use denote.Enum.Declared.{tag_of}
-use package.types.Run.{OneOf}
-use Rattle.step.specs.contracts.Did.{the_type}
 use mathlib.Core.Bool.{Bool, true, false, not, ◌&&◌, ◌||◌}
 use mathlib.Core.List.{List, [], ◌∷◌}
+use Rattle.std.proofs.Common.{Option, Some, None}
 use native.Mathlib.Omega.{arith}
 use lib.ListN.{length, get_or, take, drop, set, length-drop, length-append, length-map}
 use lib.Seq.{length-take-le, get_or-take, get_or-drop}
@@ -21,9 +18,8 @@ use Rattle.table.proofs.PlacingLaws.{standing-outcome}
 use Rattle.table.proofs.Giving.{gave-whole}
 use Rattle.names.specs.Names.{Named, rule_of}
 use Rattle.names.specs.Names.Named.{rule}
-use Rattle.names.specs.inner.Table.{numbered, rule_at, replied}
-use Rattle.std.proofs.Common.{Some}
-use Rattle.names.specs.declared.NamedRule.{NamedRule}
+use Rattle.names.specs.inner.Table.{numbered, rule_at, replied, StandsAt}
+use Rattle.names.specs.declared.RuleNo.TheVariants.{Is}
 use Rattle.names.proofs.Found.{stands-rule}
 use Rattle.names.proofs.Rules.{said-rule}
 use Rattle.conv.specs.Types.{bool}
@@ -48,18 +44,20 @@ use Rattle.step.specs.Kept.{Grew}
 use Rattle.step.proofs.StackLaws.{sized, below-them, operands-lent, value_in, under_drop, under-values, mark-at}
 use Rattle.step.proofs.Effects.{settled, settle_value, value-below}
 use Rattle.step.proofs.Keeping.{item-kept}
-use Rattle.memo.specs.inner.Memo.{nothing, Question, code_of, On, typed, digits, numbers_in, marks_in, key_of, slot_of, Holds, Recalls, Recalled, Leaves, NotedStep, AfterStep}
+use Rattle.memo.specs.inner.Memo.{Question, code_of, On, typed, digits, numbers_in, marks_in, key_of, slot_of, Holds, Recalls, Recalled, Leaves, NotedStep, AfterStep}
 use Rattle.memo.specs.inner.Memo.Question.{binary, unary, builtin}
-use Rattle.memo.specs.inner.Asking.{Small, Coded, runs_on, AskedBy, Asks, AsksRow, last_of, KeyedBy, Keyed}
-use Rattle.memo.proofs.MemoLaws.{slot-with, value-noted, recalls-on, recalls-noted, digits-many, digits-small, digits-numbers, digits-marks}
+use Rattle.memo.specs.declared.key.Ask.{Ask}
+use Rattle.memo.specs.declared.key.Key.{Key}
+use Rattle.memo.specs.inner.Asking.{Small, runs_on, AskedBy, last_of, KeyedBy, Keyed, ItemKeyed}
+use Rattle.memo.proofs.MemoLaws.{value-noted, recalls-on, recalls-noted, digits-many, digits-small, digits-numbers, digits-marks}
 
 impossible : {P : Type 0} → ◌≡◌ {A = ℕ} 0 1 → P
 impossible e = absurd (omega arith)
 
 -- what an item that did not go left is not noted
-pub unnoted : (memo vals : List ℕ) (key : ℕ) (d : Did) → OneOf (1 ∷ 2 ∷ 3 ∷ []) (tag_of the_type d) → NotedStep memo key d vals memo
+pub unnoted : (memo vals : List ℕ) (key : ℕ) (d : Did) → ((c u : ℕ) → d ≡ did.Went c u → ⊥) → NotedStep memo key d vals memo
 unfolding NotedStep
-unnoted memo vals key (did.Went c u) h = let f : ⊥ = ⊎_elim (λ e. omega arith) (⊎_elim (λ e. omega arith) (λ e. omega arith)) h in elim f [ ]
+unnoted memo vals key (did.Went c u) h = absurd (h c u refl)
 unnoted memo vals key (did.Silent c u) h = refl
 unnoted memo vals key (did.Ended c u) h = refl
 unnoted memo vals key (did.Refused r) h = refl
@@ -74,43 +72,6 @@ pub not-false : (b : Bool) → not b ≡ false → b ≡ true
 not-false true h = refl
 not-false false h = impossible (cc)
 
--- A CODE is of a question, and a key of a code
-
-on_some : (q : Question) (k : ℕ) → On q k → (1 ≤ k) × (k ≤ 3) × (code_of q < 256)
-on_some (binary op) k h = let a = h.0 in let b = h.1 in (omega arith, omega arith, omega arith)
-on_some (unary op) k h = let a = h.0 in let b = h.1 in (omega arith, omega arith, omega arith)
-on_some (builtin number) k h = let a = h.0 in (h.1, h.2, omega arith)
-
-module _ (profile : ℕ) (s : List ℕ) (i : Item) (code k : ℕ) (runs : Bool) (a : Asks profile s i code k runs) where
-  pub asks-coded : Coded code k
-  asks-coded = go a.asks
-    where
-      go : (code ≡ 0) ⊎ AskedBy profile s i code k runs → Coded code k
-      go (inl e) = record { coded = inl e }
-      go (inr b) = let x = on_some b.question k b.on in record { coded = inr (rw b.number x.2, x.0, x.1) }
-
-  asked_by : code ≢ 0 → AskedBy profile s i code k runs
-  asked_by n = go a.asks
-    where
-      go : (code ≡ 0) ⊎ AskedBy profile s i code k runs → AskedBy profile s i code k runs
-      go (inl e) = absurd (n e)
-      go (inr b) = b
-
-pub coded-some : (code k : ℕ) → Coded code k → code ≢ 0 → (code < 256) × (1 ≤ k) × (k ≤ 3)
-coded-some code k c n = go c.coded
-  where
-    go : (code ≡ 0) ⊎ ((code < 256) × (1 ≤ k) × (k ≤ 3)) → (code < 256) × (1 ≤ k) × (k ≤ 3)
-    go (inl e) = absurd (n e)
-    go (inr b) = b
-
-keyed-by : (code k : ℕ) (keeps runs : Bool) (count : ℕ) (vals : List ℕ) (key base : ℕ) (running : Bool) → Keyed code k keeps runs count vals key base running → key ≢ 0
-    → KeyedBy code k keeps runs count vals key base running
-keyed-by code k keeps runs count vals key base running c n = go c.keyed
-  where
-    go : (key ≡ 0) ⊎ KeyedBy code k keeps runs count vals key base running → KeyedBy code k keeps runs count vals key base running
-    go (inl e) = absurd (n e)
-    go (inr b) = b
-
 pub ready-small : (count : ℕ) (vals : List ℕ) (used : ℕ) (w : List ℕ) → Ready count vals used w → Small count vals
 ready-small count vals used w ready =
     record {
@@ -119,30 +80,15 @@ ready-small count vals used w ready =
       bytes = λ i h. let u = value-below (record { 0 = 0 }) count vals used w ready i h in let k = ready.good.sound.high in omega arith;
     }
 
--- a key is small, and its operands begin within the stack
-module _ (count : ℕ) (vals : List ℕ) (used : ℕ) (w : List ℕ) (ready : Ready count vals used w) (code k : ℕ) (keeps runs : Bool) (key base : ℕ) (running : Bool)
-    (coded : Coded code k) (keys : Keyed code k keeps runs count vals key base running) (some : key ≢ 0) where
-  by : KeyedBy code k keeps runs count vals key base running
-  by = keyed-by code k keeps runs count vals key base running keys some
-
-  pub key-small : key < 2 ^ 35
-  key-small = by.small
-
-  pub base-room : (base < most) × (base < length vals)
-  base-room =
-      let a = coded-some code k coded by.some in
-      let b = by.enough in
-      let e = by.start in
-      (omega (arith, a.1, e, ready.fits), omega (arith, a.1, e, ready.size, ready.fits))
-
--- a number that is recalled is a type's
-pub recalled-byte : (memo : List ℕ) (key t : ℕ) → Recalled memo key t → t ≢ nothing → t < 256
-recalled-byte memo key t r n = (slot-with memo key t r n).0
-
 -- a key as a sheet asks for it that keeps marks, or keeps none
-pub keyed-in : (code k : ℕ) (keeps b runs : Bool) (count : ℕ) (vals : List ℕ) (key base : ℕ) (running : Bool) → keeps ≡ b → Keyed code k keeps runs count vals key base running
-    → Keyed code k b runs count vals key base running
-keyed-in code k keeps b runs count vals key base running e = subst (λ (x : Bool). Keyed code k x runs count vals key base running) e
+pub keyed-in : (a : Ask) (keeps b : Bool) (count : ℕ) (vals : List ℕ) (key : Key) → keeps ≡ b → KeyedBy a keeps count vals key → KeyedBy a b count vals key
+keyed-in a keeps b count vals key e = subst (λ (x : Bool). KeyedBy a x count vals key) e
+
+-- the key of what an item asks
+pub item-keyed : (profile : ℕ) (s : List ℕ) (i : Item) (count : ℕ) (vals : List ℕ) (a : Ask) → AskedBy profile s i a.code a.operands a.runs → (keeps : Bool) → keeps ≡ marked s → (o : Option Key)
+    → Keyed a keeps count vals o → ItemKeyed profile s i count vals o
+item-keyed profile s i count vals a q keeps e None k = tt
+item-keyed profile s i count vals a q keeps e (Some key) k = record { ask = a; asks = q; keyed = keyed-in a keeps (marked s) count vals key e k }
 
 -- the mark, test by test
 module _ (keeps runs : Bool) (vs : List ℕ) where
@@ -210,25 +156,14 @@ call_asks profile s name k number runs l m h e =
           (by_rule place st.words st.used r [] (types st.words (numbers (operands k st))) (marks_of (operands k st)))) e);
     }
 
--- the code and the count as they were made
-pub call-asked : (profile : ℕ) (s : List ℕ) (name : Part) (k number : ℕ) (runs : Bool) (code j : ℕ) → 1 ≤ k → k ≤ 3 → number < 128 → rule_of profile (bytes_of s name) ≡ rule (numbered number) runs
-    → code ≡ 24 + number → j ≡ k → Asks profile s (Call k name) code j runs
-call-asked profile s name k number runs code j l m h e c d =
+-- a row asks by its rule, which is that of every name that stands there, with the code and the count as they were made
+pub row-asked : (profile row k number : ℕ) (runs : Bool) (code j : ℕ) → 1 ≤ k → k ≤ 3 → number < 128 → replied (rule_at profile row) ≡ Is number runs → code ≡ 24 + number → j ≡ k
+    → (s : List ℕ) (name : Part) → StandsAt (bytes_of s name) row → AskedBy profile s (Call k name) code j runs
+row-asked profile row k number runs code j l m h e c d s name stands =
     let z : code ≡ number + 24 = omega arith in
-    record { asks = inr (rw (z, d) (call_asks profile s name k number runs l m h e)) }
-
--- a row asks by its rule, which is that of every name that stands there
-module _ (profile row k : ℕ) (n : NamedRule) where
-  pub row-asked : (code j : ℕ) → 1 ≤ k → k ≤ 3 → n.rule < 128 → replied (rule_at profile row) ≡ Some n → code ≡ 24 + n.rule → j ≡ k → AsksRow profile row k code j n.running
-  row-asked code j l m h e c d =
-      record {
-        asks = λ s name stands.
-            call-asked profile s name k n.rule n.running code j l m h
-            (said-rule profile (bytes_of s name) n (ap replied (sym (stands-rule profile (bytes_of s name) row stands)) ∙ e)) c d;
-      }
-
-pub row-none : (profile row k code j : ℕ) (runs : Bool) → code ≡ 0 → AsksRow profile row k code j runs
-row-none profile row k code j runs e = record { asks = λ s name stands. record { asks = inl e } }
+    rw (z, d)
+    (call_asks profile s name k number runs l m h
+    (said-rule profile (bytes_of s name) number (ap replied (sym (stands-rule profile (bytes_of s name) row stands)) ∙ e)))
 
 -- THE LAST VALUES of a slice
 
@@ -280,18 +215,15 @@ module _ (profile count : ℕ) (vals : List ℕ) (used : ℕ) (w : List ℕ) (re
   recalls-step place (did.Ended c u) vals' v memo h r = tt
   recalls-step place (did.Refused x) vals' v memo h r = tt
 
-  module _ (code k : ℕ) (runs : Bool) (key base : ℕ) (running : Bool) (asks : Asks profile s i code k runs) (keys : Keyed code k (marked s) runs count vals key base running) (some : key ≢ 0) where
-    keyed : KeyedBy code k (marked s) runs count vals key base running
-    keyed = keyed-by code k (marked s) runs count vals key base running keys some
-
-    asked : AskedBy profile s i code k runs
-    asked = asked_by profile s i code k runs asks keyed.some
+  module _ (a : Ask) (key : Key) (asked : AskedBy profile s i a.code a.operands a.runs) (keyed : KeyedBy a (marked s) count vals key) where
+    abbrev k : ℕ
+    k = a.operands
 
     fits : count ≤ length vals
     fits = omega (arith, ready.size, ready.fits)
 
     enough : k ≤ height st
-    enough = let a = keyed.enough in omega (arith, sized count vals fits)
+    enough = let e = keyed.enough in omega (arith, sized count vals fits)
 
     abbrev q : Question
     q = asked.question
@@ -309,56 +241,55 @@ module _ (profile count : ℕ) (vals : List ℕ) (used : ℕ) (w : List ℕ) (re
     under = under_drop used (height st - k) st.stack ready.good.under
 
     bytes : Under 256 (numbers vs)
-    bytes j h = let a = under j h in let b = ready.good.sound.high in omega arith
+    bytes j h = let x = under j h in let b = ready.good.sound.high in omega arith
 
     under-digits : Under used (numbers_in ds)
     under-digits = rw (digits-numbers vs bytes) under
 
-    is : key ≡ key_of (code_of q) ds
-    is = keyed.is ∙ ap (λ (l : List ℕ). key_of code (digits l)) (sym (operands-lent count vals fits k keyed.enough)) ∙ ap (λ (c : ℕ). key_of c ds) asked.number
+    is : key.number ≡ key_of (code_of q) ds
+    is = keyed.is ∙ ap (λ (l : List ℕ). key_of a.code (digits l)) (sym (operands-lent count vals fits k keyed.enough)) ∙ ap (λ (c : ℕ). key_of c ds) asked.number
 
-    mark : running ≡ runs_on (marked s) runs vs
-    mark = keyed.mark ∙ ap (runs_on (marked s) runs) (sym (operands-lent count vals fits k keyed.enough))
+    mark : key.running ≡ runs_on (marked s) a.runs vs
+    mark = keyed.mark ∙ ap (runs_on (marked s) a.runs) (sym (operands-lent count vals fits k keyed.enough))
 
     abbrev typing : ℕ → Outcome
     typing place = typed place w used q (types w (numbers_in ds)) (marks_in ds)
 
-    effect : (place : ℕ) → effect_of profile place st s i ≡ onto (take (count - k) vals) running (typing place)
+    effect : (place : ℕ) → effect_of profile place st s i ≡ onto (take (count - k) vals) key.running (typing place)
     effect place =
         let b = take (count - k) vals in
         asked.effect place st enough ready.good.high
-        ∙ ap (λ (l : List ℕ). onto l (runs_on (marked s) runs vs) (typed place w used q (types w (numbers vs)) (marks_of vs))) (below-them count vals fits k)
+        ∙ ap (λ (l : List ℕ). onto l (runs_on (marked s) a.runs vs) (typed place w used q (types w (numbers vs)) (marks_of vs))) (below-them count vals fits k)
         ∙ ap (λ (m : Bool). onto b m (typed place w used q (types w (numbers vs)) (marks_of vs))) (sym mark)
-        ∙ ap (λ (l : List ℕ). onto b running (typed place w used q (types w l) (marks_of vs))) (sym (digits-numbers vs bytes))
-        ∙ ap (λ (l : List Bool). onto b running (typed place w used q (types w (numbers_in ds)) l)) (sym (digits-marks vs bytes))
+        ∙ ap (λ (l : List ℕ). onto b key.running (typed place w used q (types w l) (marks_of vs))) (sym (digits-numbers vs bytes))
+        ∙ ap (λ (l : List Bool). onto b key.running (typed place w used q (types w (numbers_in ds)) l)) (sym (digits-marks vs bytes))
 
-    room : (base < most) × (base < length vals)
-    room = base-room count vals used w ready code k (marked s) runs key base running (asks-coded profile s i code k runs asks) keys some
+    room : key.base < length vals
+    room = let b = key.within in omega (arith, ready.size)
 
     -- a type that was recalled is the one that typing gives
-    pub recalled-does : (memo : List ℕ) → Recalls memo w used → (t : ℕ) → Recalled memo key t → t ≢ nothing → (v : ℕ) → v ≡ value_of t running → (place : ℕ)
-        → Does (effect_of profile place st s i) (did.Went (base + 1) used) (set vals base v) w
-    recalled-does memo r t f n v y place =
-        let z = slot-with memo key t f n in
-        let x = (r.holds z.1.0 z.1.1).holds q ds t on (digits-small vs bytes) z.0 (z.1.2 ∙ ap (λ (y : ℕ). slot_of y t) is) in
-        let o = x.2 place w used ∙ standing-outcome place w used ready.good.sound t (type_at w t) x.1 refl in
-        let g : Gave (typing place) (accept t used) w = gave-whole (sym o) in
-        let d = settled (settle_value base vals running (record { 0 = t }) used v y room.1 room.0) g in
-        record { effect = d.effect ∙ ap (λ (b : ℕ). onto (take b vals) running (typing place)) keyed.start ∙ sym (effect place); counted = d.counted }
+    pub recalled-does : (memo : List ℕ) → Recalls memo w used → (t : TypeNo) → Recalled memo key.number (Some t) → (v : ℕ) → v ≡ value_of t.0 key.running → (place : ℕ)
+        → Does (effect_of profile place st s i) (did.Went (key.base + 1) used) (set vals key.base v) w
+    recalled-does memo r t z v y place =
+        let x = (r.holds z.1.0 z.1.1).holds q ds t.0 on (digits-small vs bytes) z.0 (z.1.2 ∙ ap (λ (y : ℕ). slot_of y t.0) is) in
+        let o = x.2 place w used ∙ standing-outcome place w used ready.good.sound t.0 (type_at w t.0) x.1 refl in
+        let g : Gave (typing place) (accept t.0 used) w = gave-whole (sym o) in
+        let d = settled (settle_value key.base vals key.running t used v y room key.within) g in
+        record { effect = d.effect ∙ ap (λ (b : ℕ). onto (take b vals) key.running (typing place)) keyed.start ∙ sym (effect place); counted = d.counted }
 
     -- what it left may be noted
     noting : (place c u : ℕ) (vals' v : List ℕ) → c ≤ length vals' → effect_of profile place st s i ≡ goes (state_of c vals' u v)
-        → (1 ≤ c) × (number_of (get_or vals' (c - 1) 0) < 256) × Grew w used v u × Holds v u (slot_of key (number_of (get_or vals' (c - 1) 0)))
+        → (1 ≤ c) × (number_of (get_or vals' (c - 1) 0) < 256) × Grew w used v u × Holds v u (slot_of key.number (number_of (get_or vals' (c - 1) 0)))
     noting place c u vals' v l h =
         let b = take (count - k) vals in
-        let x = onto-went b running (typing place) (state_of c vals' u v) (sym (effect place) ∙ h) in
+        let x = onto-went b key.running (typing place) (state_of c vals' u v) (sym (effect place) ∙ h) in
         let t = x.0 in
         let y = value-noted place w used ready.good.sound t u q ds on (digits-small vs bytes) under-digits v x.1 x.2 in
-        let n : c ≡ length b + 1 = sym (sized c vals' l) ∙ ap length x.3 ∙ length-append b (value_of t.0 running ∷ []) in
+        let n : c ≡ length b + 1 = sym (sized c vals' l) ∙ ap length x.3 ∙ length-append b (value_of t.0 key.running ∷ []) in
         let j : c - 1 ≡ length b = omega arith in
-        let f : get_or vals' (c - 1) 0 ≡ value_of t.0 running = sym (value_in c vals' l (c - 1) (omega arith)) ∙ ap (λ (y : List ℕ). get_or y (c - 1) 0) x.3
-        ∙ ap (λ (m : ℕ). get_or (pushed b t.0 running) m 0) j ∙ last-pushed b t.0 running in
-        let e : number_of (get_or vals' (c - 1) 0) ≡ t.0 = ap number_of f ∙ held t.0 running (let a = y.0 in omega arith) in (
+        let f : get_or vals' (c - 1) 0 ≡ value_of t.0 key.running = sym (value_in c vals' l (c - 1) (omega arith)) ∙ ap (λ (y : List ℕ). get_or y (c - 1) 0) x.3
+        ∙ ap (λ (m : ℕ). get_or (pushed b t.0 key.running) m 0) j ∙ last-pushed b t.0 key.running in
+        let e : number_of (get_or vals' (c - 1) 0) ≡ t.0 = ap number_of f ∙ held t.0 key.running (let n = y.0 in omega arith) in (
           omega arith,
           rw e y.0,
           y.1,
@@ -367,7 +298,7 @@ module _ (profile count : ℕ) (vals : List ℕ) (used : ℕ) (w : List ℕ) (re
 
     module _ (place : ℕ) (vals' v : List ℕ) (size : length vals' ≡ most) where
       went : (c u : ℕ) → Does (effect_of profile place st s i) (did.Went c u) vals' v
-          → (c ≤ length vals') × ((1 ≤ c) × (number_of (get_or vals' (c - 1) 0) < 256) × Grew w used v u × Holds v u (slot_of key (number_of (get_or vals' (c - 1) 0))))
+          → (c ≤ length vals') × ((1 ≤ c) × (number_of (get_or vals' (c - 1) 0) < 256) × Grew w used v u × Holds v u (slot_of key.number (number_of (get_or vals' (c - 1) 0))))
       unfolding effect_by Counted
       went c u h =
           let m : c ≤ most = h.counted in
@@ -381,11 +312,11 @@ module _ (profile count : ℕ) (vals : List ℕ) (used : ℕ) (w : List ℕ) (re
       step-leaves (did.Ended c u) h = tt
       step-leaves (did.Refused x) h = tt
 
-      pub step-noted : (memo memo' : List ℕ) → Recalls memo w used → (d : Did) → Does (effect_of profile place st s i) d vals' v → NotedStep memo key d vals' memo' → AfterStep d memo' v
+      pub step-noted : (memo memo' : List ℕ) → Recalls memo w used → (d : Did) → Does (effect_of profile place st s i) d vals' v → NotedStep memo key.number d vals' memo' → AfterStep d memo' v
       unfolding NotedStep AfterStep
       step-noted memo memo' r (did.Went c u) h n =
           let z = (went c u h).1 in
-          recalls-noted memo v u key (number_of (get_or vals' (c - 1) 0)) memo' (recalls-on w used v u z.2 memo r) z.3 n
+          recalls-noted memo v u key.number (number_of (get_or vals' (c - 1) 0)) memo' (recalls-on w used v u z.2 memo r) z.3 n
       step-noted memo memo' r (did.Silent c u) h n = tt
       step-noted memo memo' r (did.Ended c u) h n = tt
       step-noted memo memo' r (did.Refused x) h n = tt

@@ -45,7 +45,7 @@ use Rattle.call_ty.proofs.Ends.{Ends, rule-call-ends}
 use Rattle.call_ty.proofs.Ends.Ends.{refused, silent, valued}
 use Rattle.step.specs.Kept.{Grew}
 use Rattle.step.proofs.StackLaws.{value-under}
-use Rattle.memo.specs.inner.Memo.{room, slots, nothing, Question, code_of, On, typed, Gives, digit_of, digits, number_in, numbers_in, mark_in, marks_in, key_up, key_of, slot_of, Holds, Recalls, Hinted, Recalled, Noted}
+use Rattle.memo.specs.inner.Memo.{room, slots, Question, code_of, On, typed, Gives, digit_of, digits, number_in, numbers_in, mark_in, marks_in, key_up, key_of, slot_of, Holds, Recalls, Hinted, Noted}
 use Rattle.memo.specs.inner.Memo.Question.{binary, unary, builtin}
 
 impossible : {P : Type 0} → ◌≡◌ {A = ℕ} 0 1 → P
@@ -190,14 +190,6 @@ noted-first memo k key t x e l h =
 -- a memo of empty slots, which a test finds
 pub recalls-none : (memo w : List ℕ) (n : ℕ) → length memo ≡ room → zeros memo ≡ true → Recalls memo w n
 recalls-none memo w n l z = record { size = l; holds = λ i h. rw (zero-at memo z i) (holds-none w n) }
-
--- the slot of a value that was recalled
-pub slot-with : (memo : List ℕ) (key t : ℕ) → Recalled memo key t → t ≢ nothing → (t < 256) × ((i : ℕ) × (i < slots) × (get_or memo i 0 ≡ slot_of key t))
-slot-with memo key t r k = go r.found
-  where
-    go : (t ≡ nothing) ⊎ ((t < 256) × ((i : ℕ) × (i < slots) × (get_or memo i 0 ≡ slot_of key t))) → (t < 256) × ((i : ℕ) × (i < slots) × (get_or memo i 0 ≡ slot_of key t))
-    go (inl z) = absurd (k z)
-    go (inr z) = z
 
 -- WHAT GAVE A VALUE gives the same type in every table
 

@@ -1,23 +1,26 @@
 // What a run has met before: an operator or a call of a builtin that was typed on the same values gives the same type, which is recalled, and not typed again.
-// The memo is lent as a slice.
 #![tactic(auto)]
 
-ghost use Rattle.std.specs.Prelude.{◌≡◌, ◌+◌, ◌<◌, ◌≤◌, ◌^◌, length};
-ghost use Rattle.frame.specs.Frame.{kind_push, marks};
+mod key;
+
+ghost use Rattle.std.specs.Prelude.{ℕ, List, ◌≡◌, ◌+◌, ◌<◌, ◌≤◌, ◌^◌, length};
 ghost use Rattle.held.specs.Held.{number_of};
 ghost use Rattle.call_ty.specs.Calls.{numbers};
-ghost use Rattle.frame.specs.inner.Items.{sheet_of, LiesIn, NameIn};
-ghost use Rattle.frame.specs.declared.Item.TheVariants.{Call};
+ghost use Rattle.frame.specs.inner.Items.{sheet_in, item_of, LiesIn, NameIn};
+ghost use Rattle.frame.specs.declared.Item.TheVariants.{Unary, Binary, Call};
+ghost use Rattle.frame.specs.declared.ShortItem.TheVariants as short;
+ghost use Rattle.names.specs.inner.Table.{name_table};
 ghost use Rattle.call_ty.specs.inner.Codes.{Under};
 ghost use Rattle.step.specs.Effect.{effect_of};
 ghost use Rattle.step.specs.inner.Code.{state_of, Ready, Does};
 ghost use Rattle.memo.specs.inner.Memo.{digit_of, digits, key_of, Recalls, Hinted, Recalled, Noted, Leaves, NotedStep, AfterStep};
-ghost use Rattle.memo.specs.inner.Asking.{Small, Coded, runs_on, Asks, AsksRow, Keyed};
-ghost use Rattle.memo.specs.inner.Quick.{AsksShort, Answers, Quick, QuickEver, QuickAt, CallAt};
+ghost use Rattle.memo.specs.inner.Asking.{Small, runs_on, Asks, AsksEver, AsksRow, Keyed, ItemKeyed};
+ghost use Rattle.memo.specs.inner.Quick.{Answers, Quick, QuickEver, QuickAt, CallAt};
 
-use cast::{wide, word64};
-use frame::{ITEM_BINARY, ITEM_PUSH, ITEM_UNARY, Item, Part, SHORT_BYTES, Short};
-use names::{NamedRule, Names};
+use cast::{wide, wide32, word64};
+use frame::{Item, Items, Part, Short, ShortItem};
+use key::{Ask, Key};
+use names::RuleNo;
 use step::{Did, VALUES};
 use table::{Place, TypeNo};
 
@@ -27,9 +30,6 @@ pub const SLOTS: usize = 320;
 const FIRST_HINT: usize = 256;
 
 const HINTS: usize = 64;
-
-// What it answers where it has no value.
-const NOTHING: usize = 256;
 
 // How many operators there are, below which number the rules of builtins are, and how many operands of a call are looked at.
 const BINARY_OPS: u32 = 18;
@@ -60,24 +60,7 @@ const MIX_MIDDLE: usize = 55;
 
 const MIX_END: usize = 31;
 
-// What an item asks, by its code, and on how many values, and whether its result is running even where they are const; 0 where the memo has nothing of its kind.
-#[derive(Clone, Copy)]
-pub struct Ask {
-    pub code: u64,
-    pub operands: usize,
-    pub runs: bool,
-}
-
-// What is asked and the values of its operands, as one number, the first of its two slots, where on the stack the operands begin, and the mark of what it gives; the number is 0 where nothing is asked, or values lack.
-#[derive(Clone, Copy)]
-pub struct Key {
-    pub number: u64,
-    pub slot: usize,
-    pub base: usize,
-    pub running: bool,
-}
-
-// What a quick item left: how many values stand then, or 0 where it was not quick; and how many bytes it has.
+// What a quick item left: how many values stand then, and how many bytes it has.
 #[derive(Clone, Copy)]
 pub struct Went {
     pub count: usize,
@@ -109,83 +92,6 @@ fn slot_of(mix: u64) -> usize
     (mix % 128 * 2) as usize
 }
 
-// The number of the type that the memo has for a key, or NOTHING.
-fn recall(memo: &[u64], slot: usize, key: u64) -> usize
-    requires { (length memo.now ≡ 320) × (slot + 1 < 256) }
-    ensures { Recalled memo.now key result }
-{
-    let v = memo[slot];
-    if v / 256 == key {
-        return (v % 256) as usize;
-    }
-    let u = memo[slot + 1];
-    if u / 256 == key {
-        return (u % 256) as usize;
-    }
-    NOTHING
-}
-
-// Notes the type for a key in its first slot; what that had moves to the second.
-fn note(memo: &mut [u64], slot: usize, key: u64, t: TypeNo)
-    requires { (length memo.old ≡ 320) × (slot + 1 < 256) × (key < 2 ^ 35) × (t.0 < 256) }
-    ensures { Noted memo.old key t.0 memo.new }
-{
-    memo[slot + 1] = memo[slot];
-    memo[slot] = key * 256 + (t.0 as u64);
-}
-
-// What an item left, noted where it went.
-fn note_did(memo: &mut [u64], slot: usize, key: u64, d: Did, stack: &[u32])
-    requires { (length memo.old ≡ 320) × (slot + 1 < 256) × (key < 2 ^ 35) × Leaves d stack.now }
-    ensures { NotedStep memo.old key d stack.now memo.new }
-{
-    match d {
-        Did::Went { count, used: _ } => {
-            note(memo, slot, key, held::number(stack[count - 1]));
-        }
-        _ => {}
-    }
-}
-
-// WHAT IS ASKED
-
-fn no_ask() -> Ask
-    ensures { result.code ≡ 0 }
-{
-    Ask {
-        code: 0,
-        operands: 0,
-        runs: false,
-    }
-}
-
-fn asked_short(x: Short) -> Ask
-    ensures { AsksShort x result.code result.operands result.runs }
-{
-    let op = wide(x.number);
-    if x.kind == ITEM_BINARY {
-        if BINARY_OPS <= op {
-            return no_ask();
-        }
-        return Ask {
-            code: word64(BINARY_CODES + op),
-            operands: 2,
-            runs: false,
-        };
-    }
-    if x.kind == ITEM_UNARY {
-        if UNARY_OPS <= op {
-            return no_ask();
-        }
-        return Ask {
-            code: word64(UNARY_CODES + op),
-            operands: 1,
-            runs: false,
-        };
-    }
-    no_ask()
-}
-
 // Where the memo has a hint for a name: the row in which one of this place was found last. Any place would do: whether that row has the name is asked of the names.
 fn hint_of(name: &[u8]) -> usize
     ensures { (256 ≤ result) × (result < 320) }
@@ -194,104 +100,172 @@ fn hint_of(name: &[u8]) -> usize
     if length == 0 {
         return FIRST_HINT;
     }
-    let ends = wide::<usize>(name[0]) * MIX_BEGIN + wide::<usize>(name[length - 1]) * MIX_END;
-    let mix = ends + wide::<usize>(name[length / 2]) * MIX_MIDDLE + length % HINTS;
+    let ends = wide(name[0]) * MIX_BEGIN + wide(name[length - 1]) * MIX_END;
+    let mix = ends + wide(name[length / 2]) * MIX_MIDDLE + length % HINTS;
     FIRST_HINT + mix % HINTS
 }
 
+// What a run has met: types that were given, each in a slot that says for what, and behind them hints.
+// Stays: one array and no second one for the hints, since the edit `hint_over_a_value` is that a hint falls on a slot.
+#[derive(Drop)]
+pub struct Memo {
+    pub slots: [u64; SLOTS],
+}
+
+impl Memo {
+    // One that has met nothing.
+    pub fn new() -> Memo
+        ensures { (w : List ℕ) (n : ℕ) → Recalls result.slots w n }
+    {
+        Memo {
+            slots: [0; SLOTS],
+        }
+    }
+
+    // The type that it has for a key.
+    fn recall(&self, key: Key) -> Option<TypeNo>
+        ensures { Recalled self.now.slots key.number result }
+    {
+        let v = self.slots[key.slot];
+        if v / 256 == key.number {
+            return Some(TypeNo((v % 256) as usize));
+        }
+        let u = self.slots[key.slot + 1];
+        if u / 256 == key.number {
+            return Some(TypeNo((u % 256) as usize));
+        }
+        None
+    }
+
+    // Notes the type for a key in its first slot; what that had moves to the second.
+    fn note(&mut self, key: Key, t: TypeNo)
+        requires { t.0 < 256 }
+        ensures { Noted self.old.slots key.number t.0 self.new.slots }
+    {
+        self.slots[key.slot + 1] = self.slots[key.slot];
+        self.slots[key.slot] = key.number * 256 + (t.0 as u64);
+    }
+
+    // Notes what an item left, where it went.
+    fn note_did(&mut self, key: Key, d: Did, stack: &[u32])
+        requires { Leaves d stack.now }
+        ensures { NotedStep self.old.slots key.number d stack.now self.new.slots }
+    {
+        if let Did::Went { count, used: _ } = d {
+            self.note(key, held::number(stack[count - 1]));
+        }
+    }
+
+    // The row that is hinted for a name, and a new one.
+    fn hint(&self, name: &[u8]) -> usize {
+        self.slots[hint_of(name)] as usize
+    }
+
+    fn set_hint(&mut self, name: &[u8], row: usize)
+        ensures { Hinted self.old.slots self.new.slots }
+    {
+        self.slots[hint_of(name)] = row as u64;
+    }
+}
+
+// WHAT IS ASKED
+
+fn asked_unary(op: u8) -> Option<Ask>
+    ensures { AsksEver (Unary op) result }
+{
+    let op = wide32(op);
+    if UNARY_OPS <= op {
+        return None;
+    }
+    Some(Ask {
+        code: word64(UNARY_CODES + op),
+        operands: 1,
+        runs: false,
+    })
+}
+
+fn asked_binary(op: u8) -> Option<Ask>
+    ensures { AsksEver (Binary op) result }
+{
+    let op = wide32(op);
+    if BINARY_OPS <= op {
+        return None;
+    }
+    Some(Ask {
+        code: word64(BINARY_CODES + op),
+        operands: 2,
+        runs: false,
+    })
+}
+
 // A call of a builtin on k operands asks by the rule that the row of its name has in a profile.
-fn asked_row(names: &Names, profile: u32, row: usize, k: u8) -> Ask
-    ensures { AsksRow profile row k result.code result.operands result.runs }
+fn asked_row(rows: &[u8], profile: u32, row: usize, k: u8) -> Option<Ask>
+    requires { rows.now ≡ name_table }
+    ensures { AsksRow profile row k result }
 {
     if (k < 1) | (OPERANDS < k) {
-        return no_ask();
+        return None;
     }
-    match names.rule_at(profile, row) {
-        Some(NamedRule { rule, running }) => {
-            if RULES <= rule {
-                return no_ask();
-            }
-            Ask {
-                code: word64(BUILTIN_CODES + wide::<u32>(rule)),
-                operands: wide(k),
-                runs: running,
-            }
-        }
-        None => no_ask(),
+    let RuleNo::Is { rule, running } = names::rule_at(rows, profile, row) else {
+        return None;
+    };
+    if RULES <= rule {
+        return None;
     }
+    Some(Ask {
+        code: word64(BUILTIN_CODES + wide32(rule)),
+        operands: wide(k),
+        runs: running,
+    })
 }
 
 // The row of its name is looked for, and becomes the hint.
 fn asked_call(
-    version: u8,
-    items: &[u8],
-    names: &Names,
+    items: Items,
+    rows: &[u8],
     profile: u32,
     name: Part,
     k: u8,
-    memo: &mut [u64],
-) -> Ask
-    requires { LiesIn (length items.now) name × (length memo.old ≡ 320) }
-    ensures { Asks profile (sheet_of version items.now) (Call k name) result.code result.operands result.runs × Hinted memo.old memo.new }
+    memo: &mut Memo,
+) -> Option<Ask>
+    requires { LiesIn (length items.bytes.now) name × (rows.now ≡ name_table) }
+    ensures { Asks profile (sheet_in items.entry) (Call k name) result × Hinted memo.old.slots memo.new.slots }
 {
-    let bytes = frame::name_in(items, name);
-    match names.find(bytes) {
-        Some(row) => {
-            memo[hint_of(bytes)] = row as u64;
-            asked_row(names, profile, row, k)
-        }
-        None => no_ask(),
-    }
+    let bytes = items.name(name);
+    let row = names::find(rows, bytes);
+    memo.set_hint(bytes, row);
+    asked_row(rows, profile, row, k)
 }
 
 // The same by the hint; nothing is asked where that is no row of this name.
 fn asked_again(
-    version: u8,
-    items: &[u8],
-    names: &Names,
+    items: Items,
+    rows: &[u8],
     profile: u32,
     name: Part,
     k: u8,
-    memo: &[u64],
-) -> Ask
-    requires { LiesIn (length items.now) name × (length memo.now ≡ 320) }
-    ensures { Asks profile (sheet_of version items.now) (Call k name) result.code result.operands result.runs }
+    memo: &Memo,
+) -> Option<Ask>
+    requires { LiesIn (length items.bytes.now) name × (rows.now ≡ name_table) }
+    ensures { Asks profile (sheet_in items.entry) (Call k name) result }
 {
-    let bytes = frame::name_in(items, name);
-    let hint = hint_of(bytes);
-    let row = memo[hint] as usize;
-    if !names.has_name(row, bytes) {
-        return no_ask();
+    let bytes = items.name(name);
+    let row = memo.hint(bytes);
+    if !names::has_name(rows, row, bytes) {
+        return None;
     }
-    asked_row(names, profile, row, k)
+    asked_row(rows, profile, row, k)
 }
 
-fn asked(
-    version: u8,
-    items: &[u8],
-    names: &Names,
-    profile: u32,
-    item: Item,
-    memo: &mut [u64],
-) -> Ask
-    requires { NameIn (length items.now) item × (length memo.old ≡ 320) }
-    ensures { Asks profile (sheet_of version items.now) item result.code result.operands result.runs × Hinted memo.old memo.new }
+fn asked(items: Items, rows: &[u8], profile: u32, item: Item, memo: &mut Memo) -> Option<Ask>
+    requires { NameIn (length items.bytes.now) item × (rows.now ≡ name_table) }
+    ensures { Asks profile (sheet_in items.entry) item result × Hinted memo.old.slots memo.new.slots }
 {
     match item {
-        Item::Unary(op) => asked_short(Short {
-            kind: ITEM_UNARY,
-            number: op,
-            running: false,
-            bytes: SHORT_BYTES,
-        }),
-        Item::Binary(op) => asked_short(Short {
-            kind: ITEM_BINARY,
-            number: op,
-            running: false,
-            bytes: SHORT_BYTES,
-        }),
-        Item::Call { count: k, name } => asked_call(version, items, names, profile, name, k, memo),
-        _ => no_ask(),
+        Item::Unary(op) => asked_unary(op),
+        Item::Binary(op) => asked_binary(op),
+        Item::Call { count: k, name } => asked_call(items, rows, profile, name, k, memo),
+        _ => None,
     }
 }
 
@@ -334,48 +308,66 @@ fn runs_on(keeps: bool, runs: bool, args: &[u32]) -> bool
     runs | call_ty::any_running(args)
 }
 
-fn keyed(keeps: bool, a: Ask, stack: &[u32], count: usize) -> Key
-    requires { Small count stack.now × Coded a.code a.operands }
-    ensures { Keyed a.code a.operands keeps a.runs count stack.now result.number result.base result.running × (result.slot + 1 < 256) }
+// The key of what is asked on the last of the values; none where values lack.
+fn keyed(keeps: bool, a: Ask, stack: &[u32], count: usize) -> Option<Key>
+    requires { Small count stack.now }
+    ensures { Keyed a keeps count stack.now result }
 {
-    if (a.code == 0) | (count < a.operands) {
-        return Key {
-            number: 0,
-            slot: 0,
-            base: 0,
-            running: false,
-        };
+    if count < a.operands {
+        return None;
     }
     let base = count - a.operands;
     let number = key_on(a.code, &stack[base..count]);
     let slot = slot_of(mixed(a.code, &stack[base..count]));
-    Key {
+    Some(Key {
         number,
         slot,
         base,
         running: runs_on(keeps, a.runs, &stack[base..count]),
-    }
+    })
 }
 
-// QUICK ITEMS: a push, and an operator or a call that the memo has, change the stack alone.
-
-// A push: how many values stand then, or 0 where it cannot be.
-fn quick_push(x: Short, stack: &mut [u32], count: usize, table: &[u32], used: usize) -> usize
-    requires { Ready count stack.old used table.now × (x.kind ≡ kind_push) }
-    ensures { QuickEver x count stack.old used table.now result stack.new }
+// And of what an item asks.
+fn item_key(
+    items: Items,
+    rows: &[u8],
+    profile: u32,
+    item: Item,
+    stack: &[u32],
+    count: usize,
+    memo: &mut Memo,
+) -> Option<Key>
+    requires { NameIn (length items.bytes.now) item × (rows.now ≡ name_table) × Small count stack.now }
+    ensures { ItemKeyed profile (sheet_in items.entry) item count stack.now result × Hinted memo.old.slots memo.new.slots }
 {
-    let t = TypeNo(wide(x.number));
+    let ask = asked(items, rows, profile, item, memo)?;
+    keyed(items.has_marks(), ask, stack, count)
+}
+
+// QUICK ITEMS: a push, and an operator or a call that the memo has, change the stack alone. Each answers how many values stand then; none where it is not quick.
+
+fn quick_push(
+    t: TypeNo,
+    running: bool,
+    stack: &mut [u32],
+    count: usize,
+    table: &[u32],
+    used: usize,
+) -> Option<usize>
+    requires { Ready count stack.old used table.now }
+    ensures { QuickEver (short.Push t running) count stack.old used table.now result stack.new }
+{
     if used <= t.0 {
-        return 0;
+        return None;
     }
     if VALUES <= count {
-        return 0;
+        return None;
     }
-    stack[count] = held::value(t, x.running);
-    count + 1
+    stack[count] = held::value(t, running);
+    Some(count + 1)
 }
 
-// What is asked, by the memo: the same.
+// What is asked, by the memo.
 fn recalled(
     keeps: bool,
     ask: Ask,
@@ -383,118 +375,92 @@ fn recalled(
     count: usize,
     table: &[u32],
     used: usize,
-    memo: &[u64],
-) -> usize
-    requires { Ready count stack.old used table.now × Recalls memo.now table.now used × Coded ask.code ask.operands }
-    ensures { Answers keeps ask.code ask.operands ask.runs count stack.old used table.now result stack.new }
+    memo: &Memo,
+) -> Option<usize>
+    requires { Ready count stack.old used table.now × Recalls memo.now.slots table.now used }
+    ensures { Answers keeps ask count stack.old used table.now result stack.new }
 {
-    let a = keyed(keeps, ask, stack, count);
-    if a.number == 0 {
-        return 0;
-    }
-    let t = recall(memo, a.slot, a.number);
-    if t == NOTHING {
-        return 0;
-    }
-    let base = a.base;
-    stack[base] = held::value(TypeNo(t), a.running);
-    base + 1
+    let key = keyed(keeps, ask, stack, count)?;
+    let t = memo.recall(key)?;
+    stack[key.base] = held::value(t, key.running);
+    Some(key.base + 1)
 }
 
-// The same of a push or an operator.
+// A push or an operator.
 fn quick(
     keeps: bool,
-    x: Short,
+    x: ShortItem,
     stack: &mut [u32],
     count: usize,
     table: &[u32],
     used: usize,
-    memo: &[u64],
-) -> usize
-    requires { Ready count stack.old used table.now × Recalls memo.now table.now used }
+    memo: &Memo,
+) -> Option<usize>
+    requires { Ready count stack.old used table.now × Recalls memo.now.slots table.now used }
     ensures { Quick keeps x count stack.old used table.now result stack.new }
 {
-    if x.kind == ITEM_PUSH {
-        return quick_push(x, stack, count, table, used);
-    }
-    recalled(keeps, asked_short(x), stack, count, table, used, memo)
+    let ask = match x {
+        ShortItem::Push { ty, running } => {
+            return quick_push(ty, running, stack, count, table, used);
+        }
+        ShortItem::Unary(op) => asked_unary(op)?,
+        ShortItem::Binary(op) => asked_binary(op)?,
+    };
+    recalled(keeps, ask, stack, count, table, used, memo)
 }
 
-// The item at a place, where it is a quick one: how many values stand then; else 0.
+// The item at a place, where it is a quick one.
 pub fn quick_at(
-    version: u8,
-    items: &[u8],
+    items: Items,
     at: Place,
     stack: &mut [u32],
     count: usize,
     table: &[u32],
     used: usize,
-    memo: &[u64],
-) -> Went
-    requires { Ready count stack.old used table.now × Recalls memo.now table.now used }
-    ensures { QuickAt (sheet_of version items.now) at.0 count stack.old used table.now result.count result.bytes stack.new }
+    memo: &Memo,
+) -> Option<Went>
+    requires { Ready count stack.old used table.now × Recalls memo.now.slots table.now used }
+    ensures { QuickAt (sheet_in items.entry) at.0 count stack.old used table.now result stack.new }
 {
-    let x = frame::short_in(version, items, at);
-    let left = quick(
-        step::keeps_marks(version),
-        x,
-        stack,
-        count,
-        table,
-        used,
-        memo,
-    );
-    Went {
+    let x = items.short(at)?;
+    let left = quick(items.has_marks(), x.item, stack, count, table, used, memo)?;
+    Some(Went {
         count: left,
         bytes: x.bytes,
-    }
+    })
 }
 
 // The same of a call in a profile, where the memo has its name and what it gives.
 pub fn call_at(
-    version: u8,
-    items: &[u8],
-    names: &Names,
+    items: Items,
+    rows: &[u8],
     profile: u32,
     at: Place,
     stack: &mut [u32],
     count: usize,
     table: &[u32],
     used: usize,
-    memo: &[u64],
-) -> Went
-    requires { Ready count stack.old used table.now × Recalls memo.now table.now used }
-    ensures { CallAt profile (sheet_of version items.now) at.0 count stack.old used table.now result.count result.bytes stack.new }
+    memo: &Memo,
+) -> Option<Went>
+    requires { Ready count stack.old used table.now × Recalls memo.now.slots table.now used × (rows.now ≡ name_table) }
+    ensures { CallAt profile (sheet_in items.entry) at.0 count stack.old used table.now result stack.new }
 {
-    let found = frame::item_in(version, items, at);
-    let item = found.item;
-    match item {
-        Item::Call { count: k, name } => {
-            let ask = asked_again(version, items, names, profile, name, k, memo);
-            let left = recalled(
-                step::keeps_marks(version),
-                ask,
-                stack,
-                count,
-                table,
-                used,
-                memo,
-            );
-            let next = found.next;
-            Went {
-                count: left,
-                bytes: next.0 - at.0,
-            }
-        }
-        _ => Went { count: 0, bytes: 0 },
-    }
+    let found = items.item(at);
+    let Item::Call { count: k, name } = found.item else {
+        return None;
+    };
+    let ask = asked_again(items, rows, profile, name, k, memo)?;
+    let stand = recalled(items.has_marks(), ask, stack, count, table, used, memo)?;
+    Some(Went {
+        count: stand,
+        bytes: found.next.0 - at.0,
+    })
 }
 
 // What stands at a place of the sheet: recalled where the memo has it, else typed, and noted. The memo is that of a run, which has one profile.
 pub fn noted_step(
-    version: u8,
-    items: &[u8],
-    names: &Names,
+    items: Items,
+    rows: &[u8],
     profile: u32,
     item: Item,
     at: Place,
@@ -502,34 +468,26 @@ pub fn noted_step(
     count: usize,
     table: &mut [u32],
     used: usize,
-    memo: &mut [u64],
+    memo: &mut Memo,
 ) -> Did
-    requires { Ready count stack.old used table.old × NameIn (length items.now) item × Recalls memo.old table.old used }
-    ensures { Does (effect_of profile at.0 (state_of count stack.old used table.old) (sheet_of version items.now) item) result stack.new table.new × AfterStep result memo.new table.new }
+    requires { Ready count stack.old used table.old × NameIn (length items.bytes.now) item × Recalls memo.old.slots table.old used × (rows.now ≡ name_table) }
+    ensures { Does (effect_of profile at.0 (state_of count stack.old used table.old) (sheet_in items.entry) item) result stack.new table.new × AfterStep result memo.new.slots table.new }
 {
-    let a = keyed(
-        step::keeps_marks(version),
-        asked(version, items, names, profile, item, memo),
-        stack,
-        count,
-    );
-    if a.number == 0 {
+    let Some(key) = item_key(items, rows, profile, item, stack, count, memo) else {
         return step::step(
-            version, items, names, profile, item, at, stack, count, table, used,
+            items, rows, profile, item, at, stack, count, table, used,
         );
-    }
-    let t = recall(memo, a.slot, a.number);
-    if t != NOTHING {
-        let base = a.base;
-        stack[base] = held::value(TypeNo(t), a.running);
+    };
+    if let Some(t) = memo.recall(key) {
+        stack[key.base] = held::value(t, key.running);
         return Did::Went {
-            count: base + 1,
+            count: key.base + 1,
             used,
         };
     }
     let d = step::step(
-        version, items, names, profile, item, at, stack, count, table, used,
+        items, rows, profile, item, at, stack, count, table, used,
     );
-    note_did(memo, a.slot, a.number, d, stack);
+    memo.note_did(key, d, stack);
     d
 }

@@ -2,7 +2,6 @@
 use Prim.Native.Nat.{ℕ, ◌+◌, ◌<◌, ◌≤◌}
 use mathlib.Core.Path.{◌≡◌, refl, sym, ◌∙◌, ap}
 use mathlib.Core.Bool.{Bool, true, false}
-use mathlib.Core.Logic.{◌⊎◌, inl, inr, ◌≢◌}
 use mathlib.Core.List.{List}
 use native.Mathlib.Omega.{arith}
 use lib.ListN.{length}
@@ -25,7 +24,8 @@ use Rattle.sheet.specs.declared.Turn.TheVariants as turn
 use Rattle.step.specs.Effect.{most, State, Effect, goes, silent, ends, stops, effect_of}
 use Rattle.sheet.specs.Machine.{after, more, done, turn_of, onward, run_items, end_mark, onward_mark, runs_items, begun, type_sheet}
 use Rattle.step.specs.inner.Code.{state_of, Good, Ready}
-use Rattle.memo.specs.inner.Quick.{WentIn, WentAt, QuickAt, CallAt}
+use Rattle.memo.specs.declared.Went.{Went}
+use Rattle.memo.specs.inner.Quick.{WentIn}
 use Rattle.sheet.specs.inner.Code.{turn_by, DoneMarked, TurnCounted, Turns, RushesIn}
 use Rattle.step.specs.Kept.{Grew, Needed}
 use Rattle.sheet.specs.declared.Rushed.{Rushed}
@@ -156,28 +156,6 @@ module _ (profile : ℕ) (s w₀ : List ℕ) (n₀ : ℕ) (w vals : List ℕ) (c
 
 -- QUICK ITEMS: one more leaves the rest as it was
 
-module _ {X : Type 0} {r : ℕ} {vals vals' : List ℕ} (some : X → 1 ≤ r) where
-  stayed : r ≡ 0 → ((r ≡ 0) × (vals' ≡ vals)) ⊎ X → vals' ≡ vals
-  stayed e (inl z) = z.1
-  stayed e (inr z) = let b = some z in absurd (omega (arith, e, b))
-
-  moved : r ≢ 0 → ((r ≡ 0) × (vals' ≡ vals)) ⊎ X → X
-  moved k (inl z) = absurd (k z.0)
-  moved k (inr z) = z
-
-module _ (s : List ℕ) (at count : ℕ) (vals : List ℕ) (used : ℕ) (w : List ℕ) (r bytes : ℕ) (vals' : List ℕ) where
-  pub quick-stays : QuickAt s at count vals used w r bytes vals' → r ≡ 0 → vals' ≡ vals
-  quick-stays q e = stayed {X = WentAt s at count vals used w r bytes vals'} (λ z. (z 0).some) e q.went
-
-  pub quick-went : QuickAt s at count vals used w r bytes vals' → r ≢ 0 → WentAt s at count vals used w r bytes vals'
-  quick-went q k = moved {X = WentAt s at count vals used w r bytes vals'} (λ z. (z 0).some) k q.went
-
-  pub call_stays : (profile : ℕ) → CallAt profile s at count vals used w r bytes vals' → r ≡ 0 → vals' ≡ vals
-  call_stays profile q e = stayed {X = WentIn profile s at count vals used w r bytes vals'} (λ z. z.some) e q.went
-
-  pub call-went : (profile : ℕ) → CallAt profile s at count vals used w r bytes vals' → r ≢ 0 → WentIn profile s at count vals used w r bytes vals'
-  call-went profile q k = moved {X = WentIn profile s at count vals used w r bytes vals'} (λ z. z.some) k q.went
-
 module _ (profile : ℕ) (s : List ℕ) (from at : ℕ) (high count : ℕ) (vals₀ vals : List ℕ) (used : ℕ) (w : List ℕ)
     (h : RushesIn profile s from high vals₀ used w (record { at = record { 0 = at }; count = count }) vals) where
   -- then others
@@ -188,26 +166,26 @@ module _ (profile : ℕ) (s : List ℕ) (from at : ℕ) (high count : ℕ) (vals
       record { ready = g.ready; rest = g.rest ∙ h.rest; mark = g.mark ∙ h.mark; onward = omega arith }
 
   -- then one that went
-  module _ (c bytes : ℕ) (vals' : List ℕ) (g : WentIn profile s at count vals used w c bytes vals') where
+  module _ (x : Went) (vals' : List ℕ) (g : WentIn profile s at count vals used w x vals') where
     abbrev now : State
     now = state_of count vals used w
 
-    turns : turn_of profile s (item_at s at) now ≡ more (state_of c vals' used w)
+    turns : turn_of profile s (item_at s at) now ≡ more (state_of x.count vals' used w)
     unfolding turn_of after
     turns = ap (λ (p : Place). after s p.0 (item_at s at).next.0 (effect_of profile p.0 now s (item_at s at).item)) (own-place s at) ∙ ap (after s at (item_at s at).next.0) g.effect
 
     -- it has bytes
-    pub rush-further : at < at + bytes
-    rush-further = let f = (run-forward profile s at now (state_of c vals' used w) turns).0 in omega (arith, f, g.next)
+    pub rush-further : at < at + x.bytes
+    rush-further = let f = (run-forward profile s at now (state_of x.count vals' used w) turns).0 in omega (arith, f, g.next)
 
-    pub rush-on : length vals' ≡ length vals → RushesIn profile s from high vals₀ used w (record { at = record { 0 = at + bytes }; count = c }) vals'
+    pub rush-on : length vals' ≡ length vals → RushesIn profile s from high vals₀ used w (record { at = record { 0 = at + x.bytes }; count = x.count }) vals'
     rush-on a =
-        let k = turn-kept profile s (item_at s at) now (state_of c vals' used w) turns h.ready.good in
+        let k = turn-kept profile s (item_at s at) now (state_of x.count vals' used w) turns h.ready.good in
         let b = h.onward in
         record {
           ready = record { size = a ∙ h.ready.size; fits = g.high; good = k.0 };
-          rest = sym (ap (λ (n : ℕ). run_items profile s (items_from s n) (state_of c vals' used w)) g.next) ∙ sym (run_more profile s at now (state_of c vals' used w) turns) ∙ h.rest;
-          mark = sym (ap (λ (n : ℕ). runs_items profile s (items_from s n) (state_of c vals' used w)) g.next) ∙ sym (mark-more profile s at now (state_of c vals' used w) turns) ∙ h.mark;
+          rest = sym (ap (λ (n : ℕ). run_items profile s (items_from s n) (state_of x.count vals' used w)) g.next) ∙ sym (run_more profile s at now (state_of x.count vals' used w) turns) ∙ h.rest;
+          mark = sym (ap (λ (n : ℕ). runs_items profile s (items_from s n) (state_of x.count vals' used w)) g.next) ∙ sym (mark-more profile s at now (state_of x.count vals' used w) turns) ∙ h.mark;
           onward = omega (arith, b);
         }
 

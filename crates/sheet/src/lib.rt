@@ -4,19 +4,19 @@
 ghost use Rattle.std.specs.Prelude.{false, ◌≡◌, ◌≤◌, length, get_or, take};
 ghost use Rattle.table.specs.Table.{Sound};
 ghost use Rattle.table.specs.Placing.{GaveMarked};
+ghost use Rattle.names.specs.inner.Table.{name_table};
 ghost use Rattle.answer.specs.Answer.{marked_by};
 ghost use Rattle.held.specs.Held.{mark_of};
 ghost use Rattle.frame.specs.Frame.{header_size, item_at, items_from};
-ghost use Rattle.frame.specs.inner.Items.{sheet_of};
+ghost use Rattle.frame.specs.inner.Items.{sheet_in};
 ghost use Rattle.sheet.specs.Machine.{end_answer, left_answer, turn_of, end_mark, run_items, runs_items, begun, type_sheet, sheet_runs};
 ghost use Rattle.memo.specs.inner.Memo.{Recalls};
 ghost use Rattle.step.specs.Effect.{effect_of};
 ghost use Rattle.step.specs.inner.Code.{state_of, Ready, Counted};
 ghost use Rattle.sheet.specs.inner.Code.{TurnsBy, Turns, AfterTurn, Rushes, RushesIn};
 
-use frame::HEADER;
-use memo::SLOTS;
-use names::Names;
+use frame::{HEADER, Items};
+use memo::Memo;
 use step::{Did, VALUES};
 use table::{Answer, Place, Reason, Typed};
 
@@ -92,111 +92,100 @@ fn turn_by(d: Did, size: usize, at: Place, next: Place, stack: &[u32]) -> Turn
 
 // One turn of the machine, at a place.
 fn one_turn(
-    version: u8,
-    items: &[u8],
-    names: &Names,
+    items: Items,
+    rows: &[u8],
     profile: u32,
     at: Place,
     stack: &mut [u32],
     count: usize,
     table: &mut [u32],
     used: usize,
-    memo: &mut [u64],
+    memo: &mut Memo,
 ) -> Turn
-    requires { Ready count stack.old used table.old × Recalls memo.old table.old used }
-    ensures { Turns (turn_of profile (sheet_of version items.now) (item_at (sheet_of version items.now) at.0) (state_of count stack.old used table.old)) (end_mark (effect_of profile at.0 (state_of count stack.old used table.old) (sheet_of version items.now) (item_at (sheet_of version items.now) at.0).item)) (item_at (sheet_of version items.now) at.0).next.0 result stack.new table.new × AfterTurn result memo.new table.new }
+    requires { Ready count stack.old used table.old × Recalls memo.old.slots table.old used × (rows.now ≡ name_table) }
+    ensures { Turns (turn_of profile (sheet_in items.entry) (item_at (sheet_in items.entry) at.0) (state_of count stack.old used table.old)) (end_mark (effect_of profile at.0 (state_of count stack.old used table.old) (sheet_in items.entry) (item_at (sheet_in items.entry) at.0).item)) (item_at (sheet_in items.entry) at.0).next.0 result stack.new table.new × AfterTurn result memo.new.slots table.new }
 {
-    let found = frame::item_in(version, items, at);
-    let item = found.item;
+    let found = items.item(at);
     let d = memo::noted_step(
-        version, items, names, profile, item, at, stack, count, table, used, memo,
+        items, rows, profile, found.item, at, stack, count, table, used, memo,
     );
-    turn_by(d, HEADER + items.len(), at, found.next, stack)
+    turn_by(d, HEADER + items.bytes.len(), at, found.next, stack)
 }
 
 // The items from a place on, as long as they are quick.
 fn rush(
-    version: u8,
-    items: &[u8],
+    items: Items,
     from: Place,
     stack: &mut [u32],
     count: usize,
     table: &[u32],
     used: usize,
-    memo: &[u64],
+    memo: &Memo,
 ) -> Rushed
-    requires { Ready count stack.old used table.now × Recalls memo.now table.now used }
-    ensures { Rushes (sheet_of version items.now) from.0 count stack.old used table.now result stack.new }
+    requires { Ready count stack.old used table.now × Recalls memo.now.slots table.now used }
+    ensures { Rushes (sheet_in items.entry) from.0 count stack.old used table.now result stack.new }
 {
     let mut at = from.0;
     let mut count = count;
-    loop {
-        let went = memo::quick_at(version, items, Place(at), stack, count, table, used, memo);
-        if went.count == 0 {
-            return Rushed {
-                at: Place(at),
-                count,
-            };
-        }
-        at = at + went.bytes;
+    while let Some(went) = memo::quick_at(items, Place(at), stack, count, table, used, memo) {
+        at += went.bytes;
         count = went.count;
+    }
+    Rushed {
+        at: Place(at),
+        count,
     }
 }
 
 // The items from a place on, as long as they are quick or calls that the memo has.
 fn rush_calls(
-    version: u8,
-    items: &[u8],
-    names: &Names,
+    items: Items,
+    rows: &[u8],
     profile: u32,
     from: Place,
     stack: &mut [u32],
     count: usize,
     table: &[u32],
     used: usize,
-    memo: &[u64],
+    memo: &Memo,
 ) -> Rushed
-    requires { Ready count stack.old used table.now × Recalls memo.now table.now used }
-    ensures { RushesIn profile (sheet_of version items.now) from.0 count stack.old used table.now result stack.new }
+    requires { Ready count stack.old used table.now × Recalls memo.now.slots table.now used × (rows.now ≡ name_table) }
+    ensures { RushesIn profile (sheet_in items.entry) from.0 count stack.old used table.now result stack.new }
 {
     let mut at = from.0;
     let mut count = count;
     loop {
-        let r = rush(version, items, Place(at), stack, count, table, used, memo);
-        let went = memo::call_at(
-            version, items, names, profile, r.at, stack, r.count, table, used, memo,
-        );
-        if went.count == 0 {
+        let r = rush(items, Place(at), stack, count, table, used, memo);
+        let Some(went) = memo::call_at(
+            items, rows, profile, r.at, stack, r.count, table, used, memo,
+        ) else {
             return r;
-        }
-        let left = r.at;
-        at = left.0 + went.bytes;
+        };
+        at = r.at.0 + went.bytes;
         count = went.count;
     }
 }
 
 // The items from the first to the end, or to the first that is refused, over a stack of no values and a memo that has nothing.
 fn run_on(
-    version: u8,
-    items: &[u8],
-    names: &Names,
+    items: Items,
+    rows: &[u8],
     profile: u32,
     table: &mut [u32],
     used: usize,
     stack: &mut [u32],
-    memo: &mut [u64],
+    memo: &mut Memo,
 ) -> Typed
-    requires { Sound table.old used × (length stack.old ≡ 64) × Recalls memo.old table.old used }
-    ensures { GaveMarked (run_items profile (sheet_of version items.now) (items_from (sheet_of version items.now) header_size) (begun table.old used)) (runs_items profile (sheet_of version items.now) (items_from (sheet_of version items.now) header_size) (begun table.old used)) result table.new }
+    requires { Sound table.old used × (length stack.old ≡ 64) × Recalls memo.old.slots table.old used × (rows.now ≡ name_table) }
+    ensures { GaveMarked (run_items profile (sheet_in items.entry) (items_from (sheet_in items.entry) header_size) (begun table.old used)) (runs_items profile (sheet_in items.entry) (items_from (sheet_in items.entry) header_size) (begun table.old used)) result table.new }
 {
     let mut count: usize = 0;
     let mut used = used;
     let mut at = HEADER;
     loop {
         let r = rush_calls(
-            version,
             items,
-            names,
+            rows,
             profile,
             Place(at),
             stack,
@@ -206,7 +195,7 @@ fn run_on(
             memo,
         );
         match one_turn(
-            version, items, names, profile, r.at, stack, r.count, table, used, memo,
+            items, rows, profile, r.at, stack, r.count, table, used, memo,
         ) {
             Turn::More {
                 count: c,
@@ -225,21 +214,21 @@ fn run_on(
 }
 
 // The same over the names, a stack and a memo of its own.
-fn run(version: u8, items: &[u8], profile: u32, table: &mut [u32], used: usize) -> Typed
+fn run(items: Items, profile: u32, table: &mut [u32], used: usize) -> Typed
     requires { Sound table.old used }
-    ensures { GaveMarked (run_items profile (sheet_of version items.now) (items_from (sheet_of version items.now) header_size) (begun table.old used)) (runs_items profile (sheet_of version items.now) (items_from (sheet_of version items.now) header_size) (begun table.old used)) result table.new }
+    ensures { GaveMarked (run_items profile (sheet_in items.entry) (items_from (sheet_in items.entry) header_size) (begun table.old used)) (runs_items profile (sheet_in items.entry) (items_from (sheet_in items.entry) header_size) (begun table.old used)) result table.new }
 {
+    let rows = names::name_table();
     let mut values = [0u32; VALUES];
-    let mut results = [0u64; SLOTS];
+    let mut memo = Memo::new();
     run_on(
-        version,
         items,
-        &Names::new(),
+        &rows,
         profile,
         table,
         used,
         &mut values,
-        &mut results,
+        &mut memo,
     )
 }
 
@@ -256,5 +245,9 @@ pub fn type_sheet(words: &mut [u32], n: usize, profile: u32, sheet: &[u8]) -> Ty
     if names::PROFILES <= profile {
         return unmarked(table::refused(Reason::Unknown, Place(0), n));
     }
-    run(sheet[0], &sheet[HEADER..], profile, words, n)
+    let items = Items {
+        version: sheet[0],
+        bytes: &sheet[HEADER..],
+    };
+    run(items, profile, words, n)
 }

@@ -3,7 +3,6 @@ use mathlib.Core.Path.{sym, ◌∙◌}
 use native.Mathlib.Omega.{arith}
 use Rattle.frame.specs.declared.Item.TheVariants.{Unary, Binary, Call, CallTemplate}
 use Rattle.frame.specs.declared.Part.{Part}
-use Prim.Native.Nat.{ℕ}
 use lib.ListN.{get_or}
 use Rattle.frame.specs.Frame.{type_no, payload_item}
 use Rattle.frame.proofs.Reading.{no-kind, no-number, a-number, no-name, a-name}

@@ -1,5 +1,5 @@
 -- What the code reads of a payload, or that it cannot; `Reading.antt` says that this is what the definitions of the sheet say. Assumes nothing.
-use Rattle.std.specs.Prelude.{ℕ, ◌+◌, ◌-◌, Bool, true, false, cond, List, Option, Some, None, length, get_or, eqb, ltb, leb}
+use Rattle.std.specs.Prelude.{ℕ, ◌+◌, ◌-◌, Bool, false, cond, List, Option, Some, None, length, get_or, eqb, ltb, leb}
 use Rattle.frame.specs.declared.Item.{Item}
 use Rattle.frame.specs.declared.Item.TheVariants.{Bad}
 use Rattle.frame.specs.declared.Part.{Part}

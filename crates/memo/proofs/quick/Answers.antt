@@ -1,17 +1,18 @@
 -- `memo::quick` meets its contract: a push goes, and an operator by what it asks. Assumes nothing.
-use mathlib.Core.List.{[]}
+use Rattle.std.proofs.Common.{Some}
 use Rattle.frame.specs.inner.Items.{item_of}
-use Rattle.memo.proofs.Asking.{asks-coded}
-use Rattle.memo.proofs.QuickLaws.{quick-asked}
+use Rattle.memo.specs.inner.Asking.{AsksEver}
+use Rattle.memo.proofs.QuickLaws.{quick-answered}
+use Rattle.memo.proofs.quick.Goals.{in-Unary+in_ok-ask-in-Unary, in-Binary+in_ok-ask-in-Binary}
 use Rattle.memo.proofs.quick.Goals as goal
 
-pub returns-then-x-eq-ITEM_PUSH : goal.returns-then-x-eq-ITEM_PUSH
-returns-then-x-eq-ITEM_PUSH c = c.quick_push.ensures c.args.keeps
-
-pub recalled-requires : goal.recalled-requires
-recalled-requires c = let q = c.asked_short in (c.requires.0, c.requires.1, asks-coded 0 [] (item_of c.args.x) q.result.code q.result.operands q.result.runs (q.ensures.asks 0 []))
+pub returns-in-Push : goal.returns-in-Push
+returns-in-Push c = rw c.in-Push.is (c.quick_push.ensures c.args.keeps)
 
 pub returns : goal.returns
+unfolding item_of
 returns c = let a = c.args in
-    let q = c.asked_short in
-    quick-asked a.keeps q.result.code q.result.operands q.result.runs a.count a.stack.now a.used a.table.now c.recalled.result _ c.recalled.ensures a.x q.ensures
+    let asks : AsksEver (item_of a.x) (Some c.match-x.ask) = elim c.match-x.branch [
+        in-Unary+in_ok-ask-in-Unary w ↦ rw (w.in-Unary.is, w.ask-is) w.in_ok-ask-in-Unary.ensures
+      | in-Binary+in_ok-ask-in-Binary w ↦ rw (w.in-Binary.is, w.ask-is) w.in_ok-ask-in-Binary.ensures ] in
+    quick-answered a.keeps c.match-x.ask a.count a.stack.now a.used a.table.now c.recalled.result _ a.x asks c.recalled.ensures

@@ -1,8 +1,9 @@
 -- The memo of a run: types that operators and calls of builtins gave. A slot is 0, or what was asked, a digit for each of its operands, and the number of the type that it
 -- gave. The mark of a result is not kept: it follows from the digits. What it holds is true of the table as it stands and of every table that grows from it, so a value that is recalled is the one that typing
 -- would give. The promise of `type_sheet` is read without it. Assumes nothing.
-use Rattle.std.specs.Prelude.{ℕ, zero, suc, ◌+◌, ◌-◌, ◌*◌, ◌%◌, ◌<◌, ◌≤◌, ◌≡◌, ◌⊎◌, Bool, false, cond, List, [], map, leb, length, get_or}
+use Rattle.std.specs.Prelude.{ℕ, zero, suc, ◌+◌, ◌-◌, ◌*◌, ◌%◌, ◌<◌, ◌≤◌, ◌≡◌, ◌⊎◌, Bool, false, cond, Option, Some, None, List, [], map, leb, length, get_or}
 use Rattle.held.specs.Held.{number_of, mark_of}
+use Rattle.answer.specs.declared.TypeNo.{TypeNo}
 use Rattle.conv.specs.Types.{Ty}
 use Rattle.table.specs.Denote.{type_at}
 use Rattle.table.specs.Placing.{Outcome, entering}
@@ -12,12 +13,9 @@ use Rattle.call_ty.specs.inner.Codes.{by_number, Under}
 use Rattle.step.specs.declared.Did.{Did}
 use Rattle.step.specs.declared.Did.TheVariants as did
 
--- how many slots there are, and what is answered where nothing is recalled: no value of a table of 256 entries
+-- how many slots there are
 abbrev pub slots : ℕ
 slots = 256
-
-abbrev pub nothing : ℕ
-nothing = 256
 
 -- how many numbers the memo has: behind the slots stand the hints, rows in which names were found. Nothing is known of them: whether a row has a name is asked of the names
 abbrev pub room : ℕ
@@ -97,8 +95,9 @@ pub record Hinted (memo after : List ℕ) : Type 0 where
   pub each : (i : ℕ) → i < slots → get_or after i 0 ≡ get_or memo i 0
 
 -- what looking a key up promises: nothing, or a value that a slot has with this key
-pub record Recalled (memo : List ℕ) (key r : ℕ) : Type 0 where
-  pub found : (r ≡ nothing) ⊎ ((r < 256) × ((i : ℕ) × (i < slots) × (get_or memo i 0 ≡ slot_of key r)))
+abbrev pub Recalled : List ℕ → ℕ → Option TypeNo → Type 0
+Recalled memo key None = Unit {0}
+Recalled memo key (Some t) = (t.0 < 256) × ((i : ℕ) × (i < slots) × (get_or memo i 0 ≡ slot_of key t.0))
 
 -- what a note promises: a slot has it, or what some slot had
 pub record Noted (memo : List ℕ) (key t : ℕ) (after : List ℕ) : Type 0 where

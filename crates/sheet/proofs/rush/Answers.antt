@@ -1,46 +1,40 @@
 -- `sheet::rush` meets its contract: after every quick item, what is left gives what the items from the first place gave. Assumes nothing.
 use Prim.Native.Nat.{ℕ}
 use mathlib.Core.List.{List}
-use mathlib.Core.Path.{refl, sym, ◌∙◌, subst}
-use Rattle.frame.specs.inner.Items.{sheet_of}
-use Rattle.frame.proofs.Parts.{whole_length}
+use mathlib.Core.Path.{refl, sym, subst}
 use borrow.Author.Rules.{rules}
 use native.Mathlib.Omega.{arith}
+use Rattle.frame.specs.inner.Items.{sheet_in}
+use Rattle.frame.proofs.Parts.{whole_length}
 use Rattle.sheet.specs.inner.Code.{Rushes}
-use Rattle.sheet.proofs.Running.{quick-stays, quick-went, rush-further, rush-on}
+use Rattle.sheet.proofs.Running.{rush-further, rush-on}
 use Rattle.sheet.proofs.rush.Goals as goal
 
 pub loop-went-init : goal.loop-went-init
 loop-went-init c = λ profile. record { ready = c.requires.0; rest = refl; mark = refl; onward = omega arith }
 
-pub quick_at-went-requires : goal.quick_at-went-requires
-quick_at-went-requires c = ((c.loop-went.invariant 0).ready, c.requires.1)
+pub quick_at-requires : goal.quick_at-requires
+quick_at-requires c = ((c.loop-went.invariant 0).ready, c.requires.1)
 
-pub shape_of-stack-then-went-eq0 : goal.shape_of-stack-then-went-eq0
-shape_of-stack-then-went-eq0 c = c.quick_at-went.auto.stack ∙ (c.loop-went.invariant 0).ready.size ∙ sym c.requires.0.size
-
-pub returns-then-went-eq0 : goal.returns-then-went-eq0
-returns-then-went-eq0 c = let a = c.args in
+pub returns : goal.returns
+returns c = let a = c.args in
     let l = c.loop-went in
-    let e = quick-stays (sheet_of a.version a.items.now) l.at l.count l.stack a.used a.table.now c.quick_at-went.result.count c.quick_at-went.result.bytes _ c.quick_at-went.ensures c.if-went-eq0.true in
-    subst (λ (y : List ℕ). Rushes (sheet_of a.version a.items.now) a.from.0 a.count a.stack.now a.used a.table.now (record { at = record { 0 = l.at }; count = l.count }) y) (sym e) l.invariant
+    subst (λ (y : List ℕ). Rushes (sheet_in a.items) a.from.0 a.count a.stack.now a.used a.table.now (record { at = record { 0 = l.at }; count = l.count }) y) (sym c.in_default.ensures) l.invariant
 
 pub overflow_add-at : goal.overflow_add-at
-overflow_add-at c = let a = c.args in
-    let l = c.loop-went in
-    let h = (quick-went (sheet_of a.version a.items.now) l.at l.count l.stack a.used a.table.now c.quick_at-went.result.count c.quick_at-went.result.bytes _ c.quick_at-went.ensures c.if-went-eq0.false 0).within in
-    let n = whole_length a.version a.items.now in
+overflow_add-at c = let i = c.args.items in
+    let h = (c.in-Some.ensures 0).within in
+    let n = whole_length i.version i.bytes.now in
     search rules
 
 pub loop-went-smaller : goal.loop-went-smaller
 loop-went-smaller c = let a = c.args in
     let l = c.loop-went in
-    let h = quick-went (sheet_of a.version a.items.now) l.at l.count l.stack a.used a.table.now c.quick_at-went.result.count c.quick_at-went.result.bytes _ c.quick_at-went.ensures c.if-went-eq0.false in
-    let f = rush-further 0 (sheet_of a.version a.items.now) a.from.0 l.at a.count l.count a.stack.now l.stack a.used a.table.now (l.invariant 0) c.quick_at-went.result.count c.quick_at-went.result.bytes _ (h 0) in
-    omega (arith, (h 0).within, f)
+    let h = c.in-Some.ensures 0 in
+    let f = rush-further 0 (sheet_in a.items) a.from.0 l.at a.count l.count a.stack.now l.stack a.used a.table.now (l.invariant 0) c.in-Some.went _ h in
+    omega (arith, h.within, f)
 
 pub loop-went-preserved : goal.loop-went-preserved
 loop-went-preserved c = let a = c.args in
     let l = c.loop-went in
-    let g = quick-went (sheet_of a.version a.items.now) l.at l.count l.stack a.used a.table.now c.quick_at-went.result.count c.quick_at-went.result.bytes _ c.quick_at-went.ensures c.if-went-eq0.false in
-    λ profile. rush-on profile (sheet_of a.version a.items.now) a.from.0 l.at a.count l.count a.stack.now l.stack a.used a.table.now (l.invariant profile) c.quick_at-went.result.count c.quick_at-went.result.bytes _ (g profile) c.quick_at-went.auto.stack
+    λ profile. rush-on profile (sheet_in a.items) a.from.0 l.at a.count l.count a.stack.now l.stack a.used a.table.now (l.invariant profile) c.in-Some.went _ (c.in-Some.ensures profile) c.quick_at.auto.stack

@@ -1,12 +1,12 @@
 -- `sheet::rush_calls` meets its contract: after quick items and a call that the memo has, what is left gives what the items from the first place gave. Assumes nothing.
-use Rattle.sheet.proofs.Running.{call_stays, call-went, rush-join, rush-further, rush-on}
-use Rattle.sheet.specs.inner.Code.{RushesIn}
-use Rattle.frame.proofs.Parts.{whole_length}
-use Rattle.frame.specs.inner.Items.{sheet_of}
-use native.Mathlib.Omega.{arith}
-use mathlib.Core.Path.{refl, sym, ◌∙◌, subst}
-use mathlib.Core.List.{List}
 use Prim.Native.Nat.{ℕ}
+use mathlib.Core.List.{List}
+use mathlib.Core.Path.{refl, sym, subst}
+use native.Mathlib.Omega.{arith}
+use Rattle.frame.specs.inner.Items.{sheet_in}
+use Rattle.frame.proofs.Parts.{whole_length}
+use Rattle.sheet.specs.inner.Code.{RushesIn}
+use Rattle.sheet.proofs.Running.{rush-join, rush-further, rush-on}
 use Rattle.sheet.proofs.rush_calls.Goals as goal
 
 pub loop-went-init : goal.loop-went-init
@@ -15,47 +15,35 @@ loop-went-init c = record { ready = c.requires.0; rest = refl; mark = refl; onwa
 pub rush-r-requires : goal.rush-r-requires
 rush-r-requires c = (c.loop-went.invariant.ready, c.requires.1)
 
-pub call_at-went-requires : goal.call_at-went-requires
-call_at-went-requires c = ((c.rush-r.ensures 0).ready, c.requires.1)
+pub call_at-requires : goal.call_at-requires
+call_at-requires c = ((c.rush-r.ensures 0).ready, c.requires.1, c.requires.2)
 
-pub shape_of-stack-then-went-eq0 : goal.shape_of-stack-then-went-eq0
-shape_of-stack-then-went-eq0 c = c.call_at-went.auto.stack ∙ (c.rush-r.ensures 0).ready.size ∙ sym c.requires.0.size
-
-pub returns-then-went-eq0 : goal.returns-then-went-eq0
-returns-then-went-eq0 c = let a = c.args in
+pub returns-in_default : goal.returns-in_default
+returns-in_default c = let a = c.args in
     let l = c.loop-went in
     let r = c.rush-r in
-    let w = c.call_at-went in
-    let s = sheet_of a.version a.items.now in
+    let s = sheet_in a.items in
     let j = rush-join a.profile s a.from.0 l.at a.count l.count a.stack.now l.stack a.used a.table.now l.invariant r.result _ (r.ensures a.profile) in
-    let e = call_stays s r.result.at.0 r.result.count _ a.used a.table.now w.result.count w.result.bytes _ a.profile w.ensures c.if-went-eq0.true in
-    subst (λ (y : List ℕ). RushesIn a.profile s a.from.0 a.count a.stack.now a.used a.table.now r.result y) (sym e) j
+    subst (λ (y : List ℕ). RushesIn a.profile s a.from.0 a.count a.stack.now a.used a.table.now r.result y) (sym c.in_default.ensures) j
 
 pub overflow_add-at : goal.overflow_add-at
-overflow_add-at c = let a = c.args in
-    let r = c.rush-r in
-    let w = c.call_at-went in
-    let g = (call-went (sheet_of a.version a.items.now) r.result.at.0 r.result.count _ a.used a.table.now w.result.count w.result.bytes _ a.profile w.ensures c.if-went-eq0.false).within in
-    let n = whole_length a.version a.items.now in
-    let o = c.well_formed in
-    record { fits = omega (arith, g, n, o.1.0) }
+overflow_add-at c = let i = c.args.items in
+    let g = c.in-Some.ensures.within in
+    let n = whole_length i.version i.bytes.now in
+    record { fits = omega (arith, g, n, c.ranges.items.1) }
 
 pub loop-went-smaller : goal.loop-went-smaller
 loop-went-smaller c = let a = c.args in
     let l = c.loop-went in
     let r = c.rush-r in
-    let w = c.call_at-went in
-    let s = sheet_of a.version a.items.now in
-    let g = call-went s r.result.at.0 r.result.count _ a.used a.table.now w.result.count w.result.bytes _ a.profile w.ensures c.if-went-eq0.false in
-    let f = rush-further a.profile s l.at r.result.at.0 l.count r.result.count l.stack _ a.used a.table.now (r.ensures a.profile) w.result.count w.result.bytes _ g in
+    let g = c.in-Some.ensures in
+    let f = rush-further a.profile (sheet_in a.items) l.at r.result.at.0 l.count r.result.count l.stack _ a.used a.table.now (r.ensures a.profile) c.in-Some.went _ g in
     omega (arith, g.within, f, (r.ensures a.profile).onward)
 
 pub loop-went-preserved : goal.loop-went-preserved
 loop-went-preserved c = let a = c.args in
     let l = c.loop-went in
     let r = c.rush-r in
-    let w = c.call_at-went in
-    let s = sheet_of a.version a.items.now in
+    let s = sheet_in a.items in
     let j = rush-join a.profile s a.from.0 l.at a.count l.count a.stack.now l.stack a.used a.table.now l.invariant r.result _ (r.ensures a.profile) in
-    let g = call-went s r.result.at.0 r.result.count _ a.used a.table.now w.result.count w.result.bytes _ a.profile w.ensures c.if-went-eq0.false in
-    rush-on a.profile s a.from.0 r.result.at.0 a.count r.result.count a.stack.now _ a.used a.table.now j w.result.count w.result.bytes _ g w.auto.stack
+    rush-on a.profile s a.from.0 r.result.at.0 a.count r.result.count a.stack.now _ a.used a.table.now j c.in-Some.went _ c.in-Some.ensures c.call_at.auto.stack

@@ -1,11 +1,11 @@
 use Rattle.sheet.specs.inner.Code.{RushesIn}
-use Rattle.frame.specs.inner.Items.{sheet_of}
+use Rattle.frame.specs.inner.Items.{sheet_in}
 use Prim.Native.Nat.{◌-◌}
 use lib.ListN.{length}
 use Rattle.sheet.proofs.rush_calls.Given as goal
 
 abbrev pub invariant-loop-went : goal.invariant-loop-went
-invariant-loop-went l = RushesIn l.profile (sheet_of l.version l.items) l.initial.at l.initial.count l.initial.stack l.used l.table (record { at = record { 0 = l.at }; count = l.count }) l.stack
+invariant-loop-went l = RushesIn l.profile (sheet_in l.items) l.initial.at l.initial.count l.initial.stack l.used l.table (record { at = record { 0 = l.at }; count = l.count }) l.stack
 
 abbrev pub decreases-loop-went : goal.decreases-loop-went
-decreases-loop-went l = length (sheet_of l.version l.items) - l.at
+decreases-loop-went l = length (sheet_in l.items) - l.at

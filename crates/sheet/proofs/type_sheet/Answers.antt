@@ -32,11 +32,11 @@ returns-then-profile-ge-PROFILES c = let a = c.args in
 pub bounds-sheet-0 : goal.bounds-sheet-0
 bounds-sheet-0 c = let h : header_size ≤ length c.args.sheet.now = headed-long _ (sym c.header.ensures ∙ c.if-not-header.false) in search rules
 
-pub slice_bounds-run-count : goal.slice_bounds-run-count
-slice_bounds-run-count c = let h : header_size ≤ length c.args.sheet.now = headed-long _ (sym c.header.ensures ∙ c.if-not-header.false) in search rules
+pub slice_bounds-items-count : goal.slice_bounds-items-count
+slice_bounds-items-count c = let h : header_size ≤ length c.args.sheet.now = headed-long _ (sym c.header.ensures ∙ c.if-not-header.false) in search rules
 
-pub slice_bounds-run-start : goal.slice_bounds-run-start
-slice_bounds-run-start c = let h : header_size ≤ length c.args.sheet.now = headed-long _ (sym c.header.ensures ∙ c.if-not-header.false) in search rules
+pub slice_bounds-items-start : goal.slice_bounds-items-start
+slice_bounds-items-start c = let h : header_size ≤ length c.args.sheet.now = headed-long _ (sym c.header.ensures ∙ c.if-not-header.false) in search rules
 
 pub run-requires : goal.run-requires
 run-requires c = let a = c.args in sound-of a.words.now a.n (sym c.sound.ensures ∙ c.if-not-sound.false)
