@@ -5,7 +5,7 @@
 ghost use Rattle.std.specs.Prelude.{◌≡◌, [], ◌+◌, ◌/◌, ◌<◌, ◌≤◌, length, get_or};
 ghost use Rattle.table.specs.Table.{Sound};
 ghost use Rattle.frame.specs.Frame.{is_item, name_of, Within};
-ghost use Rattle.frame.specs.inner.Items.{sheet_of};
+ghost use Rattle.frame.specs.inner.Items.{sheet_in};
 ghost use Rattle.text.specs.Text.{Put, far};
 ghost use Rattle.table.specs.Table.{scalars};
 ghost use Rattle.step.specs.inner.Code.{state_of, Ready};
@@ -16,7 +16,7 @@ ghost use Rattle.desk.specs.Desk.{unary_lines, binary_lines, call_lines, templat
 ghost use Rattle.desk.specs.inner.Code.{Finds, pieces_of, Asking, Queries, Counted};
 
 use cast::wide;
-use frame::{HEADER, Item, Placed};
+use frame::{HEADER, Item, Items, Placed};
 use names::Names;
 use step::Did;
 use table::{Answer, Place, Reason, SCALARS};
@@ -66,8 +66,7 @@ fn is_told(a: Answer, size: usize, x: Placed) -> bool
 
 // The item that is told, of a sheet with this answer: the items before it are run, over a stack of no values.
 fn find(
-    version: u8,
-    items: &[u8],
+    items: Items,
     names: &Names,
     profile: u32,
     a: Answer,
@@ -76,14 +75,14 @@ fn find(
     stack: &mut [u32],
 ) -> Option<Stand>
     requires { Sound table.old used × (length stack.old ≡ 64) }
-    ensures { Finds (sheet_of version items.now) (told_of profile table.old used (sheet_of version items.now) a) result stack.new table.new }
+    ensures { Finds (sheet_in items.entry) (told_of profile table.old used (sheet_in items.entry) a) result stack.new table.new }
 {
     let mut count: usize = 0;
     let mut used = used;
     let mut at = HEADER;
     loop {
-        let placed = frame::item_in(version, items, Place(at));
-        if is_told(a, HEADER + items.len(), placed) {
+        let placed = items.item(Place(at));
+        if is_told(a, HEADER + items.bytes.len(), placed) {
             return Some(Stand {
                 placed,
                 count,
@@ -91,7 +90,6 @@ fn find(
             });
         }
         let Did::Went { count: c, used: u } = step::step(
-            version,
             items,
             names,
             profile,
@@ -128,9 +126,12 @@ fn stand_in(profile: u32, sheet: &[u8], words: &mut [u32], stack: &mut [u32]) ->
         return None;
     }
     let a = answer_of(profile, sheet);
+    let items = Items {
+        version: sheet[0],
+        bytes: &sheet[HEADER..],
+    };
     find(
-        sheet[0],
-        &sheet[HEADER..],
+        items,
         &Names::new(),
         profile,
         a,

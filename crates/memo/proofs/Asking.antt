@@ -19,7 +19,7 @@ use Rattle.table.proofs.Giving.{gave-whole}
 use Rattle.names.specs.Names.{Named, rule_of}
 use Rattle.names.specs.Names.Named.{rule}
 use Rattle.names.specs.inner.Table.{numbered, rule_at, replied, StandsAt}
-use Rattle.names.specs.declared.RuleNo.TheVariants.{Is}
+use Rattle.names.specs.declared.NamedRule.{NamedRule}
 use Rattle.names.proofs.Found.{stands-rule}
 use Rattle.names.proofs.Rules.{said-rule}
 use Rattle.conv.specs.Types.{bool}
@@ -157,13 +157,13 @@ call_asks profile s name k number runs l m h e =
     }
 
 -- a row asks by its rule, which is that of every name that stands there, with the code and the count as they were made
-pub row-asked : (profile row k number : ℕ) (runs : Bool) (code j : ℕ) → 1 ≤ k → k ≤ 3 → number < 128 → replied (rule_at profile row) ≡ Is number runs → code ≡ 24 + number → j ≡ k
-    → (s : List ℕ) (name : Part) → StandsAt (bytes_of s name) row → AskedBy profile s (Call k name) code j runs
-row-asked profile row k number runs code j l m h e c d s name stands =
-    let z : code ≡ number + 24 = omega arith in
+pub row-asked : (profile row k : ℕ) (n : NamedRule) (code j : ℕ) → 1 ≤ k → k ≤ 3 → n.rule < 128 → replied (rule_at profile row) ≡ Some n → code ≡ 24 + n.rule → j ≡ k
+    → (s : List ℕ) (name : Part) → StandsAt (bytes_of s name) (Some row) → AskedBy profile s (Call k name) code j n.running
+row-asked profile row k n code j l m h e c d s name stands =
+    let z : code ≡ n.rule + 24 = omega arith in
     rw (z, d)
-    (call_asks profile s name k number runs l m h
-    (said-rule profile (bytes_of s name) number (ap replied (sym (stands-rule profile (bytes_of s name) row stands)) ∙ e)))
+    (call_asks profile s name k n.rule n.running l m h
+    (said-rule profile (bytes_of s name) n (ap replied (sym (stands-rule profile (bytes_of s name) row stands)) ∙ e)))
 
 -- THE LAST VALUES of a slice
 

@@ -9,7 +9,6 @@ ghost use Rattle.call_ty.specs.Calls.{numbers};
 ghost use Rattle.frame.specs.inner.Items.{sheet_in, item_of, LiesIn, NameIn};
 ghost use Rattle.frame.specs.declared.Item.TheVariants.{Unary, Binary, Call};
 ghost use Rattle.frame.specs.declared.ShortItem.TheVariants as short;
-ghost use Rattle.names.specs.inner.Table.{name_table};
 ghost use Rattle.call_ty.specs.inner.Codes.{Under};
 ghost use Rattle.step.specs.Effect.{effect_of};
 ghost use Rattle.step.specs.inner.Code.{state_of, Ready, Does};
@@ -20,7 +19,7 @@ ghost use Rattle.memo.specs.inner.Quick.{Answers, Quick, QuickEver, QuickAt, Cal
 use cast::{wide, wide32, word64};
 use frame::{Item, Items, Part, Short, ShortItem};
 use key::{Ask, Key};
-use names::RuleNo;
+use names::{NamedRule, Names};
 use step::{Did, VALUES};
 use table::{Place, TypeNo};
 
@@ -199,14 +198,13 @@ fn asked_binary(op: u8) -> Option<Ask>
 }
 
 // A call of a builtin on k operands asks by the rule that the row of its name has in a profile.
-fn asked_row(rows: &[u8], profile: u32, row: usize, k: u8) -> Option<Ask>
-    requires { rows.now ≡ name_table }
+fn asked_row(names: &Names, profile: u32, row: usize, k: u8) -> Option<Ask>
     ensures { AsksRow profile row k result }
 {
     if (k < 1) | (OPERANDS < k) {
         return None;
     }
-    let RuleNo::Is { rule, running } = names::rule_at(rows, profile, row) else {
+    let Some(NamedRule { rule, running }) = names.rule_at(profile, row) else {
         return None;
     };
     if RULES <= rule {
@@ -222,49 +220,49 @@ fn asked_row(rows: &[u8], profile: u32, row: usize, k: u8) -> Option<Ask>
 // The row of its name is looked for, and becomes the hint.
 fn asked_call(
     items: Items,
-    rows: &[u8],
+    names: &Names,
     profile: u32,
     name: Part,
     k: u8,
     memo: &mut Memo,
 ) -> Option<Ask>
-    requires { LiesIn (length items.bytes.now) name × (rows.now ≡ name_table) }
+    requires { LiesIn (length items.bytes.now) name }
     ensures { Asks profile (sheet_in items.entry) (Call k name) result × Hinted memo.old.slots memo.new.slots }
 {
     let bytes = items.name(name);
-    let row = names::find(rows, bytes);
+    let row = names.find(bytes)?;
     memo.set_hint(bytes, row);
-    asked_row(rows, profile, row, k)
+    asked_row(names, profile, row, k)
 }
 
 // The same by the hint; nothing is asked where that is no row of this name.
 fn asked_again(
     items: Items,
-    rows: &[u8],
+    names: &Names,
     profile: u32,
     name: Part,
     k: u8,
     memo: &Memo,
 ) -> Option<Ask>
-    requires { LiesIn (length items.bytes.now) name × (rows.now ≡ name_table) }
+    requires { LiesIn (length items.bytes.now) name }
     ensures { Asks profile (sheet_in items.entry) (Call k name) result }
 {
     let bytes = items.name(name);
     let row = memo.hint(bytes);
-    if !names::has_name(rows, row, bytes) {
+    if !names.has_name(row, bytes) {
         return None;
     }
-    asked_row(rows, profile, row, k)
+    asked_row(names, profile, row, k)
 }
 
-fn asked(items: Items, rows: &[u8], profile: u32, item: Item, memo: &mut Memo) -> Option<Ask>
-    requires { NameIn (length items.bytes.now) item × (rows.now ≡ name_table) }
+fn asked(items: Items, names: &Names, profile: u32, item: Item, memo: &mut Memo) -> Option<Ask>
+    requires { NameIn (length items.bytes.now) item }
     ensures { Asks profile (sheet_in items.entry) item result × Hinted memo.old.slots memo.new.slots }
 {
     match item {
         Item::Unary(op) => asked_unary(op),
         Item::Binary(op) => asked_binary(op),
-        Item::Call { count: k, name } => asked_call(items, rows, profile, name, k, memo),
+        Item::Call { count: k, name } => asked_call(items, names, profile, name, k, memo),
         _ => None,
     }
 }
@@ -330,17 +328,17 @@ fn keyed(keeps: bool, a: Ask, stack: &[u32], count: usize) -> Option<Key>
 // And of what an item asks.
 fn item_key(
     items: Items,
-    rows: &[u8],
+    names: &Names,
     profile: u32,
     item: Item,
     stack: &[u32],
     count: usize,
     memo: &mut Memo,
 ) -> Option<Key>
-    requires { NameIn (length items.bytes.now) item × (rows.now ≡ name_table) × Small count stack.now }
+    requires { NameIn (length items.bytes.now) item × Small count stack.now }
     ensures { ItemKeyed profile (sheet_in items.entry) item count stack.now result × Hinted memo.old.slots memo.new.slots }
 {
-    let ask = asked(items, rows, profile, item, memo)?;
+    let ask = asked(items, names, profile, item, memo)?;
     keyed(items.has_marks(), ask, stack, count)
 }
 
@@ -433,7 +431,7 @@ pub fn quick_at(
 // The same of a call in a profile, where the memo has its name and what it gives.
 pub fn call_at(
     items: Items,
-    rows: &[u8],
+    names: &Names,
     profile: u32,
     at: Place,
     stack: &mut [u32],
@@ -442,14 +440,14 @@ pub fn call_at(
     used: usize,
     memo: &Memo,
 ) -> Option<Went>
-    requires { Ready count stack.old used table.now × Recalls memo.now.slots table.now used × (rows.now ≡ name_table) }
+    requires { Ready count stack.old used table.now × Recalls memo.now.slots table.now used }
     ensures { CallAt profile (sheet_in items.entry) at.0 count stack.old used table.now result stack.new }
 {
     let found = items.item(at);
     let Item::Call { count: k, name } = found.item else {
         return None;
     };
-    let ask = asked_again(items, rows, profile, name, k, memo)?;
+    let ask = asked_again(items, names, profile, name, k, memo)?;
     let stand = recalled(items.has_marks(), ask, stack, count, table, used, memo)?;
     Some(Went {
         count: stand,
@@ -460,7 +458,7 @@ pub fn call_at(
 // What stands at a place of the sheet: recalled where the memo has it, else typed, and noted. The memo is that of a run, which has one profile.
 pub fn noted_step(
     items: Items,
-    rows: &[u8],
+    names: &Names,
     profile: u32,
     item: Item,
     at: Place,
@@ -470,12 +468,12 @@ pub fn noted_step(
     used: usize,
     memo: &mut Memo,
 ) -> Did
-    requires { Ready count stack.old used table.old × NameIn (length items.bytes.now) item × Recalls memo.old.slots table.old used × (rows.now ≡ name_table) }
+    requires { Ready count stack.old used table.old × NameIn (length items.bytes.now) item × Recalls memo.old.slots table.old used }
     ensures { Does (effect_of profile at.0 (state_of count stack.old used table.old) (sheet_in items.entry) item) result stack.new table.new × AfterStep result memo.new.slots table.new }
 {
-    let Some(key) = item_key(items, rows, profile, item, stack, count, memo) else {
+    let Some(key) = item_key(items, names, profile, item, stack, count, memo) else {
         return step::step(
-            items, rows, profile, item, at, stack, count, table, used,
+            items, names, profile, item, at, stack, count, table, used,
         );
     };
     if let Some(t) = memo.recall(key) {
@@ -486,7 +484,7 @@ pub fn noted_step(
         };
     }
     let d = step::step(
-        items, rows, profile, item, at, stack, count, table, used,
+        items, names, profile, item, at, stack, count, table, used,
     );
     memo.note_did(key, d, stack);
     d

@@ -4,7 +4,6 @@
 ghost use Rattle.std.specs.Prelude.{false, ◌≡◌, ◌≤◌, length, get_or, take};
 ghost use Rattle.table.specs.Table.{Sound};
 ghost use Rattle.table.specs.Placing.{GaveMarked};
-ghost use Rattle.names.specs.inner.Table.{name_table};
 ghost use Rattle.answer.specs.Answer.{marked_by};
 ghost use Rattle.held.specs.Held.{mark_of};
 ghost use Rattle.frame.specs.Frame.{header_size, item_at, items_from};
@@ -17,6 +16,7 @@ ghost use Rattle.sheet.specs.inner.Code.{TurnsBy, Turns, AfterTurn, Rushes, Rush
 
 use frame::{HEADER, Items};
 use memo::Memo;
+use names::Names;
 use step::{Did, VALUES};
 use table::{Answer, Place, Reason, Typed};
 
@@ -93,7 +93,7 @@ fn turn_by(d: Did, size: usize, at: Place, next: Place, stack: &[u32]) -> Turn
 // One turn of the machine, at a place.
 fn one_turn(
     items: Items,
-    rows: &[u8],
+    names: &Names,
     profile: u32,
     at: Place,
     stack: &mut [u32],
@@ -102,12 +102,12 @@ fn one_turn(
     used: usize,
     memo: &mut Memo,
 ) -> Turn
-    requires { Ready count stack.old used table.old × Recalls memo.old.slots table.old used × (rows.now ≡ name_table) }
+    requires { Ready count stack.old used table.old × Recalls memo.old.slots table.old used }
     ensures { Turns (turn_of profile (sheet_in items.entry) (item_at (sheet_in items.entry) at.0) (state_of count stack.old used table.old)) (end_mark (effect_of profile at.0 (state_of count stack.old used table.old) (sheet_in items.entry) (item_at (sheet_in items.entry) at.0).item)) (item_at (sheet_in items.entry) at.0).next.0 result stack.new table.new × AfterTurn result memo.new.slots table.new }
 {
     let found = items.item(at);
     let d = memo::noted_step(
-        items, rows, profile, found.item, at, stack, count, table, used, memo,
+        items, names, profile, found.item, at, stack, count, table, used, memo,
     );
     turn_by(d, HEADER + items.bytes.len(), at, found.next, stack)
 }
@@ -140,7 +140,7 @@ fn rush(
 // The items from a place on, as long as they are quick or calls that the memo has.
 fn rush_calls(
     items: Items,
-    rows: &[u8],
+    names: &Names,
     profile: u32,
     from: Place,
     stack: &mut [u32],
@@ -149,7 +149,7 @@ fn rush_calls(
     used: usize,
     memo: &Memo,
 ) -> Rushed
-    requires { Ready count stack.old used table.now × Recalls memo.now.slots table.now used × (rows.now ≡ name_table) }
+    requires { Ready count stack.old used table.now × Recalls memo.now.slots table.now used }
     ensures { RushesIn profile (sheet_in items.entry) from.0 count stack.old used table.now result stack.new }
 {
     let mut at = from.0;
@@ -157,7 +157,7 @@ fn rush_calls(
     loop {
         let r = rush(items, Place(at), stack, count, table, used, memo);
         let Some(went) = memo::call_at(
-            items, rows, profile, r.at, stack, r.count, table, used, memo,
+            items, names, profile, r.at, stack, r.count, table, used, memo,
         ) else {
             return r;
         };
@@ -169,14 +169,14 @@ fn rush_calls(
 // The items from the first to the end, or to the first that is refused, over a stack of no values and a memo that has nothing.
 fn run_on(
     items: Items,
-    rows: &[u8],
+    names: &Names,
     profile: u32,
     table: &mut [u32],
     used: usize,
     stack: &mut [u32],
     memo: &mut Memo,
 ) -> Typed
-    requires { Sound table.old used × (length stack.old ≡ 64) × Recalls memo.old.slots table.old used × (rows.now ≡ name_table) }
+    requires { Sound table.old used × (length stack.old ≡ 64) × Recalls memo.old.slots table.old used }
     ensures { GaveMarked (run_items profile (sheet_in items.entry) (items_from (sheet_in items.entry) header_size) (begun table.old used)) (runs_items profile (sheet_in items.entry) (items_from (sheet_in items.entry) header_size) (begun table.old used)) result table.new }
 {
     let mut count: usize = 0;
@@ -185,7 +185,7 @@ fn run_on(
     loop {
         let r = rush_calls(
             items,
-            rows,
+            names,
             profile,
             Place(at),
             stack,
@@ -195,7 +195,7 @@ fn run_on(
             memo,
         );
         match one_turn(
-            items, rows, profile, r.at, stack, r.count, table, used, memo,
+            items, names, profile, r.at, stack, r.count, table, used, memo,
         ) {
             Turn::More {
                 count: c,
@@ -218,12 +218,11 @@ fn run(items: Items, profile: u32, table: &mut [u32], used: usize) -> Typed
     requires { Sound table.old used }
     ensures { GaveMarked (run_items profile (sheet_in items.entry) (items_from (sheet_in items.entry) header_size) (begun table.old used)) (runs_items profile (sheet_in items.entry) (items_from (sheet_in items.entry) header_size) (begun table.old used)) result table.new }
 {
-    let rows = names::name_table();
     let mut values = [0u32; VALUES];
     let mut memo = Memo::new();
     run_on(
         items,
-        &rows,
+        &Names::new(),
         profile,
         table,
         used,

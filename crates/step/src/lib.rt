@@ -8,7 +8,6 @@ ghost use Rattle.table.specs.Denote.{type_at};
 ghost use Rattle.table.specs.Placing.{Gave};
 ghost use Rattle.frame.specs.Frame.{marked};
 ghost use Rattle.frame.specs.inner.Items.{sheet_in, NameIn};
-ghost use Rattle.names.specs.inner.Table.{name_table};
 ghost use Rattle.call_ty.specs.Calls.{numbers, marks_of, types};
 ghost use Rattle.call_ty.specs.inner.Codes.{Under};
 ghost use Rattle.step.specs.Effect.{bytes_of, entry_of, push_effect, is_valued, calling, take_effect, effect_of};
@@ -16,6 +15,7 @@ ghost use Rattle.step.specs.inner.Code.{state_of, turned_away, Arity, operator_o
 
 use cast::{wide, wide32};
 use frame::{Item, Items};
+use names::Names;
 use table::{Answer, Entry, Place, Reason, Refusal, TypeNo};
 
 // How many values the stack holds.
@@ -141,9 +141,9 @@ fn is_valued(a: Answer) -> bool
     }
 }
 
-// A call on the last k values, with its template list; the table of names is lent as rows. On a full stack it has no operand, and its value has no place.
+// A call on the last k values, with its template list; the names are lent. On a full stack it has no operand, and its value has no place.
 fn call_on(
-    rows: &[u8],
+    names: &Names,
     keeps: bool,
     profile: u32,
     name: &[u8],
@@ -155,7 +155,7 @@ fn call_on(
     table: &mut [u32],
     used: usize,
 ) -> Did
-    requires { Ready count stack.old used table.old × Under used tplt.now × (k ≤ count) × (rows.now ≡ name_table) }
+    requires { Ready count stack.old used table.old × Under used tplt.now × (k ≤ count) }
     ensures { Does (calling keeps profile at.0 (state_of count stack.old used table.old) name.now (types table.old tplt.now) k) result stack.new table.new }
 {
     let base = count - k;
@@ -163,7 +163,7 @@ fn call_on(
         table,
         used,
         at,
-        rows,
+        names,
         profile,
         name,
         tplt,
@@ -178,7 +178,7 @@ fn call_on(
 
 // A call of so many operands, with or without a template.
 fn call(
-    rows: &[u8],
+    names: &Names,
     keeps: bool,
     profile: u32,
     name: &[u8],
@@ -190,7 +190,7 @@ fn call(
     table: &mut [u32],
     used: usize,
 ) -> Did
-    requires { Ready count stack.old used table.old × (rows.now ≡ name_table) }
+    requires { Ready count stack.old used table.old }
     ensures { Does (called_effect keeps profile at.0 (state_of count stack.old used table.old) name.now template k) result stack.new table.new }
 {
     let k = wide(k);
@@ -200,7 +200,7 @@ fn call(
     let Some(t) = template else {
         let list: [u32; 0] = [];
         return call_on(
-            rows, keeps, profile, name, &list, k, at, stack, count, table, used,
+            names, keeps, profile, name, &list, k, at, stack, count, table, used,
         );
     };
     if used <= t.0 {
@@ -208,7 +208,7 @@ fn call(
     }
     let list = [t.0 as u32];
     call_on(
-        rows, keeps, profile, name, &list, k, at, stack, count, table, used,
+        names, keeps, profile, name, &list, k, at, stack, count, table, used,
     )
 }
 
@@ -251,7 +251,7 @@ fn entry(kind: u8, p: u32, q: u8, elem: u8) -> Entry
 // What stands at a place of a sheet, in a profile, on the stack of `count` values and the table.
 pub fn step(
     items: Items,
-    rows: &[u8],
+    names: &Names,
     profile: u32,
     item: Item,
     at: Place,
@@ -260,7 +260,7 @@ pub fn step(
     table: &mut [u32],
     used: usize,
 ) -> Did
-    requires { Ready count stack.old used table.old × NameIn (length items.bytes.now) item × (rows.now ≡ name_table) }
+    requires { Ready count stack.old used table.old × NameIn (length items.bytes.now) item }
     ensures { Does (effect_of profile at.0 (state_of count stack.old used table.old) (sheet_in items.entry) item) result stack.new table.new }
 {
     let keeps = items.has_marks();
@@ -271,7 +271,7 @@ pub fn step(
         Item::Call { count: k, name } => {
             let name = items.name(name);
             call(
-                rows, keeps, profile, name, None, k, at, stack, count, table, used,
+                names, keeps, profile, name, None, k, at, stack, count, table, used,
             )
         }
         Item::CallTemplate {
@@ -281,7 +281,7 @@ pub fn step(
         } => {
             let name = items.name(name);
             call(
-                rows,
+                names,
                 keeps,
                 profile,
                 name,

@@ -20,11 +20,11 @@ returns-then-not-header c = finds-nothing c.args.profile c.args.sheet.now (sym c
 pub bounds-sheet-0 : goal.bounds-sheet-0
 bounds-sheet-0 c = let h : header_size ≤ length c.args.sheet.now = headed-long _ (sym c.header.ensures ∙ c.if-not-header.false) in search rules
 
-pub slice_bounds-find-count : goal.slice_bounds-find-count
-slice_bounds-find-count c = let h : header_size ≤ length c.args.sheet.now = headed-long _ (sym c.header.ensures ∙ c.if-not-header.false) in search rules
+pub slice_bounds-items-count : goal.slice_bounds-items-count
+slice_bounds-items-count c = let h : header_size ≤ length c.args.sheet.now = headed-long _ (sym c.header.ensures ∙ c.if-not-header.false) in search rules
 
-pub slice_bounds-find-start : goal.slice_bounds-find-start
-slice_bounds-find-start c = let h : header_size ≤ length c.args.sheet.now = headed-long _ (sym c.header.ensures ∙ c.if-not-header.false) in search rules
+pub slice_bounds-items-start : goal.slice_bounds-items-start
+slice_bounds-items-start c = let h : header_size ≤ length c.args.sheet.now = headed-long _ (sym c.header.ensures ∙ c.if-not-header.false) in search rules
 
 pub find-requires : goal.find-requires
 find-requires c = (subst (λ (w : List ℕ). Sound w scalars) (sym c.requires.0) (sound-of start scalars start-sound), c.requires.1)

@@ -3,12 +3,13 @@ use Rattle.names.specs.inner.Table.{StandsAt}
 use Rattle.frame.proofs.Parts.{name-bytes}
 use Rattle.frame.specs.inner.Items.{sheet_in}
 use Prim.Native.Nat.{ℕ}
+use Rattle.std.proofs.Common.{Some}
 use mathlib.Core.List.{List}
 use mathlib.Core.Path.{subst}
 use Rattle.memo.proofs.asked_call.Goals as goal
 
 pub returns : goal.returns
 returns c = let a = c.args in
-    let row = c.find-row.result in
-    let b = name-bytes a.items.version a.items.bytes.now a.name c.requires.0.0 c.name-bytes.ensures.bytes in
-    (c.asked_row.ensures (sheet_in a.items) a.name (subst (λ (y : List ℕ). StandsAt y row) b c.find-row.ensures), c.set_hint.ensures)
+    let row = c.in_ok-row.row in
+    let b = name-bytes a.items.version a.items.bytes.now a.name c.requires.0 c.name-bytes.ensures.bytes in
+    (c.asked_row.ensures (sheet_in a.items) a.name (subst (λ (y : List ℕ). StandsAt y (Some row)) b c.in_ok-row.ensures), c.set_hint.ensures)

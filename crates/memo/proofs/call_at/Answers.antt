@@ -11,7 +11,7 @@ use Rattle.memo.proofs.call_at.Goals as goal
 pub asked_again-requires : goal.asked_again-requires
 asked_again-requires c = let i = c.args.items in
     let x = c.item-found in
-    (subst (λ (y : Item). NameIn (length i.bytes.now) y) (ap (λ (y : Placed). y.item) (sym x.ensures) ∙ c.in-Call.is) (name_in i.version i.bytes.now c.args.at.0), c.requires.2)
+    subst (λ (y : Item). NameIn (length i.bytes.now) y) (ap (λ (y : Placed). y.item) (sym x.ensures) ∙ c.in-Call.is) (name_in i.version i.bytes.now c.args.at.0)
 
 pub overflow_sub-result : goal.overflow_sub-result
 overflow_sub-result c = let a = c.args in

@@ -7,7 +7,7 @@ use Rattle.memo.proofs.Asking.{ready-small, recalls-step, recalled-does, step-le
 use Rattle.memo.proofs.noted_step.Goals as goal
 
 pub item_key-requires : goal.item_key-requires
-item_key-requires c = let a = c.args in (c.requires.1, c.requires.3, ready-small a.count a.stack.now a.used a.table.now c.requires.0)
+item_key-requires c = let a = c.args in (c.requires.1, ready-small a.count a.stack.now a.used a.table.now c.requires.0)
 
 pub returns-in_default : goal.returns-in_default
 returns-in_default c = let a = c.args in

@@ -44,7 +44,7 @@ AsksEver i o = (profile : ℕ) (s : List ℕ) → Asks profile s i o
 
 -- a row of the names asks on k operands: every call of the name that stands there
 abbrev pub AsksRow : ℕ → ℕ → ℕ → Option Ask → Type 0
-AsksRow profile row k o = (s : List ℕ) (name : Part) → StandsAt (bytes_of s name) row → Asks profile s (Call k name) o
+AsksRow profile row k o = (s : List ℕ) (name : Part) → StandsAt (bytes_of s name) (Some row) → Asks profile s (Call k name) o
 
 -- the last k of `count` values; their key under a code, and the mark of what it asks
 abbrev pub last_of : ℕ → ℕ → List ℕ → List ℕ

@@ -7,7 +7,7 @@ use Rattle.sheet.proofs.one_turn.Goals as goal
 -- `sheet::one_turn` meets its contract: what the step did decides the turn. Assumes nothing.
 
 pub noted_step-d-requires : goal.noted_step-d-requires
-noted_step-d-requires c = let a = c.args in (c.requires.0, rw c.item-found.ensures (name_in a.items.version a.items.bytes.now a.at.0), c.requires.1, c.requires.2)
+noted_step-d-requires c = let a = c.args in (c.requires.0, rw c.item-found.ensures (name_in a.items.version a.items.bytes.now a.at.0), c.requires.1)
 
 pub returns : goal.returns
 returns c = let a = c.args in

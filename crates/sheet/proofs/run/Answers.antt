@@ -3,4 +3,4 @@ use borrow.Author.Rules.{rules}
 use Rattle.sheet.proofs.run.Goals as goal
 
 pub run_on-requires : goal.run_on-requires
-run_on-requires c = (c.requires, search rules, c.new-memo.ensures c.args.table.now c.args.used, c.name_table-rows.ensures)
+run_on-requires c = (c.requires, search rules, c.new-memo.ensures c.args.table.now c.args.used)

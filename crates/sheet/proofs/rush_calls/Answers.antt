@@ -16,7 +16,7 @@ pub rush-r-requires : goal.rush-r-requires
 rush-r-requires c = (c.loop-went.invariant.ready, c.requires.1)
 
 pub call_at-requires : goal.call_at-requires
-call_at-requires c = ((c.rush-r.ensures 0).ready, c.requires.1, c.requires.2)
+call_at-requires c = ((c.rush-r.ensures 0).ready, c.requires.1)
 
 pub returns-in_default : goal.returns-in_default
 returns-in_default c = let a = c.args in

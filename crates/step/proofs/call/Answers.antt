@@ -16,14 +16,14 @@ pub returns-then-count-k : goal.returns-then-count-k
 returns-then-count-k c =
     let a = c.args in
     let l = rw c.wide-k.ensures at c.if-count-k.true in
-    refusing a.at a.count a.stack.now a.used a.table.now Stack c.stopped.ensures (called-short a.at a.count a.stack.now a.used a.table.now c.requires.0 a.keeps a.profile a.name.now a.template a.k l)
+    refusing a.at a.count a.stack.now a.used a.table.now Stack c.stopped.ensures (called-short a.at a.count a.stack.now a.used a.table.now c.requires a.keeps a.profile a.name.now a.template a.k l)
 
 pub returns-in_default : goal.returns-in_default
 returns-in_default c =
     let a = c.args in
     let l = rw c.wide-k.ensures at c.if-count-k.false in
     rw c.in_default.is
-    (does-as (call-goes a.at a.count a.stack.now a.used a.table.now c.requires.0 a.keeps a.profile a.name.now a.k l) (rw c.wide-k.ensures at c.call_on.ensures))
+    (does-as (call-goes a.at a.count a.stack.now a.used a.table.now c.requires a.keeps a.profile a.name.now a.k l) (rw c.wide-k.ensures at c.call_on.ensures))
 
 pub returns-then-used-t : goal.returns-then-used-t
 returns-then-used-t c =
@@ -31,11 +31,11 @@ returns-then-used-t c =
     let l = rw c.wide-k.ensures at c.if-count-k.false in
     rw c.in-Some.is
     (refusing a.at a.count a.stack.now a.used a.table.now NoSuchType c.stopped-then-used-t.ensures
-    (template-unknown a.at a.count a.stack.now a.used a.table.now c.requires.0 a.keeps a.profile a.name.now c.in-Some.t.0 a.k l c.if-used-t.true))
+    (template-unknown a.at a.count a.stack.now a.used a.table.now c.requires a.keeps a.profile a.name.now c.in-Some.t.0 a.k l c.if-used-t.true))
 
 pub returns : goal.returns
 returns c =
     let a = c.args in
     let l = rw c.wide-k.ensures at c.if-count-k.false in
     rw c.in-Some.is
-    (does-as (template-goes a.at a.count a.stack.now a.used a.table.now c.requires.0 a.keeps a.profile a.name.now c.in-Some.t.0 a.k l c.if-used-t.false) (rw c.wide-k.ensures at c.call_on-2.ensures))
+    (does-as (template-goes a.at a.count a.stack.now a.used a.table.now c.requires a.keeps a.profile a.name.now c.in-Some.t.0 a.k l c.if-used-t.false) (rw c.wide-k.ensures at c.call_on-2.ensures))
