@@ -7,7 +7,7 @@ ghost use Rattle.frame.specs.inner.Items.{sheet_of, sheet_in, short_of, in_items
 ghost use Rattle.frame.specs.inner.Payloads.{mark_read, name_read, number_read, placed, short_as};
 
 use answer::{Place, TypeNo};
-use cast::{wide, wide32};
+use cast::wide;
 
 // The versions that are read, the bytes of the header, and the most bytes that may follow it.
 pub const VERSION_1: u8 = 1;
@@ -146,7 +146,7 @@ pub fn header(sheet: &[u8]) -> bool
     if !known_version(sheet[0]) {
         return false;
     }
-    let len = wide(sheet[1]) * 256 + wide(sheet[2]);
+    let len = wide::<usize>(sheet[1]) * 256 + wide::<usize>(sheet[2]);
     if LONGEST < len {
         return false;
     }
@@ -323,7 +323,7 @@ impl<'a> Items<'a> {
         if items.len() <= first {
             return no_item(Item::End, at);
         }
-        let len = wide(items[first]);
+        let len: usize = wide(items[first]);
         if len == 0 {
             return no_item(Item::Bad, at);
         }

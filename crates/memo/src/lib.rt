@@ -16,7 +16,7 @@ ghost use Rattle.memo.specs.inner.Memo.{digit_of, digits, key_of, Recalls, Hinte
 ghost use Rattle.memo.specs.inner.Asking.{Small, runs_on, Asks, AsksEver, AsksRow, Keyed, ItemKeyed};
 ghost use Rattle.memo.specs.inner.Quick.{Answers, Quick, QuickEver, QuickAt, CallAt};
 
-use cast::{wide, wide32, word64};
+use cast::{wide, word64};
 use frame::{Item, Items, Part, Short, ShortItem};
 use key::{Ask, Key};
 use names::{NamedRule, Names};
@@ -31,20 +31,20 @@ const FIRST_HINT: usize = 256;
 const HINTS: usize = 64;
 
 // How many operators there are, below which number the rules of builtins are, and how many operands of a call are looked at.
-const BINARY_OPS: u32 = 18;
+const BINARY_OPS: u8 = 18;
 
-const UNARY_OPS: u32 = 5;
+const UNARY_OPS: u8 = 5;
 
 const RULES: u8 = 128;
 
 const OPERANDS: u8 = 3;
 
 // The code of the first of each in the memo.
-const BINARY_CODES: u32 = 1;
+const BINARY_CODES: u64 = 1;
 
-const UNARY_CODES: u32 = 19;
+const UNARY_CODES: u64 = 19;
 
-const BUILTIN_CODES: u32 = 24;
+const BUILTIN_CODES: u64 = 24;
 
 // How a slot is found, and a hint.
 const MIX_CODE: u64 = 9;
@@ -99,8 +99,8 @@ fn hint_of(name: &[u8]) -> usize
     if length == 0 {
         return FIRST_HINT;
     }
-    let ends = wide(name[0]) * MIX_BEGIN + wide(name[length - 1]) * MIX_END;
-    let mix = ends + wide(name[length / 2]) * MIX_MIDDLE + length % HINTS;
+    let ends = wide::<usize>(name[0]) * MIX_BEGIN + wide::<usize>(name[length - 1]) * MIX_END;
+    let mix = ends + wide::<usize>(name[length / 2]) * MIX_MIDDLE + length % HINTS;
     FIRST_HINT + mix % HINTS
 }
 
@@ -172,12 +172,11 @@ impl Memo {
 fn asked_unary(op: u8) -> Option<Ask>
     ensures { AsksEver (Unary op) result }
 {
-    let op = wide32(op);
     if UNARY_OPS <= op {
         return None;
     }
     Some(Ask {
-        code: word64(UNARY_CODES + op),
+        code: UNARY_CODES + wide::<u64>(op),
         operands: 1,
         runs: false,
     })
@@ -186,12 +185,11 @@ fn asked_unary(op: u8) -> Option<Ask>
 fn asked_binary(op: u8) -> Option<Ask>
     ensures { AsksEver (Binary op) result }
 {
-    let op = wide32(op);
     if BINARY_OPS <= op {
         return None;
     }
     Some(Ask {
-        code: word64(BINARY_CODES + op),
+        code: BINARY_CODES + wide::<u64>(op),
         operands: 2,
         runs: false,
     })
@@ -211,7 +209,7 @@ fn asked_row(names: &Names, profile: u32, row: usize, k: u8) -> Option<Ask>
         return None;
     }
     Some(Ask {
-        code: word64(BUILTIN_CODES + wide32(rule)),
+        code: BUILTIN_CODES + wide::<u64>(rule),
         operands: wide(k),
         runs: running,
     })

@@ -13,7 +13,7 @@ ghost use Rattle.call_ty.specs.inner.Codes.{Under};
 ghost use Rattle.step.specs.Effect.{bytes_of, entry_of, push_effect, is_valued, calling, take_effect, effect_of};
 ghost use Rattle.step.specs.inner.Code.{state_of, turned_away, Arity, operator_outcome, operator_effect, called_effect, Ready, Pushes, Settles, Does};
 
-use cast::{wide, wide32};
+use cast::wide;
 use frame::{Item, Items};
 use names::Names;
 use table::{Answer, Entry, Place, Reason, Refusal, TypeNo};
@@ -241,10 +241,10 @@ fn entry(kind: u8, p: u32, q: u8, elem: u8) -> Entry
     ensures { result ≡ entry_of kind p q elem }
 {
     Entry {
-        kind: wide32(kind),
+        kind: wide(kind),
         p,
-        q: wide32(q),
-        elem: wide32(elem),
+        q: wide(q),
+        elem: wide(elem),
     }
 }
 

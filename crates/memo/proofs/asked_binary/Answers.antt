@@ -8,5 +8,5 @@ use Rattle.memo.proofs.asked_binary.Goals as goal
 pub returns : goal.returns
 returns c = λ profile s.
     let op = c.args.op in
-    let e : c.word64.result ≡ op + 1 = omega (arith, c.word64.ensures, c.wide32-op.ensures) in
-    rw e (binary-asks profile s op (omega (arith, c.wide32-op.ensures, c.if-op-ge-BINARY_OPS.false)))
+    let e : 1 + c.wide.result ≡ op + 1 = omega (arith, c.wide.ensures) in
+    rw e (binary-asks profile s op c.if-op-ge-BINARY_OPS.false)

@@ -8,4 +8,4 @@ use Rattle.memo.proofs.asked_row.Goals as goal
 pub returns : goal.returns
 returns c = let a = c.args in
     let n = neither _ _ c.if-k.false in
-    row-asked a.profile a.row a.k c.in-Some.field-0 c.word64.result c.wide.result (ltb-false _ _ n.0) (ltb-false _ _ n.1) c.if-rule-ge-RULES.false (sym c.rule_at.ensures ∙ c.in-Some.is) (c.word64.ensures ∙ ap (λ (x : ℕ). 24 + x) c.wide32.ensures) c.wide.ensures
+    row-asked a.profile a.row a.k c.in-Some.field-0 _ c.wide-2.result (ltb-false _ _ n.0) (ltb-false _ _ n.1) c.if-rule-ge-RULES.false (sym c.rule_at.ensures ∙ c.in-Some.is) (ap (λ (x : ℕ). 24 + x) c.wide.ensures) c.wide-2.ensures

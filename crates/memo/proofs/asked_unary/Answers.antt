@@ -8,5 +8,5 @@ use Rattle.memo.proofs.asked_unary.Goals as goal
 pub returns : goal.returns
 returns c = λ profile s.
     let op = c.args.op in
-    let e : c.word64.result ≡ op + 19 = omega (arith, c.word64.ensures, c.wide32-op.ensures) in
-    rw e (unary-asks profile s op (omega (arith, c.wide32-op.ensures, c.if-op-ge-UNARY_OPS.false)))
+    let e : 19 + c.wide.result ≡ op + 19 = omega (arith, c.wide.ensures) in
+    rw e (unary-asks profile s op c.if-op-ge-UNARY_OPS.false)
