@@ -4,8 +4,8 @@ use mathlib.Core.Path.{◌≡◌, refl, sym, ◌∙◌, ap}
 use mathlib.Core.Bool.{Bool, true, false, cond, not}
 use mathlib.Core.Logic.{◌≢◌}
 use lib.Dec.{eqb, ltb}
-use borrow.Author.Tests.{eqb-true, eqb-false, ltb-true, ltb-false}
-use Rattle.std.specs.Prelude.{Some, None, is_some, unwrap_or}
+use borrow.Author.Tests.{eqb-true, eqb-false, ne_eqb, ltb-true, ltb-false}
+use Rattle.std.specs.Prelude.{Option, Some, None, is_some, unwrap_or}
 use Rattle.conv.specs.Rank.{both, none, rank_of, found}
 use Rattle.conv.proofs.Finite.{same, same-eq, below₂}
 use Rattle.conv.proofs.Ranks.{rank-from, rank-to}
@@ -30,6 +30,9 @@ found-some r s e = go (eqb r none) refl e
     go : (b : Bool) → eqb r none ≡ b → cond b None (Some r) ≡ Some s → s ≢ none
     go true q p = absurd cc
     go false q p = λ k. eqb-false r none q (found-it r s e ∙ k)
+
+pub found-there : (r : ℕ) → r ≢ none → found r ≡ Some r
+found-there r h = ap (λ (b : Bool). cond {A = Option ℕ} b None (Some r)) (ne_eqb r none h)
 
 -- whether it answers something
 pub found-is : (r : ℕ) → is_some (found r) ≡ not (eqb r none)

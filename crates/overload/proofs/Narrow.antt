@@ -2,6 +2,7 @@
 -- Assumes nothing.
 use Rattle.std.proofs.Common.{◌≡◌, ℕ, zero, suc, ◌+◌, ◌*◌, ◌/◌, ◌%◌, ◌<◌, ◌≤◌, Bool, true, false, T, eqb, ltb, ◌≢◌, List, [], ◌∷◌, map, length, get_or, drop, sym, refl, ap, ◌∙◌, subst, le_of_suc-le-suc, add-one, arith, ltb→lt, drop_of_length-le, drop-cons, eq-eqb, ne_eqb}
 use lib.Bits.{bit_and}
+use Rattle.std.specs.Prelude.{Option, Some, None, MatchOption, ⊤}
 use Rattle.conv.specs.Rank.{both, converts}
 use Rattle.conv.proofs.Finite.{both_left, both_right}
 use Rattle.overload.specs.Overload.{fits}
@@ -10,8 +11,8 @@ use Rattle.overload.specs.inner.Code.{shape_no, operand, size_of_no, mem_size, f
 use Rattle.overload.proofs.Preference.{fine}
 use Rattle.overload.proofs.Families.{good, Fair, every, mem-size}
 use Rattle.overload.proofs.Fitting.{fine-at}
-use Rattle.overload.proofs.Sets.{has-and, has-none, has_all}
-use Rattle.overload.proofs.Slots.{form-back, form-below, component-back, component-below, form-digit, component-digit, slot-no, slot-sets, slot-T-is, slot-I-any, allows-all, allows-none}
+use Rattle.overload.proofs.Sets.{has-and, has_all}
+use Rattle.overload.proofs.Slots.{form-back, form-below, component-back, component-below, form-digit, component-digit, slot-no, slot-sets, slot-T-is, slot-I-any}
 
 -- do the operands from k on fit the parameters from k on?
 abbrev pub rest_at : ℕ → ℕ → ℕ → ℕ → List ℕ → ℕ → Bool
@@ -28,14 +29,14 @@ unfolding fits
 rest_end f n t i xs k hp hx = rw (drop_of_length-le (family_of f).params hp, drop_of_length-le xs hx)
 
 -- what the loop carries
-pub record Narrowed (f n : ℕ) (xs : List ℕ) (j m v k : ℕ) : Type 0 where
+pub record Narrowed (f n : ℕ) (xs : List ℕ) (j : Option ℕ) (m v k : ℕ) : Type 0 where
   pub within : k ≤ length xs
-  pub join : j < 8
+  pub join : MatchOption j ⊤ (λ s. s < 7)
   pub rest : (t i : ℕ) → t < 7 → i < 7 → both (allows j t) (both (has m t) (both (has v i) (rest_at f n t i xs k))) ≡ fits_at (family_of f) n t i xs
 
-pub narrowed-as : {f n : ℕ} {xs : List ℕ} {j j' m m' v v' k : ℕ} → j ≡ j' → m ≡ m' → v ≡ v' → Narrowed f n xs j' m' v' k → Narrowed f n xs j m v k
+pub narrowed-as : {f n : ℕ} {xs : List ℕ} {j j' : Option ℕ} {m m' v v' k : ℕ} → j ≡ j' → m ≡ m' → v ≡ v' → Narrowed f n xs j' m' v' k → Narrowed f n xs j m v k
 narrowed-as {f} {n} {xs} {j} {j'} {m} {m'} {v} {v'} {k} a b c g =
-    subst (λ (x : ℕ). Narrowed f n xs x m v k) (sym a) (subst (λ (x : ℕ). Narrowed f n xs j' x v k) (sym b) (subst (λ (x : ℕ). Narrowed f n xs j' m' x k) (sym c) g))
+    subst (λ (x : Option ℕ). Narrowed f n xs x m v k) (sym a) (subst (λ (x : ℕ). Narrowed f n xs j' x v k) (sym b) (subst (λ (x : ℕ). Narrowed f n xs j' m' x k) (sym c) g))
 
 every-shape : (z : Size) (ps : List Pattern) → T (every (λ p. ltb (shape_no (form_at p.form z)) 13) ps) → (k : ℕ) → k < length ps → shape_no (form_at (get_or ps k N).form z) < 13
 unfolding every
@@ -139,44 +140,46 @@ module _ (f n : ℕ) (xs : List ℕ) (hn : n < 41) (mn : T (mem_size (size_of_no
           ∙ ap (λ (b : Bool). both (both b (reaches (get_or xs k 0 % 7) (component_at (component_of_no (digit_of f (2 * k + 2))) t i))) (rest_at f n t i xs (k + 1))) (eq-eqb _ _ h)
           ∙ ap (λ (b : Bool). both b (rest_at f n t i xs (k + 1))) (slot-sets (digit_of f (2 * k + 2)) (get_or xs k 0 % 7) t i)
 
-  pub start : Narrowed f n xs 7 127 127 0
+  pub start : Narrowed f n xs None 127 127 0
   unfolding both
   start =
       record {
         within = omega arith;
-        join = omega arith;
-        rest = λ t i ht hi. rw (allows-all t, has_all t ht, has_all i hi);
+        join = tt;
+        rest = λ t i ht hi. rw (has_all t ht, has_all i hi);
       }
 
-  module _ (j m v k : ℕ) (g : Narrowed f n xs j m v k) (hk : k < length xs) (hx : get_or xs k 0 < 256) where
-    pub apart : get_or xs k 0 / 7 ≢ asked_of (digit_of f (2 * k + 1)) n → (t i : ℕ) → t < 7 → i < 7 → fits_at (family_of f) n t i xs ≡ both (has 0 t) (has 0 i)
+  module _ (j : Option ℕ) (m v k : ℕ) (g : Narrowed f n xs j m v k) (hk : k < length xs) (hx : get_or xs k 0 < 256) where
+    pub apart : get_or xs k 0 / 7 ≢ asked_of (digit_of f (2 * k + 1)) n → (t i : ℕ) → t < 7 → i < 7 → fits_at (family_of f) n t i xs ≡ false
     unfolding both
     apart h t i ht hi =
         sym (g.rest t i ht hi)
         ∙ ap (λ (b : Bool). both (allows j t) (both (has m t) (both (has v i) b))) (other k hk hx t i ht hi h)
         ∙ lost (allows j t) (has m t) (has v i) (rest_at f n t i xs (k + 1))
-        ∙ sym (rw (has-none t ht))
 
     module _ (h : get_or xs k 0 / 7 ≡ asked_of (digit_of f (2 * k + 1)) n) where
       -- at T
-      module _ (e : digit_of f (2 * k + 2) ≡ 9) (r : ℕ) (er : (t : ℕ) → t < 7 → allows r t ≡ both (allows j t) (reaches (get_or xs k 0 % 7) t)) where
-        narrow-T : (t i : ℕ) → t < 7 → i < 7 → both (allows r t) (both (has m t) (both (has v i) (rest_at f n t i xs (k + 1)))) ≡ fits_at (family_of f) n t i xs
+      module _ (e : digit_of f (2 * k + 2) ≡ 9) where
+        narrow-T : (t i : ℕ) → t < 7 → i < 7
+            → both (both (allows j t) (reaches (get_or xs k 0 % 7) t)) (both (has m t) (both (has v i) (rest_at f n t i xs (k + 1)))) ≡ fits_at (family_of f) n t i xs
         narrow-T t i ht hi =
-            ap (λ (c : Bool). both c (both (has m t) (both (has v i) (rest_at f n t i xs (k + 1))))) (er t ht ∙ ap (both (allows j t)) (sym (slot-T-is (digit_of f (2 * k + 2)) (get_or xs k 0 % 7) t e)))
+            ap (λ (c : Bool). both c (both (has m t) (both (has v i) (rest_at f n t i xs (k + 1))))) (ap (both (allows j t)) (sym (slot-T-is (digit_of f (2 * k + 2)) (get_or xs k 0 % 7) t e)))
             ∙ step-T (allows j t) (has m t) (has v i) (slot_t (digit_of f (2 * k + 2)) (get_or xs k 0 % 7) t) (slot_i (digit_of f (2 * k + 2)) (get_or xs k 0 % 7) i) (rest_at f n t i xs (k + 1)) (slot-I-any (digit_of f (2 * k + 2)) (get_or xs k 0 % 7) i (λ q. omega arith))
             ∙ ap (λ (c : Bool). both (allows j t) (both (has m t) (both (has v i) c))) (sym (same k hk hx t i ht hi h))
             ∙ g.rest t i ht hi
 
-        pub next-T : r < 8 → Narrowed f n xs r m v (k + 1)
-        next-T hr = record { within = omega arith; join = hr; rest = narrow-T }
+        pub next-T : (r : ℕ) → ((t : ℕ) → t < 7 → reaches r t ≡ both (allows j t) (reaches (get_or xs k 0 % 7) t)) → r < 7 → Narrowed f n xs (Some r) m v (k + 1)
+        next-T r er hr =
+            record {
+              within = omega arith;
+              join = hr;
+              rest = λ t i ht hi. ap (λ (c : Bool). both c (both (has m t) (both (has v i) (rest_at f n t i xs (k + 1))))) (er t ht) ∙ narrow-T t i ht hi;
+            }
 
         -- where nothing joins nothing fits
-        pub no_join : r ≡ 255 → (t i : ℕ) → t < 7 → i < 7 → fits_at (family_of f) n t i xs ≡ both (has 0 t) (has 0 i)
+        pub no_join : ((t : ℕ) → t < 7 → both (allows j t) (reaches (get_or xs k 0 % 7) t) ≡ false) → (t i : ℕ) → t < 7 → i < 7 → fits_at (family_of f) n t i xs ≡ false
         unfolding both
-        no_join q t i ht hi =
-            sym (narrow-T t i ht hi)
-            ∙ ap (λ (c : Bool). both c (both (has m t) (both (has v i) (rest_at f n t i xs (k + 1))))) (ap (λ (l : ℕ). allows l t) q ∙ allows-none t)
-            ∙ sym (rw (has-none t ht))
+        no_join q t i ht hi = sym (narrow-T t i ht hi) ∙ ap (λ (c : Bool). both c (both (has m t) (both (has v i) (rest_at f n t i xs (k + 1))))) (q t ht)
 
       -- at another component
       module _ (a b : ℕ) (ea : (t : ℕ) → t < 7 → has a t ≡ slot_t (digit_of f (2 * k + 2)) (get_or xs k 0 % 7) t) (eb : (i : ℕ) → i < 7 → has b i ≡ slot_i (digit_of f (2 * k + 2)) (get_or xs k 0 % 7) i) where
@@ -190,7 +193,7 @@ module _ (f n : ℕ) (xs : List ℕ) (hn : n < 41) (mn : T (mem_size (size_of_no
         pub next-other : Narrowed f n xs j (bit_and m a) (bit_and v b) (k + 1)
         next-other = record { within = omega arith; join = g.join; rest = narrow-other }
 
-  module _ (j m v k : ℕ) (g : Narrowed f n xs j m v k) (hk : length xs ≤ k) (a : ℕ) (ea : (t : ℕ) → t < 7 → has a t ≡ allows j t) where
+  module _ (j : Option ℕ) (m v k : ℕ) (g : Narrowed f n xs j m v k) (hk : length xs ≤ k) (a : ℕ) (ea : (t : ℕ) → t < 7 → has a t ≡ allows j t) where
     pub finish : (t i : ℕ) → t < 7 → i < 7 → fits_at (family_of f) n t i xs ≡ both (has (bit_and m a) t) (has v i)
     finish t i ht hi =
         sym (g.rest t i ht hi)

@@ -11,8 +11,7 @@ use Rattle.overload.specs.Rows.{row_at, operand_count}
 use Rattle.overload.specs.inner.Code.{shape_of_no, shape_no, operand, code_of, kept, judge_kept, out_of, judged_of}
 use Rattle.overload.specs.declared.Out.{Out}
 use Rattle.overload.specs.declared.Out.TheVariants.{Plain, Frexp, Modf}
-use Rattle.overload.specs.declared.Resolution.{Resolution}
-use Rattle.overload.specs.declared.Resolution.TheVariants.{Gives, NoneFits}
+use Rattle.std.specs.Prelude.{Option, Some, None}
 use Rattle.overload.proofs.Operands.{code-of, and_left}
 use Rattle.overload.proofs.Resolving.{shape-numbers, beyond}
 use Rattle.overload.proofs.Results.{gives-formed}
@@ -97,15 +96,15 @@ out_one (Modf x) (Modf y) f t g u e = ap Modf (same_number x y (small-fract x (f
 gives_one : {R Q : Ty} → gives R ≡ gives Q → R ≡ Q
 gives_one e = cc
 
-pub resolve-one : (row : ℕ) (running : Bool) (xs : List ℕ) (r s : Resolution) → judged_of r ≡ judge_kept running (row_at row) (map operand xs) → judged_of s ≡ judge_kept running (row_at row) (map operand xs) → r ≡ s
+pub resolve-one : (row : ℕ) (running : Bool) (xs : List ℕ) (r s : Option Out) → judged_of r ≡ judge_kept running (row_at row) (map operand xs) → judged_of s ≡ judge_kept running (row_at row) (map operand xs) → r ≡ s
 unfolding judged_of
-resolve-one row running xs (Gives a) (Gives b) p q =
+resolve-one row running xs (Some a) (Some b) p q =
     let f = gives-formed row (kept running) (map operand xs) (out_of a) (sym p) in
     let g = gives-formed row (kept running) (map operand xs) (out_of b) (sym q) in
-    ap Gives (out_one a b f.0 f.1 g.0 g.1 (gives_one (p ∙ sym q)))
-resolve-one row running xs (Gives a) NoneFits p q = absurd (let e = p ∙ sym q in let z : ◌≡◌ {A = ℕ} 0 1 = cc in omega arith)
-resolve-one row running xs NoneFits (Gives b) p q = absurd (let e = p ∙ sym q in let z : ◌≡◌ {A = ℕ} 0 1 = cc in omega arith)
-resolve-one row running xs NoneFits NoneFits p q = refl
+    ap Some (out_one a b f.0 f.1 g.0 g.1 (gives_one (p ∙ sym q)))
+resolve-one row running xs (Some a) None p q = absurd (let e = p ∙ sym q in let z : ◌≡◌ {A = ℕ} 0 1 = cc in omega arith)
+resolve-one row running xs None (Some b) p q = absurd (let e = p ∙ sym q in let z : ◌≡◌ {A = ℕ} 0 1 = cc in omega arith)
+resolve-one row running xs None None p q = refl
 
 pub operand-count-one : (row r s : ℕ) → r ≡ operand_count (row_at row) → s ≡ operand_count (row_at row) → r ≡ s
 operand-count-one row r s p q = p ∙ sym q

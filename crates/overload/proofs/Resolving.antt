@@ -1,11 +1,11 @@
 -- The ways out of the engine, each as a judgment of demand 3: first of one family, then of a row. Assumes nothing.
-use Rattle.std.proofs.Common.{◌≡◌, ℕ, zero, suc, ◌+◌, ◌-◌, ◌*◌, ◌/◌, ◌%◌, ◌<◌, ◌≤◌, Bool, true, false, T, eqb, ltb, ◌≢◌, List, [], ◌∷◌, map, length, get_or, sym, refl, ap, ◌∙◌, subst, ⊎_elim, le_of_suc-le-suc, eq-or-lt_of_le, add-one, arith, eqb→eq, ltb→lt, le-ltb, eq-eqb, ne_eqb}
+use Rattle.std.proofs.Common.{◌≡◌, ℕ, zero, suc, ◌+◌, ◌-◌, ◌*◌, ◌/◌, ◌%◌, ◌<◌, ◌≤◌, max, Bool, true, false, cond, T, eqb, ltb, ◌≢◌, List, [], ◌∷◌, map, length, get_or, sym, refl, ap, ◌∙◌, subst, ⊎_elim, le_of_suc-le-suc, eq-or-lt_of_le, add-one, arith, eqb→eq, ltb→lt, le-ltb, eq-eqb, ne_eqb}
 use mathlib.Core.List.Memᴰ
 use mathlib.Core.List.{Memᴰ}
 use lib.Dec.{eqb_refl}
 use lib.Bits.{bit_and}
 use lib.ListN.{length-map}
-use borrow.Author.Tests.{eqb-false}
+use borrow.Author.Tests.{eqb-true, eqb-false}
 use Rattle.conv.specs.Types.{Ty}
 use Rattle.conv.specs.Types.Ty.{frexp, modf}
 use Rattle.conv.specs.Rank.{pick, both, none, Shape, form_of, shape_of, same_shape, made}
@@ -19,12 +19,9 @@ use Rattle.overload.specs.Rows.{Size, size, Form, Wrap, Family, Component, form_
 use Rattle.overload.specs.Rows.Form.{sized, left}
 use Rattle.overload.specs.Rows.Component.{of_t, of_i, exp_t, just}
 use Rattle.overload.specs.Rows.Wrap.{bare, in_frexp, in_modf}
-use Rattle.overload.specs.inner.Code.{shape_of_no, shape_no, operand, size_no, size_of_no, same_size, mem_size, sizes_of, form_no, form_of_no, component_no, wrap_no, asked_of, family_of, first_param, last_param, pivot_no, size_at, encode, digit_of, has, member, first_with, preference, fits_at, first_x, last_x, forms_of, place_of, stop_of, no_place, kept, out_of, tried_of, judged_of}
+use Rattle.overload.specs.inner.Code.{shape_of_no, shape_no, operand, size_no, size_of_no, same_size, mem_size, sizes_of, form_no, form_of_no, component_no, wrap_no, asked_of, family_of, first_param, last_param, pivot_no, size_at, encode, digit_of, has, member, first_with, preference, fits_at, first_x, last_x, forms_of, place_of, placed, stop_of, no_place, kept, out_of, judged_of}
 use Rattle.overload.specs.declared.Out.{Out}
-use Rattle.overload.specs.declared.Tried.{Tried}
-use Rattle.overload.specs.declared.Tried.TheVariants.{Fits, Not}
-use Rattle.overload.specs.declared.Resolution.{Resolution}
-use Rattle.overload.specs.declared.Resolution.TheVariants.{Gives, NoneFits}
+use Rattle.std.specs.Prelude.{Option, Some, None}
 use Rattle.overload.proofs.Preference.{Sized, or_left, or_right, form_small}
 use Rattle.overload.proofs.First.{same_first}
 use Rattle.overload.proofs.Families.{Good, good, good-in, Fair, plain_c, size_by, only_no, mem-size, shape-eq}
@@ -66,15 +63,6 @@ first-at xs = shape_at xs 0
 
 pub last-at : (xs : List ℕ) → shape_of (last_ty (map operand xs)) ≡ shape_of_no (last_x xs / 7)
 last-at xs = ap (λ (k : ℕ). shape_of (get_or (map operand xs) (k - 1) nobody)) (length-map xs operand) ∙ shape_at xs (length xs - 1)
-
--- where there is no operand
-pub no-first : (xs : List ℕ) → length xs ≡ 0 → 0 ≡ first_x xs / 7
-no-first [] e = refl
-no-first (x ∷ xs) e = absurd (omega arith)
-
-pub no_last : (xs : List ℕ) → length xs ≡ 0 → 0 ≡ last_x xs / 7
-no_last [] e = refl
-no_last (x ∷ xs) e = absurd (omega arith)
 
 number_at : (k : ℕ) → k < 13 → (s : Shape) → s ≡ shape_of_no k → shape_no s ≡ k
 number_at k h s e = ap shape_no e ∙ eqb→eq (shape_no (shape_of_no k)) k (shape-numbers k h)
@@ -218,10 +206,15 @@ module _ (t : Ty) where
   wrapped-modf in_frexp e d = absurd (d refl)
   wrapped-modf in_modf e d = refl
 
+both_none : (a : Bool) → both a false ≡ false
+unfolding both
+both_none true = refl
+both_none false = refl
+
 -- ONE FAMILY: it does not fit, or the preferred overload's result
 
-abbrev pub Family-judged : ℕ → Bool → List ℕ → Tried → Type 0
-Family-judged f running xs r = Resolved (passing (kept running) (listed (of_family (family_of f)))) (map operand xs) (tried_of r)
+abbrev pub Family-judged : ℕ → Bool → List ℕ → Option Out → Type 0
+Family-judged f running xs r = Resolved (passing (kept running) (listed (of_family (family_of f)))) (map operand xs) (judged_of r)
 
 module _ (f : ℕ) (running : Bool) (xs : List ℕ) where
   abbrev fam : Family
@@ -234,22 +227,30 @@ module _ (f : ℕ) (running : Bool) (xs : List ℕ) where
   unfolding pivot_no
   fam-size = refl
 
-  judged : (r : Tried) → Resolved (listed (of_family fam)) (map operand xs) (tried_of r) → Family-judged f running xs r
-  judged r q = narrow-resolved (kept running) (family_of f) running (kept_of running f) (map operand xs) (tried_of r) q
+  judged : (r : Option Out) → Resolved (listed (of_family fam)) (map operand xs) (judged_of r) → Family-judged f running xs r
+  judged r q = narrow-resolved (kept running) (family_of f) running (kept_of running f) (map operand xs) (judged_of r) q
 
-  pub not-so-many : digit_of f 0 ≢ length xs → Family-judged f running xs Not
-  unfolding tried_of
-  not-so-many h = judged Not (count-apart fam fam-good (map operand xs) (λ e. h (count-digit f ∙ sym e ∙ length-map xs operand)))
+  pub not-so-many : digit_of f 0 ≢ length xs → Family-judged f running xs None
+  unfolding judged_of
+  not-so-many h = judged None (count-apart fam fam-good (map operand xs) (λ e. h (count-digit f ∙ sym e ∙ length-map xs operand)))
 
   module _ (n : ℕ) (e : size_of_no n ≡ size_of_xs (family_of f) (map operand xs)) where
-    pub not-that-size : mem_size (size_of_no n) (family_of f).sizes ≡ false → Family-judged f running xs Not
-    unfolding tried_of
+    pub not-that-size : mem_size (size_of_no n) (family_of f).sizes ≡ false → Family-judged f running xs None
+    unfolding judged_of
     not-that-size h =
-        judged Not
+        judged None
         (size-apart fam fam-good (map operand xs)
         (λ m.
         let k = subst (λ (z : Size). Memᴰ z (family_of f).sizes) (sym (e ∙ fam-size)) m in
         subst T h (size-mem (size_of_no n) (family_of f).sizes ((good f).fair (size_of_no n) k).sized k)))
+
+    -- at no T and no I does anything fit
+    pub nowhere : T (mem_size (size_of_no n) (family_of f).sizes) → ((t i : ℕ) → t < 7 → i < 7 → fits_at (family_of f) n t i xs ≡ false) → Family-judged f running xs None
+    unfolding judged_of both first_with
+    nowhere mn law =
+        judged None
+        (no-T fam fam-good (map operand xs) (size_of_no n) (e ∙ fam-size) (mem-size (size_of_no n) (family_of f).sizes mn) (λ t. false) (λ i. false) law
+        (same_first (takes fam.set (λ t. false)) (λ t. false) (λ t h. both_none (member t fam.set))))
 
     module _ (mn : T (mem_size (size_of_no n) (family_of f).sizes)) (P Q : ℕ) (law : (t i : ℕ) → t < 7 → i < 7 → fits_at (family_of f) n t i xs ≡ both (has P t) (has Q i)) where
       m : Memᴰ (size_of_no n) (family_of f).sizes
@@ -259,13 +260,13 @@ module _ (f : ℕ) (running : Bool) (xs : List ℕ) where
       first-in : (set : List ℕ) (a s : ℕ) → ((t : ℕ) → t < 7 → has a t ≡ member t set) → first_with preference (takes set (has s)) ≡ first_with preference (has (bit_and a s))
       first-in set a s e = same_first _ _ (λ t h. ap (λ (c : Bool). both c (has s t)) (sym (e t h)) ∙ sym (has-and a s t))
 
-      pub not-at-T : (a : ℕ) → ((t : ℕ) → t < 7 → has a t ≡ member t (left_set running (family_of f).set)) → first_with preference (has (bit_and a P)) ≡ none → Family-judged f running xs Not
-      unfolding tried_of
-      not-at-T a ea q = judged Not (no-T fam fam-good (map operand xs) (size_of_no n) (e ∙ fam-size) m (has P) (has Q) law (first-in (left_set running (family_of f).set) a P ea ∙ q))
+      pub not-at-T : (a : ℕ) → ((t : ℕ) → t < 7 → has a t ≡ member t (left_set running (family_of f).set)) → first_with preference (has (bit_and a P)) ≡ none → Family-judged f running xs None
+      unfolding judged_of
+      not-at-T a ea q = judged None (no-T fam fam-good (map operand xs) (size_of_no n) (e ∙ fam-size) m (has P) (has Q) law (first-in (left_set running (family_of f).set) a P ea ∙ q))
 
-      pub not-at-I : (b : ℕ) → ((i : ℕ) → i < 7 → has b i ≡ member i (family_of f).second) → first_with preference (has (bit_and b Q)) ≡ none → Family-judged f running xs Not
-      unfolding tried_of
-      not-at-I b eb q = judged Not (no-I fam fam-good (map operand xs) (size_of_no n) (e ∙ fam-size) m (has P) (has Q) law (first-in (family_of f).second b Q eb ∙ q))
+      pub not-at-I : (b : ℕ) → ((i : ℕ) → i < 7 → has b i ≡ member i (family_of f).second) → first_with preference (has (bit_and b Q)) ≡ none → Family-judged f running xs None
+      unfolding judged_of
+      not-at-I b eb q = judged None (no-I fam fam-good (map operand xs) (size_of_no n) (e ∙ fam-size) m (has P) (has Q) law (first-in (family_of f).second b Q eb ∙ q))
 
       module _ (a b : ℕ) (ea : (t : ℕ) → t < 7 → has a t ≡ member t (left_set running (family_of f).set)) (eb : (i : ℕ) → i < 7 → has b i ≡ member i (family_of f).second)
           (t i : ℕ) (et : t ≡ first_with preference (has (bit_and a P))) (ei : i ≡ first_with preference (has (bit_and b Q))) (nt : t ≢ none) (ni : i ≢ none) where
@@ -281,26 +282,47 @@ module _ (f : ℕ) (running : Bool) (xs : List ℕ) where
         pub I-small : i < 7
         I-small = small-I fam fam-good (map operand xs) (size_of_no n) (e ∙ fam-size) m (has P) (has Q) law t i first-T first-I nt ni
 
-        pub it-fits : (o : Out) → out_of o ≡ wrapped (family_of f).wrap (pattern_ty (size_of_no n) t i (family_of f).result) → Family-judged f running xs (Fits o)
-        unfolding tried_of Resolved
+        pub it-fits : (o : Out) → out_of o ≡ wrapped (family_of f).wrap (pattern_ty (size_of_no n) t i (family_of f).result) → Family-judged f running xs (Some o)
+        unfolding judged_of Resolved
         it-fits o r =
-            judged (Fits o)
+            judged (Some o)
             (overload (family_of f) t i (size_of_no n), first-preferred fam fam-good (map operand xs) (size_of_no n) (e ∙ fam-size) m (has P) (has Q) law t i first-T first-I nt ni, r)
+
+-- A PLACE as the code answers it
+
+pub placed-nothing : (k : ℕ) → placed k ≡ None → k ≡ no_place
+placed-nothing k e = go (eqb k no_place) refl e
+  where
+    go : (b : Bool) → eqb k no_place ≡ b → cond b None (Some k) ≡ None → k ≡ no_place
+    go true q p = eqb-true k no_place q
+    go false q p = absurd cc
+
+pub placed-it : (k s : ℕ) → placed k ≡ Some s → k ≡ s
+placed-it k s e = go (eqb k no_place) e
+  where
+    go : (b : Bool) → cond b None (Some k) ≡ Some s → k ≡ s
+    go true p = absurd cc
+    go false p = cc
+
+pub placed-some : (k s : ℕ) → placed k ≡ Some s → s ≢ no_place
+placed-some k s e = go (eqb k no_place) refl e
+  where
+    go : (b : Bool) → eqb k no_place ≡ b → cond b None (Some k) ≡ Some s → s ≢ no_place
+    go true q p = absurd cc
+    go false q p = λ l. eqb-false k no_place q (placed-it k s e ∙ l)
 
 -- A ROW
 
-abbrev pub Row-judged : ℕ → Bool → List ℕ → Resolution → Type 0
+abbrev pub Row-judged : ℕ → Bool → List ℕ → Option Out → Type 0
 Row-judged row running xs r = Resolved (passing (kept running) (of_row (row_at row))) (map operand xs) (judged_of r)
 
 -- the family at a place of a row does not fit
 abbrev pub Out-of : ℕ → Bool → List ℕ → ℕ → Type 0
 Out-of row running xs k = Resolved (passing (kept running) (listed (of_family (family_at row k)))) (map operand xs) none_fits
 
--- the places of the families before k that are tried do not fit
-pub record Trying (row : ℕ) (running : Bool) (xs : List ℕ) (place k : ℕ) : Type 0 where
-  pub from : place ≤ k
-  pub within : k < length (row_at row).families
-  pub tried : (l : ℕ) → place ≤ l → l < k → Out-of row running xs l
+-- the families that are tried, up to the place k, do not fit
+abbrev pub Passed : ℕ → Bool → List ℕ → ℕ → ℕ → Type 0
+Passed row running xs place k = (l : ℕ) → place ≤ l → l < k → Out-of row running xs l
 
 -- a shape from 13 on has no form that a family has
 pub other-form : (k : ℕ) → 13 ≤ k → form_of (shape_of_no k) ≡ 3
@@ -338,51 +360,45 @@ module _ (row : ℕ) (running : Bool) (xs : List ℕ) where
             (way row r.0 q.z r.1 q.in_sizes);
       }
 
-  nothing : ((p : Overload) → Tried-at p → T (kept running p) → T (fits p.params (map operand xs)) → ⊥) → Row-judged row running xs NoneFits
+  nothing : ((p : Overload) → Tried-at p → T (kept running p) → T (fits p.params (map operand xs)) → ⊥) → Row-judged row running xs None
   unfolding Resolved judged_of
   nothing n p m h = n p (tried-at p m.0 h) m.1 h
 
-  pub first-apart : 13 ≤ first_x xs / 7 → Row-judged row running xs NoneFits
+  pub first-apart : 13 ≤ first_x xs / 7 → Row-judged row running xs None
   first-apart h = nothing (λ p t g k. let l = ltb→lt (form_of (shape_of_no (first_x xs / 7))) 3 t.first in let e = other-form (first_x xs / 7) h in omega arith)
 
-  pub last_apart : 13 ≤ last_x xs / 7 → Row-judged row running xs NoneFits
+  pub last_apart : 13 ≤ last_x xs / 7 → Row-judged row running xs None
   last_apart h = nothing (λ p t g k. let l = ltb→lt (form_of (shape_of_no (last_x xs / 7))) 3 t.last in let e = other-form (last_x xs / 7) h in omega arith)
 
   module _ (place : ℕ) (e : place ≡ place_of (forms_of xs) (row_at row).families 0) where
-    pub no_place_lem : place ≡ no_place → Row-judged row running xs NoneFits
+    pub no_place_lem : place ≡ no_place → Row-judged row running xs None
     no_place_lem q = nothing (λ p t g k. t.its-way.there (sym e ∙ q))
 
-    pub first-try : place ≢ no_place → Trying row running xs place place
-    first-try n =
-        record {
-          from = omega arith;
-          within = let l = place-within (forms_of xs) (row_at row).families 0 (λ q. n (e ∙ q)) in omega (arith, l, e);
-          tried = λ l a b. absurd (omega arith);
-        }
+    out-of : (l : ℕ) → Out-of row running xs l → (p : Overload) → passing (kept running) (listed (of_family (family_at row l))) p → T (fits p.params (map operand xs)) → ⊥
+    unfolding Resolved
+    out-of l n p m h = n p m h
 
-    module _ (k : ℕ) (g : Trying row running xs place k) where
-      before : Out-of row running xs k → (l : ℕ) → place ≤ l → l < k + 1 → Out-of row running xs l
-      before o l a b = ⊎_elim (λ q. subst (Out-of row running xs) (sym q) o) (g.tried l a) (eq-or-lt_of_le (le_of_suc-le-suc (subst (λ (m : ℕ). l < m) (add-one k) b)))
+    module _ (some : place ≢ no_place) where
+      place-there : place < length (row_at row).families
+      place-there = let l = place-within (forms_of xs) (row_at row).families 0 (λ q. some (e ∙ q)) in omega (arith, l, e)
 
-      module _ (stop : ℕ) (s : stop ≡ stop_of (row_at row).families) (o : Out-of row running xs k) where
-        pub next-try : k + 1 < stop → Trying row running xs place (k + 1)
-        next-try h = let l = stop-within (row_at row).families in let f = g.from in record { from = omega arith; within = omega arith; tried = before o }
+      -- the families that are tried: of the place, and up to the stop
+      pub stop-there : (stop : ℕ) → stop ≡ stop_of (row_at row).families → (k : ℕ) → k < max stop (place + 1) → k < length (row_at row).families
+      stop-there stop s k h = let l = stop-within (row_at row).families in let p = place-there in omega (arith, l)
 
-        out-of : (l : ℕ) → Out-of row running xs l → (p : Overload) → passing (kept running) (listed (of_family (family_at row l))) p → T (fits p.params (map operand xs)) → ⊥
-        unfolding Resolved
-        out-of l n p m h = n p m h
+      pub all-tried : (stop : ℕ) → stop ≡ stop_of (row_at row).families → Passed row running xs place (max stop (place + 1)) → Row-judged row running xs None
+      all-tried stop s passed =
+          nothing
+          (λ p t d c.
+          let a = t.its-way.from in
+          out-of t.k
+          (passed t.k (omega arith) (⊎_elim (λ b. omega arith) (λ b. omega arith) t.its-way.upto))
+          p (t.among, d) c)
 
-        pub all-tried : stop ≤ k + 1 → Row-judged row running xs NoneFits
-        all-tried h =
-            nothing
-            (λ p t d c.
-            let a = t.its-way.from in
-            let f = g.from in
-            out-of t.k
-            (before o t.k (omega arith) (⊎_elim (λ b. omega arith) (λ b. omega arith) t.its-way.upto))
-            p (t.among, d) c)
+    pub pass : (k : ℕ) → Passed row running xs place k → Out-of row running xs k → Passed row running xs place (k + 1)
+    pass k passed o l a b = ⊎_elim (λ q. subst (Out-of row running xs) (sym q) o) (passed l a) (eq-or-lt_of_le (le_of_suc-le-suc (subst (λ (m : ℕ). l < m) (add-one k) b)))
 
-      -- the family that fits judges the row
-      pub family-judges : (o : Out) → Resolved (passing (kept running) (listed (of_family (family_at row k)))) (map operand xs) (tried_of (Fits o)) → Row-judged row running xs (Gives o)
-      unfolding Resolved tried_of judged_of
-      family-judges o q = (q.0, row-of-family row (map operand xs) (kept running) k g.within q.0 q.1, q.2)
+  -- the family that fits judges the row
+  pub family-judges : (k : ℕ) → k < length (row_at row).families → (o : Out) → Resolved (passing (kept running) (listed (of_family (family_at row k)))) (map operand xs) (judged_of (Some o)) → Row-judged row running xs (Some o)
+  unfolding Resolved judged_of
+  family-judges k h o q = (q.0, row-of-family row (map operand xs) (kept running) k h q.0 q.1, q.2)

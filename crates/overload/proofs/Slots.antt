@@ -10,7 +10,7 @@ use Rattle.overload.specs.Overload.{or}
 use Rattle.overload.specs.Rows.{Form, Component, form_at, component_at, pattern_ty, N}
 use Rattle.overload.specs.Rows.Form.{sized, single, vec_c, vec_r, left, right, turned}
 use Rattle.overload.specs.Rows.Component.{of_t, of_i, exp_t, just}
-use Rattle.overload.specs.inner.Code.{shape_of_no, shape_no, operand, size_of_no, form_no, form_of_no, component_no, component_of_no, pattern_of, asked_of, family_of, encode, digit_of, reaches, allows, slot_t, slot_i}
+use Rattle.overload.specs.inner.Code.{shape_of_no, shape_no, operand, size_of_no, form_no, form_of_no, component_no, component_of_no, pattern_of, asked_of, family_of, encode, digit_of, reaches, slot_t, slot_i}
 use Rattle.overload.proofs.Preference.{Sized, fine, slot-cost}
 
 -- THE NUMBERS OF A PATTERN give it back
@@ -155,36 +155,12 @@ pub plain-accepts : (b s t : ℕ) → b < 28 → b % 7 ≡ s → accepts b t ≡
 unfolding both
 plain-accepts b s t h e = rw (lt-ltb b 28 h, e)
 
-pub none-reaches : (t : ℕ) → reaches 255 t ≡ false
-none-reaches t = ap (λ (r : ℕ). ltb r none) (rank-from 255 t (omega arith))
-
 -- the common type of two scalars is that of two of a width
 module _ (base j s t : ℕ) (hb : base < 22) (wb : base / 7 * 7 ≡ base) (hj : j < 7) (hs : s < 7) (ht : t < 7) where
   pub common-reaches : accepts (common_of (base + j) (base + s)) t ≡ both (reaches j t) (reaches s t)
   common-reaches =
       join (base + j) (base + s) (omega arith) (omega arith) (omega arith) t ht
       ∙ ap₂ both (plain-accepts (base + j) j t (omega arith) (omega arith)) (plain-accepts (base + s) s t (omega arith) (omega arith))
-
-both_first : (b : Bool) → both true b ≡ b
-unfolding both
-both_first b = refl
-
--- what is joined: a scalar, or nothing yet
-pub allows-scalar : (j t : ℕ) → j ≢ 7 → allows j t ≡ reaches j t
-unfolding or
-allows-scalar j t h = rw (ne_eqb j 7 h)
-
-pub allows-all : (t : ℕ) → allows 7 t ≡ true
-unfolding or
-allows-all t = refl
-
-pub allows-none : (t : ℕ) → allows 255 t ≡ false
-unfolding or
-allows-none t = none-reaches t
-
-pub none-accepts : (t : ℕ) → accepts 255 t ≡ false
-unfolding both
-none-accepts t = refl
 
 -- at a parameter of T
 pub slot-T-is : (of s t : ℕ) → of ≡ 9 → slot_t of s t ≡ reaches s t
@@ -196,12 +172,10 @@ pub slot-I-any : (of s i : ℕ) → of ≢ 7 → slot_i of s i ≡ true
 unfolding or
 slot-I-any of s i h = rw (ne_eqb of 7 h)
 
-module _ (j s t : ℕ) where
-  pub join-to : (r : ℕ) → r ≢ 7 → reaches r t ≡ both (reaches j t) (reaches s t) → j ≢ 7 → allows r t ≡ both (allows j t) (reaches s t)
-  join-to r n q m = allows-scalar r t n ∙ q ∙ ap (λ (b : Bool). both b (reaches s t)) (sym (allows-scalar j t m))
-
-  pub join_first : j ≡ 7 → s < 7 → allows s t ≡ both (allows j t) (reaches s t)
-  join_first q l = allows-scalar s t (λ k. omega arith) ∙ sym (both_first (reaches s t)) ∙ ap (λ (b : Bool). both b (reaches s t)) (sym (ap (λ (k : ℕ). allows k t) q ∙ allows-all t))
+-- nothing is joined where one of the two converts to nothing
+pub none-accepts : (t : ℕ) → accepts 255 t ≡ false
+unfolding both
+none-accepts t = refl
 
 -- THE SHAPE OF AN OPERAND: its scalar where it has the shape b, or none for one of another shape a
 module _ (a b s r : ℕ) (e : r ≡ pick (eqb a b) s none) where

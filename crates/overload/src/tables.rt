@@ -2,11 +2,11 @@
 // `tools/rows` writes the lines from specs/Rows.antt.
 ghost use Rattle.std.specs.Prelude.{◌≡◌, ℕ, ◌+◌, ◌*◌, ◌/◌, ◌<◌};
 ghost use Rattle.overload.specs.Rows.{row_at, operand_count};
-ghost use Rattle.overload.specs.inner.Code.{digit_of, asked_of, entry, place_of, stop_of, slot_t, RowLine, Word, Starts, Sizes, Scalars, Reached, has, member, set_of, mem_size, size_of_no, family_of, sizes_of};
+ghost use Rattle.overload.specs.inner.Code.{digit_of, asked_of, entry, place_of, placed, stop_of, slot_t, RowLine, Word, Starts, Sizes, Scalars, Reached, has, member, set_of, mem_size, size_of_no, family_of, sizes_of};
 
 // By row: the count of operands; where its families begin; up to which place they are tried in turn, 0 where only the first is;
 // and for the forms of the first and last operand (0 scalar, 1 vector, 2 matrix; 3 times the first plus the last) the place of its first family, or f for none.
-pub fn row_line(row: usize) -> u64
+fn row_line(row: usize) -> u64
     ensures { RowLine row result }
 {
     match row {
@@ -124,7 +124,7 @@ pub fn row_line(row: usize) -> u64
 
 // By family: the numbers of its second set, of its set of T and of its list of sizes; by which operands its size is found; its wrapping; form and component of
 // its result and of four parameters, the first on the right; the count of its parameters.
-pub fn family_word(f: u64) -> u64
+fn family_word(f: u64) -> u64
     ensures { Word f result }
 {
     match f {
@@ -271,7 +271,7 @@ pub fn family_word(f: u64) -> u64
 }
 
 // By size, for each form: the first operand of the shape that it asks, where it asks one. Two hexadecimal digits each.
-pub fn starts_at(n: u8) -> u64
+fn starts_at(n: u8) -> u64
     requires { n < 41 }
     ensures { Starts n result }
 {
@@ -419,34 +419,137 @@ fn reached_at(of: u8) -> u64
     }
 }
 
-// The place of a row's first family for the forms of the first and last operand, by the row's line.
-pub fn place(row: usize, w: u64, forms: u8) -> u64
-    requires { RowLine row w × (forms < 9) }
-    ensures { (result ≡ place_of forms (row_at row).families 0) × (result < 16) }
-{
-    (w >> (4 * forms)) % 16
-}
-
-// A digit of a family, by its line.
-pub fn digit(f: u64, w: u64, i: usize) -> u8
-    requires { Word f w × (i < 13) }
-    ensures { result ≡ digit_of f i }
-{
-    ((w >> (4 * i)) % 16) as u8
-}
-
-// The first operand of the shape that a form asks at a size, by the size's line.
-pub fn start(form: u8, n: u8, starts: u64) -> u8
-    requires { (form < 7) × Starts n starts × (asked_of form n < 13) }
-    ensures { result ≡ 7 * asked_of form n }
-{
-    ((starts >> (8 * form)) % 256) as u8
-}
-
 // The set of T at which a scalar converts to a component other than T.
 pub fn reached(of: u8, s: u8) -> u64
     requires { (of < 9) × (s < 7) }
     ensures { (t : ℕ) → t < 7 → has result t ≡ slot_t of s t }
 {
     (reached_at(of) >> (8 * s)) % 256
+}
+
+// No place in a row.
+const NO_PLACE: u64 = 15;
+
+// A row, by its number, with its line.
+#[derive(Clone, Copy)]
+pub struct Row {
+    no: usize,
+    line: u64,
+    ghost read: { RowLine no line },
+}
+
+impl Row {
+    pub fn at(no: usize) -> Row
+        ensures { result.no ≡ no }
+    {
+        Row {
+            no,
+            line: row_line(no),
+        }
+    }
+
+    // How many operands its overloads take.
+    pub fn operand_count(self) -> usize
+        ensures { result ≡ operand_count (row_at self.no) }
+    {
+        ((self.line >> 48) % 16) as usize
+    }
+
+    // Where its families begin.
+    pub fn start(self) -> u64
+        ensures { result ≡ entry 8 self.line 5 }
+    {
+        (self.line >> 40) % 256
+    }
+
+    // Up to which place its families are tried in turn, 0 where only the first is.
+    pub fn stop(self) -> u64
+        ensures { result ≡ stop_of (row_at self.no).families }
+    {
+        (self.line >> 36) % 16
+    }
+
+    // The place of its first family for the forms of the first and last operand.
+    pub fn place(self, forms: u8) -> Option<u64>
+        requires { forms < 9 }
+        ensures { result ≡ placed (place_of forms (row_at self.no).families 0) }
+    {
+        let k = (self.line >> (4 * forms)) % 16;
+        if k == NO_PLACE { None } else { Some(k) }
+    }
+}
+
+// A family, by its number, with its line.
+#[derive(Clone, Copy)]
+pub struct Family {
+    no: u64,
+    line: u64,
+    ghost read: { Word no line },
+}
+
+impl Family {
+    pub fn at(no: u64) -> Family
+        ensures { result.no ≡ no }
+    {
+        Family {
+            no,
+            line: family_word(no),
+        }
+    }
+
+    // A digit of it.
+    pub fn digit(self, i: usize) -> u8
+        requires { i < 13 }
+        ensures { result ≡ digit_of self.no i }
+    {
+        ((self.line >> (4 * i)) % 16) as u8
+    }
+
+    // The numbers of its list of sizes, of its set of T and of its second set.
+    pub fn sizes(self) -> u8
+        ensures { (sizes_of result ≡ (family_of self.no).sizes) × (result < 16) }
+    {
+        ((self.line >> 52) % 16) as u8
+    }
+
+    pub fn set(self) -> u8
+        ensures { (set_of result ≡ (family_of self.no).set) × (result < 16) }
+    {
+        ((self.line >> 56) % 16) as u8
+    }
+
+    pub fn second(self) -> u8
+        ensures { (set_of result ≡ (family_of self.no).second) × (result < 16) }
+    {
+        ((self.line >> 60) % 16) as u8
+    }
+}
+
+// A size, by its number, with its line.
+#[derive(Clone, Copy)]
+pub struct Size {
+    no: u8,
+    starts: u64,
+    ghost small: { no < 41 },
+    ghost read: { Starts no starts },
+}
+
+impl Size {
+    pub fn at(no: u8) -> Size
+        requires { no < 41 }
+        ensures { result.no ≡ no }
+    {
+        Size {
+            no,
+            starts: starts_at(no),
+        }
+    }
+
+    // The first operand of the shape that a form asks at it.
+    pub fn start(self, form: u8) -> u8
+        requires { (form < 7) × (asked_of form self.no < 13) }
+        ensures { result ≡ 7 * asked_of form self.no }
+    {
+        ((self.starts >> (8 * form)) % 256) as u8
+    }
 }

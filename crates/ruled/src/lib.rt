@@ -16,7 +16,7 @@ ghost use Rattle.ruled.specs.Call.{operand_ty, judged_outcome};
 ghost use Rattle.ruled.specs.inner.Result.{ResultDone, PlainDone};
 
 use conv::{PLAINS, SCALARS};
-use overload::{Out, Resolution};
+use overload::Out;
 use table::{Answer, Entered, Entry, Lacks, Place, Reason, TypeNo};
 
 // The number of a reference, and of any other type that is neither scalar nor vector nor matrix.
@@ -157,9 +157,8 @@ pub fn judge_codes(
     requires { Sound words.old n }
     ensures { Gave (judged_outcome place.0 words.old n (judge_kept running (row_at row) (map operand codes.now))) result words.new }
 {
-    let j = overload::resolve(row, running, codes);
-    match j {
-        Resolution::Gives(out) => enter_out(words, n, place, out),
-        Resolution::NoneFits => table::refused(Reason::NoOverload, place, n),
+    match overload::resolve(row, running, codes) {
+        Some(out) => enter_out(words, n, place, out),
+        None => table::refused(Reason::NoOverload, place, n),
     }
 }

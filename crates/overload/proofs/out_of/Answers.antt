@@ -8,27 +8,24 @@ use Rattle.overload.proofs.out_of.Goals as goal
 pub result_of-x-requires : goal.result_of-x-requires
 result_of-x-requires c = c.requires
 
-pub digit-wrap-requires : goal.digit-wrap-requires
-digit-wrap-requires c = (c.requires.0, omega arith)
-
-pub returns-then-wrap-eq0 : goal.returns-then-wrap-eq0
+pub returns-in-0 : goal.returns-in-0
 unfolding out_of
-returns-then-wrap-eq0 c =
-    let f = c.args.f in
+returns-in-0 c =
+    let f = c.args.f.no in
     let r = c.result_of-x.ensures in
-    r ∙ wrapped-bare _ (family_of f).wrap (sym (c.digit-wrap.ensures ∙ wrap-digit f) ∙ c.if-wrap-eq0.true)
+    r ∙ wrapped-bare _ (family_of f).wrap (sym (c.digit.ensures ∙ wrap-digit f) ∙ c.in-0.is)
 
-pub returns-then-wrap-eq1 : goal.returns-then-wrap-eq1
+pub returns-in-1 : goal.returns-in-1
 unfolding out_of
-returns-then-wrap-eq1 c =
-    let f = c.args.f in
+returns-in-1 c =
+    let f = c.args.f.no in
     let r = c.result_of-x.ensures in
-    ap frexp r ∙ wrapped-frexp _ (family_of f).wrap (sym (c.digit-wrap.ensures ∙ wrap-digit f) ∙ c.if-wrap-eq1.true)
+    ap frexp r ∙ wrapped-frexp _ (family_of f).wrap (sym (c.digit.ensures ∙ wrap-digit f) ∙ c.in-1.is)
 
-pub returns : goal.returns
+pub returns-in_default : goal.returns-in_default
 unfolding out_of
-returns c =
-    let f = c.args.f in
+returns-in_default c =
+    let f = c.args.f.no in
     let r = c.result_of-x.ensures in
-    let w = c.digit-wrap.ensures ∙ wrap-digit f in
-    ap modf r ∙ wrapped-modf _ (family_of f).wrap (λ e. c.if-wrap-eq0.false (w ∙ e)) (λ e. c.if-wrap-eq1.false (w ∙ e))
+    let w = c.digit.ensures ∙ wrap-digit f in
+    ap modf r ∙ wrapped-modf _ (family_of f).wrap (λ e. let q = w ∙ e in omega arith) (λ e. let q = w ∙ e in omega arith)

@@ -1,93 +1,104 @@
--- `overload::resolve` meets its contract: its judgment meets demand 3, and so is the one that the definition gives. The loop carries `Trying`: the families that are tried so far do not fit. Assumes nothing.
-use Rattle.std.proofs.Common.{◌≡◌, ℕ, ◌+◌, ◌*◌, map, ap, ◌∙◌, subst, arith}
+-- `overload::resolve` meets its contract: its judgment meets demand 3, and so is the one that the definition gives. The loop carries `Passed`: the families that are tried so far do not fit.
+-- Assumes nothing.
+use Rattle.std.proofs.Common.{◌≡◌, ℕ, ◌+◌, ◌*◌, ◌/◌, ◌<◌, ◌≤◌, max, length, map, List, sym, refl, ⊎_elim, ◌≢◌, ap, ◌∙◌, subst, arith}
+use Rattle.std.specs.Prelude.{Option, unwrap_or, slice_get, slice_index}
+use Rattle.std.proofs.lemmas.Option.{unwrap_or-slice_get}
 use Rattle.conv.specs.Rank.{form_of}
 use Rattle.overload.specs.Overload.{Resolved, listed}
 use Rattle.overload.specs.Marks.{passing}
 use Rattle.overload.specs.Rows.{Family, of_family, row_at}
-use Rattle.overload.specs.inner.Code.{shape_of_no, operand, place_of, forms_of, entry, kept, tried_of}
-use Rattle.overload.specs.declared.Tried.{Tried}
+use Rattle.overload.specs.inner.Code.{shape_of_no, operand, place_of, placed, no_place, forms_of, stop_of, family_of, kept, judged_of}
+use Rattle.overload.specs.declared.Out.{Out}
 use Rattle.overload.proofs.Apart.{family_at}
 use Rattle.overload.proofs.Marks.{kept-is}
-use Rattle.overload.proofs.Resolving.{Out-of, first-apart, last_apart, no_place_lem, first-try, next-try, all-tried, family-judges}
-use Rattle.overload.proofs.resolve.Lts.View.{up-After-form_of-2, up-After-try_family-r}
-use Rattle.overload.proofs.resolve.Goals.{After-form_of-2, After-place-k, After-try_family-r, In-Not}
+use Rattle.overload.proofs.Resolving.{first-apart, last_apart, no_place_lem, stop-there, pass, all-tried, family-judges, placed-nothing, placed-it, placed-some}
+use Rattle.overload.proofs.resolve.Goals.{After-place, In_ok-k, After-try_family}
 use Rattle.overload.proofs.resolve.Goals as goal
 
+-- the shapes of the operands at the ends
+end_is : (xs : List ℕ) (i : ℕ) (x : Option ℕ) (r : ℕ) → r ≡ unwrap_or x 0 / 7 → x ≡ slice_get xs i → r ≡ slice_index xs i / 7
+end_is xs i x r e g = e ∙ ap (λ (x : Option ℕ). unwrap_or x 0 / 7) g ∙ ap (λ (x : ℕ). x / 7) (unwrap_or-slice_get xs i 0)
+
 pub returns-then-a-ge-SHAPES : goal.returns-then-a-ge-SHAPES
-returns-then-a-ge-SHAPES c = let a = c.args in kept-is a.row a.running _ _ (first-apart a.row a.running a.xs.now (omega (arith, c.first_shape-a.ensures, c.if-a-ge-SHAPES.true)))
-
-pub returns-then-b-ge-SHAPES : goal.returns-then-b-ge-SHAPES
-returns-then-b-ge-SHAPES c = let a = c.args in kept-is a.row a.running _ _ (last_apart a.row a.running a.xs.now (omega (arith, c.last_shape-b.ensures, c.if-b-ge-SHAPES.true)))
-
-pub overflow_mul-form_of : goal.overflow_mul-form_of
-overflow_mul-form_of c = omega (arith, c.form_of.ensures.1)
-
-pub overflow_add-form_of : goal.overflow_add-form_of
-overflow_add-form_of c = omega (arith, c.form_of.ensures.1, c.form_of-2.ensures.1)
-
--- the forms of the operands
-forms : (c : After-form_of-2) → 3 * c.form_of.result + c.form_of-2.result ≡ forms_of c.args.xs.now
-forms c =
-    let a = c.form_of.ensures.0 ∙ ap (λ (k : ℕ). form_of (shape_of_no k)) c.first_shape-a.ensures in
-    let b = c.form_of-2.ensures.0 ∙ ap (λ (k : ℕ). form_of (shape_of_no k)) c.last_shape-b.ensures in
-    λ i. 3 * a i + b i
-
-pub place-k-requires : goal.place-k-requires
-place-k-requires c = (c.row_line-w.ensures, omega (arith, c.form_of.ensures.1, c.form_of-2.ensures.1))
-
--- the place of the first family that may fit
-place_is : (c : After-place-k) → c.place-k.result ≡ place_of (forms_of c.args.xs.now) (row_at c.args.row).families 0
-place_is c = c.place-k.ensures.0 ∙ ap (λ (k : ℕ). place_of k (row_at c.args.row).families 0) (forms (up-After-form_of-2 _ _ _ _ _ c.before.before))
-
-pub returns-then-k-eq-NO_PLACE : goal.returns-then-k-eq-NO_PLACE
-returns-then-k-eq-NO_PLACE c = let a = c.args in kept-is a.row a.running _ _ (no_place_lem a.row a.running a.xs.now c.place-k.result (place_is (goal.at.returns-then-k-eq-NO_PLACE c).After-place-k) c.if-k-eq-NO_PLACE.true)
-
-pub loop-out-init : goal.loop-out-init
-loop-out-init c = let a = c.args in (first-try a.row a.running a.xs.now c.place-k.result (place_is (goal.at.loop-out-init c).After-place-k) c.if-k-eq-NO_PLACE.false, c.place-k.ensures.1)
-
-pub overflow_add-start : goal.overflow_add-start
-overflow_add-start c = let l = c.loop-out.invariant.1 in omega arith
-
-pub try_family-r-requires : goal.try_family-r-requires
-try_family-r-requires c = (omega arith, omega arith, c.first_shape-a.ensures, c.last_shape-b.ensures)
-
--- the judgment of the family at the place
-judged : (c : After-try_family-r) → Resolved (passing (kept c.args.running) (listed (of_family (family_at c.args.row c.loop-out.k)))) (map operand c.args.xs.now) (tried_of c.try_family-r.result)
-judged c =
-    subst (λ (f : Family). Resolved (passing (kept c.args.running) (listed (of_family f))) (map operand c.args.xs.now) (tried_of c.try_family-r.result))
-    (c.row_line-w.ensures.family c.loop-out.k c.loop-out.invariant.0.within)
-    c.try_family-r.ensures
-
-pub returns-in-Fits : goal.returns-in-Fits
-returns-in-Fits c =
+returns-then-a-ge-SHAPES c =
     let a = c.args in
-    let k = c.loop-out.k in
+    let s = end_is a.xs.now 0 _ _ c.shape_or_scalar-a.ensures (c.copied.ensures ∙ c.first.ensures.value) in
+    let t = end_is a.xs.now _ _ _ c.shape_or_scalar-b.ensures (c.copied-2.ensures ∙ c.last.ensures.value) in
     kept-is a.row a.running _ _
-    (family-judges a.row a.running a.xs.now c.place-k.result (place_is (goal.at.returns-in-Fits c).After-place-k) k c.loop-out.invariant.0 c.in-Fits.out
-    (subst (λ (r : Tried). Resolved (passing (kept a.running) (listed (of_family (family_at a.row k)))) (map operand a.xs.now) (tried_of r)) c.in-Fits.is (judged (goal.at.returns-in-Fits c).After-try_family-r)))
+    (⊎_elim (λ l. first-apart a.row a.running a.xs.now (subst (λ (n : ℕ). 13 ≤ n) s l)) (λ l. last_apart a.row a.running a.xs.now (subst (λ (n : ℕ). 13 ≤ n) t l.1)) c.then-a-ge-SHAPES.either)
 
-not-fit : (c : In-Not) → Out-of c.args.row c.args.running c.args.xs.now c.loop-out.k
-unfolding tried_of
-not-fit c =
-    subst (λ (r : Tried). Resolved (passing (kept c.args.running) (listed (of_family (family_at c.args.row c.loop-out.k)))) (map operand c.args.xs.now) (tried_of r)) c.in-Not.is
-    (judged (up-After-try_family-r _ _ _ _ _ c.before.before))
-
-pub overflow_add-k : goal.overflow_add-k
-overflow_add-k c = let l = c.loop-out.invariant.1 in omega arith
-
-pub returns-then-stop-k : goal.returns-then-stop-k
-returns-then-stop-k c =
+pub try_family-requires : goal.try_family-requires
+try_family-requires c =
     let a = c.args in
+    let s = end_is a.xs.now 0 _ _ c.shape_or_scalar-a.ensures (c.copied.ensures ∙ c.first.ensures.value) in
+    let t = end_is a.xs.now _ _ _ c.shape_or_scalar-b.ensures (c.copied-2.ensures ∙ c.last.ensures.value) in
+    (c.if-a-ge-SHAPES.false, c.if-b-ge-SHAPES.false, s, t)
+
+-- where the first family that may fit is, at the forms of the operands
+place_is : (c : After-place) → c.place.result ≡ placed (place_of (forms_of c.args.xs.now) (row_at c.args.row).families 0)
+place_is c =
+    let xs = c.args.xs.now in
+    let s = c.form_of.ensures.0 ∙ ap (λ (k : ℕ). form_of (shape_of_no k)) (end_is xs 0 _ _ c.shape_or_scalar-a.ensures (c.copied.ensures ∙ c.first.ensures.value)) in
+    let t = c.form_of-2.ensures.0 ∙ ap (λ (k : ℕ). form_of (shape_of_no k)) (end_is xs _ _ _ c.shape_or_scalar-b.ensures (c.copied-2.ensures ∙ c.last.ensures.value)) in
+    c.place.ensures ∙ (λ i. placed (place_of (3 * s i + t i) (row_at (c.at-r.ensures i)).families 0))
+
+pub returns-in_err-k : goal.returns-in_err-k
+returns-in_err-k c =
+    let a = c.args in
+    let e = placed-nothing _ (sym (place_is (goal.at.returns-in_err-k c).After-place) ∙ c.in_err-k.was) in
+    rw c.from_residual.ensures (kept-is a.row a.running _ _ (no_place_lem a.row a.running a.xs.now _ refl e))
+
+-- the families that are tried
+module _ (c : After-try_family) (place : c.place.result ≡ placed (place_of (forms_of c.args.xs.now) (row_at c.args.row).families 0)) where
+  k_is : c.in_ok-k.k ≡ place_of (forms_of c.args.xs.now) (row_at c.args.row).families 0
+  k_is = sym (placed-it _ _ (sym place ∙ c.in_ok-k.was))
+
+  k-some : c.in_ok-k.k ≢ no_place
+  k-some = placed-some _ _ (sym place ∙ c.in_ok-k.was)
+
+  within : c.loop-j.j < length (row_at c.args.row).families
+  within =
+      let a = c.args in
+      stop-there a.row a.running a.xs.now c.in_ok-k.k k_is k-some c.stop.result (c.stop.ensures ∙ ap (λ (r : ℕ). stop_of (row_at r).families) c.at-r.ensures) c.loop-j.j
+      (subst (λ (n : ℕ). c.loop-j.j < n) c.max-j-end.ensures c.loop-j-test.true)
+
+  -- the family at a place of the row
+  family_is : family_of c.at.result.no ≡ family_at c.args.row c.loop-j.j
+  family_is =
+      let j = c.loop-j.j in
+      ap family_of (c.at.ensures ∙ ap (λ (s : ℕ). s + j) c.start.ensures)
+      ∙ c.at-r.result.read.family j (subst (λ (r : ℕ). j < length (row_at r).families) (sym c.at-r.ensures) within)
+      ∙ ap (λ (r : ℕ). family_at r j) c.at-r.ensures
+
+  judged : Resolved (passing (kept c.args.running) (listed (of_family (family_at c.args.row c.loop-j.j)))) (map operand c.args.xs.now) (judged_of c.try_family.result)
+  judged =
+      subst (λ (f : Family). Resolved (passing (kept c.args.running) (listed (of_family f))) (map operand c.args.xs.now) (judged_of c.try_family.result)) family_is
+      c.try_family.ensures
+
+pub returns-in-Some : goal.returns-in-Some
+returns-in-Some c =
+    let a = c.args in
+    let at = goal.at.returns-in-Some c in
+    let place = place_is at.After-place in
+    let j = c.loop-j.j in
     kept-is a.row a.running _ _
-    (all-tried a.row a.running a.xs.now c.place-k.result (place_is (goal.at.returns-then-stop-k c).After-place-k) c.loop-out.k c.loop-out.invariant.0 (entry 4 c.row_line-w.result 9) c.row_line-w.ensures.stop (not-fit (goal.at.returns-then-stop-k c).In-Not) c.if-stop-k.true)
+    (family-judges a.row a.running a.xs.now j (within at.After-try_family place) c.in-Some.out
+    (subst (λ (r : Option Out). Resolved (passing (kept a.running) (listed (of_family (family_at a.row j)))) (map operand a.xs.now) (judged_of r)) c.in-Some.is (judged at.After-try_family place)))
 
-pub loop-out-smaller : goal.loop-out-smaller
-loop-out-smaller c = let l = c.if-stop-k.false in omega arith
-
-pub loop-out-preserved : goal.loop-out-preserved
-loop-out-preserved c =
+pub loop-j-preserved : goal.loop-j-preserved
+unfolding judged_of
+loop-j-preserved c =
     let a = c.args in
-    let l = c.if-stop-k.false in (
-      next-try a.row a.running a.xs.now c.place-k.result (place_is (goal.at.loop-out-preserved c).After-place-k) c.loop-out.k c.loop-out.invariant.0 (entry 4 c.row_line-w.result 9) c.row_line-w.ensures.stop (not-fit (goal.at.loop-out-preserved c).In-Not) l,
-      omega arith,
-    )
+    let at = goal.at.loop-j-preserved c in
+    let place = place_is at.After-place in
+    let j = c.loop-j.j in
+    pass a.row a.running a.xs.now c.in_ok-k.k (k_is at.After-try_family place) j c.loop-j.invariant
+    (subst (λ (r : Option Out). Resolved (passing (kept a.running) (listed (of_family (family_at a.row j)))) (map operand a.xs.now) (judged_of r)) c.in_default.is (judged at.After-try_family place))
+
+pub returns : goal.returns
+returns c =
+    let a = c.args in
+    let p = sym (place_is (goal.at.returns c).After-place) ∙ c.in_ok-k.was in
+    kept-is a.row a.running _ _
+    (all-tried a.row a.running a.xs.now c.in_ok-k.k (sym (placed-it _ _ p)) (placed-some _ _ p) c.stop.result (c.stop.ensures ∙ ap (λ (r : ℕ). stop_of (row_at r).families) c.at-r.ensures)
+    (λ l b h. c.loop-j.invariant l b (omega (arith, c.max-j-end.ensures, c.loop-j-test.false))))

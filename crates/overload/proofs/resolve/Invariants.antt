@@ -1,9 +1,5 @@
-use Rattle.std.proofs.Common.{◌-◌, ◌<◌}
-use Rattle.overload.proofs.Resolving.{Trying}
+use Rattle.overload.proofs.Resolving.{Passed}
 use Rattle.overload.proofs.resolve.Given as goal
 
-abbrev pub invariant-loop-out : goal.invariant-loop-out
-invariant-loop-out l = Trying l.row l.running l.xs l.initial.k l.k × (l.k < 16)
-
-abbrev pub decreases-loop-out : goal.decreases-loop-out
-decreases-loop-out l = l.stop - l.k
+abbrev pub invariant-loop-j : goal.invariant-loop-j
+invariant-loop-j l = Passed l.row l.running l.xs l.k l.j

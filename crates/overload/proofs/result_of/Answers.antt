@@ -6,45 +6,44 @@ use Rattle.overload.proofs.result_of.Goals.{After-start-start}
 use Rattle.overload.proofs.result_of.Goals as goal
 
 pub digit-requires : goal.digit-requires
-digit-requires c = (c.requires.0, omega arith)
+digit-requires c = omega arith
 
 pub start-start-requires : goal.start-start-requires
 start-start-requires c =
     let a = c.args in
     let p = c.requires in
     let e = sym c.digit.ensures in (
-      subst (λ (k : ℕ). k < 7) e (result-form a.f a.n p.1 p.2),
-      p.3,
-      subst (λ (k : ℕ). asked_of k a.n < 13) e (result-shape a.f a.n p.1 p.2),
+      subst (λ (k : ℕ). k < 7) e (result-form a.f.no a.z.no a.z.small p.0),
+      subst (λ (k : ℕ). asked_of k a.z.no < 13) e (result-shape a.f.no a.z.no a.z.small p.0),
     )
 
 -- the first number of the result's shape
-start_is : (c : After-start-start) → c.start-start.result ≡ 7 * asked_of (digit_of c.args.f 9) c.args.n
-start_is c = c.start-start.ensures ∙ ap (λ (k : ℕ). 7 * asked_of k c.args.n) c.digit.ensures
+start_is : (c : After-start-start) → c.start-start.result ≡ 7 * asked_of (digit_of c.args.f.no 9) c.args.z.no
+start_is c = c.start-start.ensures ∙ ap (λ (k : ℕ). 7 * asked_of k c.args.z.no) c.digit.ensures
 
 small : (c : After-start-start) → c.start-start.result < 85
 small c =
     let a = c.args in
     let p = c.requires in
     let e = start_is c in
-    let l = result-shape a.f a.n p.1 p.2 in
+    let l = result-shape a.f.no a.z.no a.z.small p.0 in
     omega arith
 
 pub digit-of-requires : goal.digit-of-requires
-digit-of-requires c = (c.requires.0, omega arith)
+digit-of-requires c = omega arith
 
 pub overflow_add-result : goal.overflow_add-result
-overflow_add-result c = let l = small (goal.at.overflow_add-result c).After-start-start in let h = c.requires.4 in omega arith
+overflow_add-result c = let l = small (goal.at.overflow_add-result c).After-start-start in let h = c.requires.1 in omega arith
 
 pub returns-then-of-eq-OF_T : goal.returns-then-of-eq-OF_T
 returns-then-of-eq-OF_T c =
     let a = c.args in
     let p = c.requires in
     let w = c.digit-of.ensures in
-    rw (start_is (goal.at.returns-then-of-eq-OF_T c).After-start-start) (result-is a.f a.n p.1 p.2 a.t a.i a.t p.4 (sym (rw (eq-eqb (digit_of a.f 10) 9 (sym w ∙ c.if-of-eq-OF_T.true)))))
+    rw (start_is (goal.at.returns-then-of-eq-OF_T c).After-start-start) (result-is a.f.no a.z.no a.z.small p.0 a.t a.i a.t p.1 (sym (rw (eq-eqb (digit_of a.f.no 10) 9 (sym w ∙ c.if-of-eq-OF_T.true)))))
 
 pub overflow_add-result-2 : goal.overflow_add-result-2
-overflow_add-result-2 c = let l = small (goal.at.overflow_add-result-2 c).After-start-start in let a = c.args in let p = c.requires in let w = c.digit-of.ensures in let n = c.if-of-eq-OF_T.false in let h = result-component a.f a.n p.1 p.2 (λ e. n (w ∙ e)) in omega arith
+overflow_add-result-2 c = let l = small (goal.at.overflow_add-result-2 c).After-start-start in let a = c.args in let p = c.requires in let w = c.digit-of.ensures in let n = c.if-of-eq-OF_T.false in let h = result-component a.f.no a.z.no a.z.small p.0 (λ e. n (w ∙ e)) in omega arith
 
 pub returns : goal.returns
 returns c =
@@ -52,5 +51,5 @@ returns c =
     let p = c.requires in
     let w = c.digit-of.ensures in
     let h = c.if-of-eq-OF_T.false in
-    let l = result-component a.f a.n p.1 p.2 (λ e. h (w ∙ e)) in
-    rw (start_is (goal.at.returns c).After-start-start, w) (result-is a.f a.n p.1 p.2 a.t a.i (digit_of a.f 10) (omega arith) (sym (rw (ne_eqb (digit_of a.f 10) 9 (λ e. h (w ∙ e))))))
+    let l = result-component a.f.no a.z.no a.z.small p.0 (λ e. h (w ∙ e)) in
+    rw (start_is (goal.at.returns c).After-start-start, w) (result-is a.f.no a.z.no a.z.small p.0 a.t a.i (digit_of a.f.no 10) (omega arith) (sym (rw (ne_eqb (digit_of a.f.no 10) 9 (λ e. h (w ∙ e))))))

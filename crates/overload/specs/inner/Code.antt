@@ -1,6 +1,6 @@
 -- How the code numbers what Rows writes: shapes, operands, sizes, patterns, sets of T, families. Of these only `operand`, `code_of`, `out_of` and `judged_of`
 -- stand in promises to the crates above; the rest says what the tables of the code hold. Assumes nothing.
-use Rattle.std.specs.Prelude.{◌≡◌, ℕ, ◌+◌, ◌-◌, ◌*◌, ◌/◌, ◌%◌, ◌^◌, ◌<◌, Bool, false, cond, not, List, [], ◌∷◌, ◌++◌, map, length, get_or, take, ◌==◌, nat_eq, nat_le, nat_lt, slice_index, slice_index_or}
+use Rattle.std.specs.Prelude.{◌≡◌, ℕ, ◌+◌, ◌-◌, ◌*◌, ◌/◌, ◌%◌, ◌^◌, ◌<◌, Bool, true, false, cond, not, Option, Some, None, List, [], ◌∷◌, ◌++◌, map, length, get_or, take, ◌==◌, nat_eq, nat_le, nat_lt, slice_index, slice_index_or}
 use Rattle.conv.specs.Types.{Ty, is_width, is_abstract, bool, i32, u32, f32}
 use Rattle.conv.specs.Types.Ty.{frexp, modf}
 use Rattle.conv.specs.Rank.{pick, both, none, rank_of, Shape, form_of, columns_of, rows_of, same_shape, shape_of, component_of, is_reference, made}
@@ -14,10 +14,6 @@ use Rattle.overload.specs.Rows.Component.{of_t, of_i, exp_t, just}
 use Rattle.overload.specs.Rows.Wrap.{bare, in_frexp, in_modf}
 use Rattle.overload.specs.declared.Out.{Out}
 use Rattle.overload.specs.declared.Out.TheVariants.{Plain, Frexp, Modf}
-use Rattle.overload.specs.declared.Tried.{Tried}
-use Rattle.overload.specs.declared.Tried.TheVariants.{Fits, Not}
-use Rattle.overload.specs.declared.Resolution.{Resolution}
-use Rattle.overload.specs.declared.Resolution.TheVariants.{Gives, NoneFits}
 
 -- SHAPES: scalar 0, vec2 to vec4 1 to 3, mat2x2 to mat4x4 4 to 12, any other type from 13 on
 
@@ -180,6 +176,10 @@ unfoldable pub place_of : ℕ → List Family → ℕ → ℕ
 place_of forms [] i = no_place
 place_of forms (f ∷ fs) i = pick (has_forms forms f) i (place_of forms fs (i + 1))
 
+-- a place as the code answers it: nothing where no family has the forms
+abbrev pub placed : ℕ → Option ℕ
+placed k = cond (k == no_place) None (Some k)
+
 unfoldable pub how_many : ℕ → List Family → ℕ
 how_many forms [] = 0
 how_many forms (f ∷ fs) = pick (has_forms forms f) 1 0 + how_many forms fs
@@ -290,9 +290,10 @@ slot_i of s i = or (not (of == 7)) (reaches s i)
 pub record Reached (of w : ℕ) : Type 0 where
   pub within : (s t : ℕ) → s < 7 → t < 7 → has (entry 8 w s) t ≡ slot_t of s t
 
--- the T to which what is joined so far converts: every one where nothing is, which is the number 7
-abbrev pub allows : ℕ → ℕ → Bool
-allows j t = or (j == 7) (reaches j t)
+-- the T to which what is joined so far converts: every one where nothing is
+abbrev pub allows : Option ℕ → ℕ → Bool
+allows (Some j) t = reaches j t
+allows None t = true
 
 -- WHERE AN OPERAND IS RUNNING, and none is both running and abstract, the overloads that remain and fit are those without an abstract parameter (`proofs/Marks.antt`): so
 -- the engine is told whether one is running, and looks for the first concrete T
@@ -315,11 +316,6 @@ out_of (Frexp x) = frexp (operand x)
 out_of (Modf x) = modf (operand x)
 
 -- document 01's refusal 8: no overload fits
-unfoldable pub judged_of : Resolution → Judged
-judged_of (Gives o) = gives (out_of o)
-judged_of NoneFits = none_fits
-
--- what became of one family
-unfoldable pub tried_of : Tried → Judged
-tried_of (Fits o) = gives (out_of o)
-tried_of Not = none_fits
+unfoldable pub judged_of : Option Out → Judged
+judged_of (Some o) = gives (out_of o)
+judged_of None = none_fits

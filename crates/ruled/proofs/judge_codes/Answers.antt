@@ -11,20 +11,20 @@ pub enter_out-requires : goal.enter_out-requires
 unfolding judged_of
 enter_out-requires c =
     let a = c.args in
-    let e = sym c.resolve-j.ensures ∙ ap judged_of c.in-Gives.is in
-    let f = gives-formed a.row (kept a.running) (map operand a.codes.now) (out_of c.in-Gives.out) e in
+    let e = sym c.resolve.ensures ∙ ap judged_of c.in-Some.is in
+    let f = gives-formed a.row (kept a.running) (map operand a.codes.now) (out_of c.in-Some.out) e in
     (c.requires, f.0, f.1)
 
-pub returns-in-Gives : goal.returns-in-Gives
+pub returns-in-Some : goal.returns-in-Some
 unfolding judged_of judged_outcome
-returns-in-Gives c =
+returns-in-Some c =
     let a = c.args in
-    let e = ap judged_of (sym c.in-Gives.is) ∙ c.resolve-j.ensures in
+    let e = ap judged_of (sym c.in-Some.is) ∙ c.resolve.ensures in
     gave-as (ap (judged_outcome a.place.0 a.words.now a.n) e) c.enter_out.ensures
 
-pub returns-in-NoneFits : goal.returns-in-NoneFits
+pub returns-in-None : goal.returns-in-None
 unfolding judged_of judged_outcome
-returns-in-NoneFits c =
+returns-in-None c =
     let a = c.args in
-    let e = ap judged_of (sym c.in-NoneFits.is) ∙ c.resolve-j.ensures in
+    let e = ap judged_of (sym c.in-None.is) ∙ c.resolve.ensures in
     gave-as (ap (judged_outcome a.place.0 a.words.now a.n) e) (gave-refused _ _ a.words.now a.n c.refused.ensures)
