@@ -11,6 +11,12 @@ const NONE: u8 = 255;
 pub const SCALARS: u8 = 7;
 
 pub const PLAINS: u8 = 28;
+// The scalars that are abstract, and i32.
+pub const ABSTRACT_INT: u8 = 1;
+
+pub const ABSTRACT_FLOAT: u8 = 2;
+
+pub const I32: u8 = 3;
 
 // The rank of a conversion, by the scalar it goes from and the scalar it goes to.
 const RANK: [[u8; 7]; 7] = [

@@ -7,7 +7,7 @@ use lib.ListN.{length, get_or, get_or-eq_default}
 use native.Mathlib.Nat.{not-suc-le-zero}
 use Rattle.conv.proofs.Finite.{all, below}
 use Rattle.overload.specs.Rows.{Size}
-use Rattle.overload.specs.inner.Code.{entry, family_of, Word, sets, set_of, size_lists, sizes_of}
+use Rattle.overload.specs.inner.Code.{entry, sets, set_of, size_lists, sizes_of}
 use Rattle.listing.specs.inner.Places.{size_in, size_by, SetLine, SizesLine}
 
 pub set_line : (k : ℕ) {w l : ℕ} → w % 8 ≡ length (set_of k) → T (all (length (set_of k)) (λ i. eqb (entry 3 w (i + 1)) (get_or (set_of k) i 0))) → l ≡ k → SetLine l w
@@ -34,11 +34,8 @@ no-sizes-line {w} {l} c h =
 
 -- THE COUNTS OF A FAMILY, by the lines of its sets and of its list of sizes
 
-pub set-count : {f w l : ℕ} → Word f w → SetLine (entry 4 w 14) l → l % 8 ≡ length (family_of f).set
-set-count w l = l.count ∙ ap (λ (us : List ℕ). length us) w.set
+pub set-count : {us : List ℕ} {k l : ℕ} → set_of k ≡ us → SetLine k l → l % 8 ≡ length us
+set-count e l = l.count ∙ ap (λ (us : List ℕ). length us) e
 
-pub second-count : {f w l : ℕ} → Word f w → SetLine (entry 4 w 15) l → l % 8 ≡ length (family_of f).second
-second-count w l = l.count ∙ ap (λ (us : List ℕ). length us) w.second
-
-pub sizes-count : {f w l : ℕ} → Word f w → SizesLine (entry 4 w 13) l → l % 256 ≡ length (family_of f).sizes
-sizes-count w l = l.count ∙ ap (λ (zs : List Size). length zs) w.sizes
+pub sizes-count : {zs : List Size} {k l : ℕ} → sizes_of k ≡ zs → SizesLine k l → l % 256 ≡ length zs
+sizes-count e l = l.count ∙ ap (λ (zs : List Size). length zs) e

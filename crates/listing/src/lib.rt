@@ -4,12 +4,13 @@
 
 ghost use Rattle.std.specs.Prelude.{◌≡◌, ◌<◌, length, get_or};
 ghost use Rattle.overload.specs.Rows.{row_at, overloads_of, component_at};
-ghost use Rattle.overload.specs.inner.Code.{family_of, component_of_no, set_of, sizes_of, Word, Starts};
+ghost use Rattle.overload.specs.inner.Code.{family_of, component_of_no, set_of, sizes_of};
 ghost use Rattle.listing.specs.Listing.{Params};
 ghost use Rattle.listing.specs.inner.Places.{count_of, t_at, n_at, i_at, size_in, code_of_param, codes_at, Asked, SetLine, SizesLine};
 
 use cast::wide;
-use overload::tables;
+use conv::{ABSTRACT_FLOAT, ABSTRACT_INT, I32};
+use overload::tables::{Family, Row, Size};
 
 // How many rows there are.
 const ROWS: usize = 54;
@@ -24,12 +25,6 @@ const OF_I: u8 = 7;
 const OF_EXP: u8 = 8;
 
 const OF_T: u8 = 9;
-// The scalars that follow T: at an abstract T, and at any other.
-const ABSTRACT_INT: u8 = 1;
-
-const ABSTRACT_FLOAT: u8 = 2;
-
-const I32: u8 = 3;
 
 // By set of scalars: how many it has, and each of them, by number. An octal digit each, from the right.
 fn set_line(k: u8) -> u64
@@ -107,94 +102,86 @@ fn size_in(k: u8, w: u64, i: u64) -> u64
     (w >> 8) % 256 + (w >> 16) % 256 * (i % 3) + (w >> 24) % 256 * (i / 3)
 }
 
-// How many overloads a family has, by its line.
-fn count_in(f: u64, w: u64) -> u64
-    requires { Word f w }
-    ensures { result ≡ count_of (family_of f) }
+// How many overloads a family has.
+fn count_in(f: Family) -> u64
+    ensures { result ≡ count_of (family_of f.no) }
 {
-    let sizes = sizes_line(((w >> 52) % 16) as u8) % 256;
-    let set = set_line(((w >> 56) % 16) as u8) % 8;
-    let second = set_line(((w >> 60) % 16) as u8) % 8;
+    let sizes = sizes_line(f.sizes()) % 256;
+    let set = set_line(f.set()) % 8;
+    let second = set_line(f.second()) % 8;
     set * sizes * second
 }
 
 // The second choice of the overload at a place of a family.
-fn second_of(f: u64, w: u64, j: u64) -> u8
-    requires { Word f w × (j < count_of (family_of f)) }
-    ensures { (result ≡ i_at (family_of f) j) × (result < 8) }
+fn second_of(f: Family, j: u64) -> u8
+    requires { j < count_of (family_of f.no) }
+    ensures { (result ≡ i_at (family_of f.no) j) × (result < 8) }
 {
-    let k = ((w >> 60) % 16) as u8;
+    let k = f.second();
     let line = set_line(k);
     scalar_in(k, line, j % (line % 8))
 }
 
 // The number of its size.
-fn size_of(f: u64, w: u64, j: u64) -> u8
-    requires { Word f w × (j < count_of (family_of f)) }
-    ensures { (result ≡ n_at (family_of f) j) × (result < 41) }
+fn size_of(f: Family, j: u64) -> u8
+    requires { j < count_of (family_of f.no) }
+    ensures { (result ≡ n_at (family_of f.no) j) × (result < 41) }
 {
-    let turn = j / (set_line(((w >> 60) % 16) as u8) % 8);
-    let k = ((w >> 52) % 16) as u8;
+    let turn = j / (set_line(f.second()) % 8);
+    let k = f.sizes();
     let line = sizes_line(k);
     size_in(k, line, turn % (line % 256)) as u8
 }
 
 // Its T.
-fn t_of(f: u64, w: u64, j: u64) -> u8
-    requires { Word f w × (j < count_of (family_of f)) }
-    ensures { (result ≡ t_at (family_of f) j) × (result < 8) }
+fn t_of(f: Family, j: u64) -> u8
+    requires { j < count_of (family_of f.no) }
+    ensures { (result ≡ t_at (family_of f.no) j) × (result < 8) }
 {
-    let turn = j / (set_line(((w >> 60) % 16) as u8) % 8);
-    let sizes = sizes_line(((w >> 52) % 16) as u8) % 256;
-    let k = ((w >> 56) % 16) as u8;
+    let turn = j / (set_line(f.second()) % 8);
+    let sizes = sizes_line(f.sizes()) % 256;
+    let k = f.set();
     scalar_in(k, set_line(k), turn / sizes)
 }
 
 // The scalar that a component is at a T and an I.
+#[tactic(auto, unfolding(overload::specs::Rows::component_at, overload::specs::inner::Code::component_of_no))]
 fn scalar_at(of: u8, t: u8, i: u8) -> u8
     requires { (of < 10) × (t < 8) × (i < 8) }
     ensures { (result ≡ component_at (component_of_no of) t i) × (result < 10) }
 {
-    if of == OF_T {
-        return t;
+    match of {
+        OF_T => t,
+        OF_I => i,
+        OF_EXP => match t {
+            ABSTRACT_INT | ABSTRACT_FLOAT => ABSTRACT_INT,
+            _ => I32,
+        },
+        _ => of,
     }
-    if of == OF_I {
-        return i;
-    }
-    if of != OF_EXP {
-        return of;
-    }
-    if t == ABSTRACT_INT {
-        return ABSTRACT_INT;
-    }
-    if t == ABSTRACT_FLOAT {
-        return ABSTRACT_INT;
-    }
-    I32
 }
 
 // The parameter k of a family at a size, a T and an I, as an operand's number.
-fn param(f: u64, w: u64, n: u8, starts: u64, t: u8, i: u8, k: usize) -> u8
-    requires { Word f w × Starts n starts × Asked (family_of f) n k × (t < 8) × (i < 8) × (k < 4) }
-    ensures { result ≡ code_of_param (family_of f) n t i k }
+fn param(f: Family, z: Size, t: u8, i: u8, k: usize) -> u8
+    requires { Asked (family_of f.no) z.no k × (t < 8) × (i < 8) × (k < 4) }
+    ensures { result ≡ code_of_param (family_of f.no) z.no t i k }
 {
-    let start = tables::start(tables::digit(f, w, 2 * k + 1), n, starts);
-    start + scalar_at(tables::digit(f, w, 2 * k + 2), t, i)
+    let start = z.start(f.digit(2 * k + 1));
+    start + scalar_at(f.digit(2 * k + 2), t, i)
 }
 
 // The parameters of the overload at a place of a family, as operands' numbers.
-fn in_family(f: u64, w: u64, j: u64) -> [u8; 4]
-    requires { Word f w × (j < count_of (family_of f)) }
-    ensures { result ≡ codes_at (family_of f) j }
+fn in_family(f: Family, j: u64) -> [u8; 4]
+    requires { j < count_of (family_of f.no) }
+    ensures { result ≡ codes_at (family_of f.no) j }
 {
-    let n = size_of(f, w, j);
-    let t = t_of(f, w, j);
-    let i = second_of(f, w, j);
-    let starts = tables::starts_at(n);
-    let a = param(f, w, n, starts, t, i, 0);
-    let b = param(f, w, n, starts, t, i, 1);
-    let c = param(f, w, n, starts, t, i, 2);
-    let d = param(f, w, n, starts, t, i, 3);
+    let z = Size::at(size_of(f, j));
+    let t = t_of(f, j);
+    let i = second_of(f, j);
+    let a = param(f, z, t, i, 0);
+    let b = param(f, z, t, i, 1);
+    let c = param(f, z, t, i, 2);
+    let d = param(f, z, t, i, 3);
     [a, b, c, d]
 }
 
@@ -221,15 +208,15 @@ pub fn params(row: usize, j: usize) -> [u8; 4]
     requires { j < length (overloads_of (row_at row)) }
     ensures { Params row j result }
 {
-    let start = (tables::row_line(row) >> 40) % 256;
+    let r = Row::at(row);
     let mut k = 0;
     let mut left = j as u64;
+    // Stays: the place stands in one of the row's families, so the loop ends by its return; behind a `for` over them an answer would stand that is never given.
     loop {
-        let f = start + k;
-        let w = tables::family_word(f);
-        let here = count_in(f, w);
+        let f = Family::at(r.start() + k);
+        let here = count_in(f);
         if left < here {
-            return in_family(f, w, left);
+            return in_family(f, left);
         }
         left -= here;
         k += 1;

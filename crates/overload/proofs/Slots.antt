@@ -4,7 +4,7 @@ use borrow.Author.Tests.{eqb-false}
 use Rattle.conv.specs.Rank.{pick, both, none, rank_of, Shape, component_of, same_shape, converts, made, common_of, accepts}
 use Rattle.conv.specs.Rank.Shape.{one, vector, matrix, other}
 use Rattle.conv.proofs.Finite.{same, same-eq, below₃}
-use Rattle.conv.proofs.Ranks.{join, rank-from}
+use Rattle.conv.proofs.Ranks.{join}
 use Rattle.conv.proofs.Made.{shape-made}
 use Rattle.overload.specs.Overload.{or}
 use Rattle.overload.specs.Rows.{Form, Component, form_at, component_at, pattern_ty, N}

@@ -2,7 +2,7 @@
 use native.Mathlib.Omega.{arith}
 use native.Mathlib.Nat.{mul-le-mul}
 use Prim.Native.Nat.{◌*◌, ◌%◌, ◌≤◌}
-use Rattle.listing.proofs.Lines.{set-count, second-count, sizes-count}
+use Rattle.listing.proofs.Lines.{set-count, sizes-count}
 use Rattle.listing.proofs.count_in.Goals.{After-set_line-second}
 use Rattle.listing.proofs.count_in.Goals as goal
 
@@ -20,8 +20,7 @@ overflow_mul-result-2 c = let h = product (goal.at.overflow_mul-result-2 c).Afte
 
 pub returns : goal.returns
 returns c =
-    let p = c.requires in
-    let a = set-count p c.set_line-set.ensures in
-    let z = sizes-count p c.sizes_line-sizes.ensures in
-    let s = second-count p c.set_line-second.ensures in
+    let a = set-count c.set.ensures.0 c.set_line-set.ensures in
+    let z = sizes-count c.sizes.ensures.0 c.sizes_line-sizes.ensures in
+    let s = set-count c.second.ensures.0 c.set_line-second.ensures in
     λ i. a i * z i * s i

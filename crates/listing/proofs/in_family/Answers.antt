@@ -6,33 +6,33 @@ use mathlib.Core.List.{[], ◌∷◌}
 use Rattle.overload.specs.inner.Code.{family_of}
 use Rattle.listing.specs.inner.Places.{Asked, code_of_param, code_at}
 use Rattle.listing.proofs.Places.{at_place}
-use Rattle.listing.proofs.in_family.Goals.{After-starts_at-starts}
+use Rattle.listing.proofs.in_family.Goals.{After-second_of-i}
 use Rattle.listing.proofs.in_family.Goals as goal
 
 -- at the size of the place every parameter has a shape
-asks : (c : After-starts_at-starts) (k : ℕ) → k < 4 → Asked (family_of c.args.f) c.size_of-n.result k
+asks : (c : After-second_of-i) (k : ℕ) → k < 4 → Asked (family_of c.args.f.no) c.at-z.result.no k
 asks c k h =
-    subst (λ (n : ℕ). Asked (family_of c.args.f) n k) (sym c.size_of-n.ensures.0) ((at_place c.args.f c.args.j c.requires.1).asked k h)
+    subst (λ (n : ℕ). Asked (family_of c.args.f.no) n k) (sym (c.at-z.ensures ∙ c.size_of.ensures.0)) ((at_place c.args.f.no c.args.j c.requires).asked k h)
 
-param_is : (c : After-starts_at-starts) (k r : ℕ) → r ≡ code_of_param (family_of c.args.f) c.size_of-n.result c.t_of-t.result c.second_of-i.result k → r ≡ code_at (family_of c.args.f) c.args.j k
-param_is c k r e = e ∙ (λ i. code_of_param (family_of c.args.f) (c.size_of-n.ensures.0 i) (c.t_of-t.ensures.0 i) (c.second_of-i.ensures.0 i) k)
+param_is : (c : After-second_of-i) (k r : ℕ) → r ≡ code_of_param (family_of c.args.f.no) c.at-z.result.no c.t_of-t.result c.second_of-i.result k → r ≡ code_at (family_of c.args.f.no) c.args.j k
+param_is c k r e = e ∙ (λ i. code_of_param (family_of c.args.f.no) ((c.at-z.ensures ∙ c.size_of.ensures.0) i) (c.t_of-t.ensures.0 i) (c.second_of-i.ensures.0 i) k)
 
 pub param-a-requires : goal.param-a-requires
-param-a-requires c = (c.requires.0, c.starts_at-starts.ensures, asks ((goal.at.param-a-requires c).After-starts_at-starts) 0 (omega arith), c.t_of-t.ensures.1, c.second_of-i.ensures.1, omega arith)
+param-a-requires c = (asks (goal.at.param-a-requires c).After-second_of-i 0 (omega arith), c.t_of-t.ensures.1, c.second_of-i.ensures.1, omega arith)
 
 pub param-b-requires : goal.param-b-requires
-param-b-requires c = (c.requires.0, c.starts_at-starts.ensures, asks (goal.at.param-b-requires c).After-starts_at-starts 1 (omega arith), c.t_of-t.ensures.1, c.second_of-i.ensures.1, omega arith)
+param-b-requires c = (asks (goal.at.param-b-requires c).After-second_of-i 1 (omega arith), c.t_of-t.ensures.1, c.second_of-i.ensures.1, omega arith)
 
 pub param-c-requires : goal.param-c-requires
-param-c-requires c = (c.requires.0, c.starts_at-starts.ensures, asks (goal.at.param-c-requires c).After-starts_at-starts 2 (omega arith), c.t_of-t.ensures.1, c.second_of-i.ensures.1, omega arith)
+param-c-requires c = (asks (goal.at.param-c-requires c).After-second_of-i 2 (omega arith), c.t_of-t.ensures.1, c.second_of-i.ensures.1, omega arith)
 
 pub param-d-requires : goal.param-d-requires
-param-d-requires c = (c.requires.0, c.starts_at-starts.ensures, asks (goal.at.param-d-requires c).After-starts_at-starts 3 (omega arith), c.t_of-t.ensures.1, c.second_of-i.ensures.1, omega arith)
+param-d-requires c = (asks (goal.at.param-d-requires c).After-second_of-i 3 (omega arith), c.t_of-t.ensures.1, c.second_of-i.ensures.1, omega arith)
 
 pub returns : goal.returns
 returns c =
-    let p = param_is (goal.at.returns c).After-starts_at-starts 0 _ c.param-a.ensures in
-    let q = param_is (goal.at.returns c).After-starts_at-starts 1 _ c.param-b.ensures in
-    let u = param_is (goal.at.returns c).After-starts_at-starts 2 _ c.param-c.ensures in
-    let v = param_is (goal.at.returns c).After-starts_at-starts 3 _ c.param-d.ensures in
+    let p = param_is (goal.at.returns c).After-second_of-i 0 _ c.param-a.ensures in
+    let q = param_is (goal.at.returns c).After-second_of-i 1 _ c.param-b.ensures in
+    let u = param_is (goal.at.returns c).After-second_of-i 2 _ c.param-c.ensures in
+    let v = param_is (goal.at.returns c).After-second_of-i 3 _ c.param-d.ensures in
     λ i. p i ∷ q i ∷ u i ∷ v i ∷ []

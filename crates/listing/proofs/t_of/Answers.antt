@@ -3,24 +3,24 @@ use native.Mathlib.Omega.{arith}
 use Prim.Native.Nat.{ℕ, ◌/◌, ◌%◌, ◌<◌}
 use mathlib.Core.Path.{sym, ◌∙◌, subst, transport}
 use lib.ListN.{get_or}
-use Rattle.listing.proofs.Lines.{set-count, second-count, sizes-count}
+use Rattle.listing.proofs.Lines.{set-count, sizes-count}
 use Rattle.listing.proofs.Places.{at_place}
 use Rattle.listing.proofs.t_of.Goals.{After-set_line-2}
 use Rattle.listing.proofs.t_of.Goals as goal
 
 pub nonzero_div-turn : goal.nonzero_div-turn
-nonzero_div-turn c = let e = second-count c.requires.0 c.set_line.ensures in let l = (at_place c.args.f c.args.j c.requires.1).second in omega (arith, e, l)
+nonzero_div-turn c = let e = set-count c.second.ensures.0 c.set_line.ensures in let l = (at_place c.args.f.no c.args.j c.requires).second in omega (arith, e, l)
 
 pub nonzero_div-turn-2 : goal.nonzero_div-turn-2
-nonzero_div-turn-2 c = let e = sizes-count c.requires.0 c.sizes_line-sizes.ensures in let l = (at_place c.args.f c.args.j c.requires.1).size in omega (arith, e, l)
+nonzero_div-turn-2 c = let e = sizes-count c.sizes.ensures.0 c.sizes_line-sizes.ensures in let l = (at_place c.args.f.no c.args.j c.requires).size in omega (arith, e, l)
 
 -- there is a T at the place
 within : (c : After-set_line-2) → c.args.j / (c.set_line.result % 8) / (c.sizes_line-sizes.result % 256) < c.set_line-2.result % 8
 within c =
-    let e = second-count c.requires.0 c.set_line.ensures in
-    let z = sizes-count c.requires.0 c.sizes_line-sizes.ensures in
-    let s = set-count c.requires.0 c.set_line-2.ensures in
-    transport (λ i. c.args.j / sym e i / sym z i < sym s i) (at_place c.args.f c.args.j c.requires.1).t
+    let e = set-count c.second.ensures.0 c.set_line.ensures in
+    let z = sizes-count c.sizes.ensures.0 c.sizes_line-sizes.ensures in
+    let s = set-count c.set-k.ensures.0 c.set_line-2.ensures in
+    transport (λ i. c.args.j / sym e i / sym z i < sym s i) (at_place c.args.f.no c.args.j c.requires).t
 
 pub scalar_in-requires : goal.scalar_in-requires
 scalar_in-requires c = let q = within (goal.at.scalar_in-requires c).After-set_line-2 in (
@@ -31,6 +31,6 @@ scalar_in-requires c = let q = within (goal.at.scalar_in-requires c).After-set_l
 
 pub returns : goal.returns
 returns c =
-    let e = second-count c.requires.0 c.set_line.ensures in
-    let z = sizes-count c.requires.0 c.sizes_line-sizes.ensures in
-    (c.scalar_in.ensures.0 ∙ (λ i. get_or (c.requires.0.set i) (c.args.j / e i / z i) 0), c.scalar_in.ensures.1)
+    let e = set-count c.second.ensures.0 c.set_line.ensures in
+    let z = sizes-count c.sizes.ensures.0 c.sizes_line-sizes.ensures in
+    (c.scalar_in.ensures.0 ∙ (λ i. get_or (c.set-k.ensures.0 i) (c.args.j / e i / z i) 0), c.scalar_in.ensures.1)

@@ -1,5 +1,5 @@
 -- `overload::join` meets its contract. Assumes nothing.
-use Rattle.std.proofs.Common.{◌≡◌, ℕ, ◌<◌, sym, refl, subst, arith}
+use Rattle.std.proofs.Common.{◌≡◌, ℕ, sym, refl, subst, arith}
 use Rattle.conv.specs.Rank.{both}
 use Rattle.overload.specs.inner.Code.{reaches}
 use Rattle.overload.proofs.Slots.{both-same}

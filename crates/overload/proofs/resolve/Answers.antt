@@ -1,6 +1,6 @@
 -- `overload::resolve` meets its contract: its judgment meets demand 3, and so is the one that the definition gives. The loop carries `Passed`: the families that are tried so far do not fit.
 -- Assumes nothing.
-use Rattle.std.proofs.Common.{◌≡◌, ℕ, ◌+◌, ◌*◌, ◌/◌, ◌<◌, ◌≤◌, max, length, map, List, sym, refl, ⊎_elim, ◌≢◌, ap, ◌∙◌, subst, arith}
+use Rattle.std.proofs.Common.{◌≡◌, ℕ, ◌+◌, ◌*◌, ◌/◌, ◌<◌, ◌≤◌, length, map, List, sym, refl, ⊎_elim, ◌≢◌, ap, ◌∙◌, subst, arith}
 use Rattle.std.specs.Prelude.{Option, unwrap_or, slice_get, slice_index}
 use Rattle.std.proofs.lemmas.Option.{unwrap_or-slice_get}
 use Rattle.conv.specs.Rank.{form_of}

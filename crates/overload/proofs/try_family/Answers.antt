@@ -1,5 +1,5 @@
 -- `overload::try_family` meets its contract: each way out is a judgment of the family. Assumes nothing.
-use Rattle.std.proofs.Common.{◌≡◌, ℕ, ◌<◌, Bool, T, map, length, sym, ap, ◌∙◌, subst, arith, eq-eqb, ne_eqb}
+use Rattle.std.proofs.Common.{◌≡◌, ℕ, ◌<◌, Bool, T, map, length, sym, ap, ◌∙◌, subst, eq-eqb, ne_eqb}
 use Rattle.conv.specs.Rank.{both}
 use Rattle.conv.proofs.Answered.{found-nothing, found-it, found-some}
 use Rattle.overload.specs.inner.Code.{operand, size_of_no, mem_size, family_of, size_at, bit, has, member, left_t}
