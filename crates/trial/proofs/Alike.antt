@@ -1,13 +1,14 @@
 -- WHAT A COPY ANSWERS: over two slices that hold the same table and leave the same room every single call answers the same; and the first 1,024 words of a slice are such a copy.
 -- Assumes nothing.
-use Prim.Native.Nat.{ℕ, zero, suc, ◌+◌, ◌-◌, ◌*◌, ◌/◌, ◌≤◌}
+use Prim.Native.Nat.{min, ℕ, zero, suc, ◌+◌, ◌-◌, ◌*◌, ◌/◌, ◌≤◌}
 use mathlib.Core.Path.{◌≡◌, refl, sym, ◌∙◌, ap}
 use mathlib.Core.Bool.{Bool, true, false, cond}
-use mathlib.Core.List.{List, [], ◌∷◌}
+use mathlib.Core.List.{List, [], ◌∷◌, ◌++◌}
 use native.Mathlib.Omega.{arith}
 use lib.Dec.{leb, ltb, eqb}
-use lib.ListN.{length, take}
+use lib.ListN.{length, take, drop}
 use lib.Seq.{get_or-take, take_all, length-take-le}
+use Rattle.std.proofs.lemmas.List.{take-append-le}
 use borrow.Author.Tests.{ltb-true, leb-true, leb-false, le-leb}
 use Rattle.held.specs.Held.{number_of, mark_of}
 use Rattle.conv.specs.Types.{Ty}
@@ -231,6 +232,15 @@ module _ (w : List ℕ) (n : ℕ) where
       (λ b.
       let e : v ≡ w = take_all 1024 w (let h = leb-false 1024 (length w) b in omega arith) in
       record { sound = ap (λ (x : List ℕ). soundb x n) e; keeps = λ s. copied s.high; room = ap (λ (x : List ℕ). free x n) e })
+
+-- the part of a room that the copy fills
+pub filled : (w p z : List ℕ) (k : ℕ) → k ≡ min (length w) 1024 → p ≡ take k w → take k (p ++ drop k z) ≡ take 1024 w
+filled w p z k e h =
+    let l : length p ≡ k = ap length h ∙ length-take-le k w (omega (arith, e)) in
+    let s : take k (p ++ drop k z) ≡ take k w = take-append-le k p (drop k z) (omega arith) ∙ take_all k p (omega arith) ∙ h in
+    s ∙ split (leb 1024 (length w))
+    (λ b. let y = leb-true 1024 (length w) b in let q : k ≡ 1024 = omega (arith, e) in ap (λ i. take i w) q)
+    (λ b. let y = leb-false 1024 (length w) b in take_all k w (omega (arith, e)) ∙ sym (take_all 1024 w (omega arith)))
 
 -- WHAT A CALL GAVE over the part p, which is the copy
 module _ (w p : List ℕ) (n : ℕ) (e : p ≡ take 1024 w) (m : Bool) (r : Typed) (after : List ℕ) where
