@@ -23,7 +23,6 @@ use Rattle.table.specs.Placing.{stands_in, Standing, or_next, placed_over, place
 use Rattle.table.specs.Lacking.{Longer, Lacks, Grown}
 use Rattle.table.specs.declared.Entry.{Entry}
 use Rattle.std.specs.Prelude.{Option, Some, None}
-use Rattle.table.specs.Enter.{lacks}
 use Rattle.answer.specs.declared.TypeNo.{TypeNo}
 use Rattle.table.proofs.KindLaws.{split}
 use Rattle.table.proofs.SoundLaws.{sound-of, of-sound, keeps_entry, keeps-made, keeps-ok}

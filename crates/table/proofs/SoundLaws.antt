@@ -10,7 +10,7 @@ use native.Mathlib.Omega.{arith}
 use lib.ListN.{length, get_or, set, length-set}
 use lib.Seq.{get_or-set_same, get_or-set_other}
 use lib.Dec.{leb, ltb, eqb}
-use borrow.Author.Tests.{le-leb, ltb-true, leb-true, eqb-true, eq-eqb, ne_eqb}
+use borrow.Author.Tests.{le-leb, ltb-true, leb-true, eqb-true, eq-eqb}
 use Rattle.table.specs.Tools.{all_below}
 use Rattle.table.specs.Table.{stride, ceiling, entry_at, put_entry, Key, entry_key, sameb, chain_by, chain, base_of, entry_ok, or_else, find_in, is_nothing, good_at, soundb, Sound, Keeps, scalar_ok, made_ok}
 use Rattle.table.specs.declared.Entry.{Entry}
@@ -70,16 +70,17 @@ pub sameb-refl : (a b : Entry) → entry_key a ≡ entry_key b → sameb a b ≡
 sameb-refl a b h =
     rw (eq-eqb a.kind b.kind (ap (λ (k : Key). k.kind) h), eq-eqb a.p b.p (ap (λ (k : Key). k.p) h), eq-eqb a.q b.q (ap (λ (k : Key). k.q) h), eq-eqb a.elem b.elem (ap (λ (k : Key). k.elem) h))
 
--- two that differ in p or in elem
-no-right : (b : Bool) → (b && false) ≡ false
-no-right true = refl
-no-right false = refl
+-- `==` of two entries goes word by word
+abbrev pub by_words : Entry → Entry → Bool
+by_words a b = eqb a.kind b.kind && (eqb a.p b.p && (eqb a.q b.q && eqb a.elem b.elem))
 
-pub other-p : (a b : Entry) → a.p ≢ b.p → sameb a b ≡ false
-other-p a b d = rw (ne_eqb a.p b.p d, no-right (eqb a.kind b.kind))
-
-pub other-elem : (a b : Entry) → a.elem ≢ b.elem → sameb a b ≡ false
-other-elem a b d = rw (ne_eqb a.elem b.elem d) (no-right (eqb a.kind b.kind && eqb a.p b.p && eqb a.q b.q))
+pub same-words : (a b : Entry) → by_words a b ≡ sameb a b
+same-words a b = go (eqb a.kind b.kind) (eqb a.p b.p) (eqb a.q b.q) (eqb a.elem b.elem)
+  where
+    go : (k p q e : Bool) → (k && (p && (q && e))) ≡ (k && p && q && e)
+    go true true q e = refl
+    go true false q e = refl
+    go false p q e = refl
 
 -- what finding says
 

@@ -91,7 +91,7 @@ pub const ACCESS_WRITE: u32 = 1;
 pub const ACCESS_READ_WRITE: u32 = 2;
 
 // An entry of the table, by value.
-#[derive(Clone, Copy)]
+#[derive(Clone, Copy, Debug, PartialEq, Eq)]
 pub struct Entry {
     pub kind: u32,
     pub p: u32,
@@ -100,14 +100,14 @@ pub struct Entry {
 }
 
 // What entering gives: the number of the entry, and the used count afterwards.
-#[derive(Clone, Copy)]
+#[derive(Clone, Copy, Debug, PartialEq, Eq)]
 pub struct Entered {
     pub ty: TypeNo,
     pub used: usize,
 }
 
 // Where there is no room to enter: how many entries lack.
-#[derive(Clone, Copy)]
+#[derive(Clone, Copy, Debug, PartialEq, Eq)]
 pub struct Lacks(pub u32);
 
 // Entry i. This and `entering::put_entry` are the only two that know how an entry lies in the words.
@@ -124,30 +124,10 @@ pub fn entry_at(words: &[u32], i: usize) -> Entry
     }
 }
 
-// Two entries have one key.
-fn same(a: Entry, b: Entry) -> bool
-    ensures { result ≡ sameb a b }
-{
-    (a.kind == b.kind) & (a.p == b.p) & (a.q == b.q) & (a.elem == b.elem)
-}
-
-// The same, for entries that mostly differ in p. `same` takes all words at once, which is slower here.
-fn alike(a: Entry, b: Entry) -> bool
-    ensures { result ≡ sameb a b }
-{
-    if a.p != b.p {
-        return false;
-    }
-    if a.elem != b.elem {
-        return false;
-    }
-    same(a, b)
-}
-
 fn is_width(x: u32) -> bool
     ensures { result ≡ is_width x }
 {
-    (2 <= x) & (x <= 4)
+    (2..=4).contains(&x)
 }
 
 fn is_float(s: usize) -> bool
@@ -288,12 +268,10 @@ pub fn find(words: &[u32], n: usize, e: Entry) -> Option<TypeNo>
     requires { n * stride ≤ length words.now }
     ensures { result ≡ find_in words.now n e }
 {
-    let mut i = 0;
-    while i < n {
-        if same(entry_at(words, i), e) {
+    for i in 0..n {
+        if entry_at(words, i) == e {
             return Some(TypeNo(i));
         }
-        i += 1;
     }
     None
 }
@@ -303,12 +281,10 @@ fn scalars_stand(words: &[u32]) -> bool
     requires { scalars * stride ≤ length words.now }
     ensures { result ≡ all_below (scalar_at words.now) scalars }
 {
-    let mut i = 0;
-    while i < SCALARS {
+    for i in 0..SCALARS {
         if !scalar_ok(i, entry_at(words, i)) {
             return false;
         }
-        i += 1;
     }
     true
 }
@@ -352,8 +328,8 @@ fn fork_of(k: usize, turns: u64) -> usize
     SLOTS + 2 * k + (turns % 2) as usize
 }
 
-// The free place on e's way; or `PLACES` where an entry with e's key stands on it.
-fn free_place(words: &[u32], links: &[u8], i: usize, e: Entry) -> usize
+// The free place on e's way, if no entry with e's key stands on it.
+fn free_place(words: &[u32], links: &[u8], i: usize, e: Entry) -> Option<usize>
     requires { (i * stride ≤ length words.now) × (scalars ≤ i) × (i ≤ ceiling) × (find_in words.now scalars e ≡ None) × Linked words.now i links.now }
     ensures { Ended words.now i links.now e result }
 {
@@ -361,14 +337,14 @@ fn free_place(words: &[u32], links: &[u8], i: usize, e: Entry) -> usize
     let mut turns = turns_of(e);
     let mut at = cast::wide(links[place]);
     while 0 < at {
-        if alike(entry_at(words, at), e) {
-            return PLACES;
+        if entry_at(words, at) == e {
+            return None;
         }
         place = fork_of(at, turns);
         turns = turns / 2;
         at = cast::wide(links[place]);
     }
-    place
+    Some(place)
 }
 
 // `made_ok` of entry i, where the innermost scalars of those before it are known.
@@ -396,13 +372,11 @@ fn good_next(words: &[u32], i: usize, links: &mut [u8], bases: &mut [u8]) -> boo
     if !made_next(words, bases, i, e) {
         return false;
     }
-    let place = free_place(words, links, i, e);
-    if place == PLACES {
+    let Some(place) = free_place(words, links, i, e) else {
         return false;
-    }
+    };
     links[place] = i as u8;
-    let el = cast::word(e.elem);
-    bases[i] = bases[el];
+    bases[i] = bases[cast::word(e.elem)];
     true
 }
 
@@ -411,12 +385,10 @@ fn rest_good(words: &[u32], n: usize, links: &mut [u8], bases: &mut [u8]) -> boo
     requires { (n * stride ≤ length words.now) × (scalars ≤ n) × (n ≤ ceiling) × (all_below (scalar_at words.now) scalars ≡ true) × Linked words.now scalars links.old × Based words.now scalars bases.old }
     ensures { result ≡ all_below (good_at words.now) n }
 {
-    let mut i = SCALARS;
-    while i < n {
+    for i in SCALARS..n {
         if !good_next(words, i, links, bases) {
             return false;
         }
-        i += 1;
     }
     true
 }
@@ -426,10 +398,8 @@ fn put_bases(bases: &mut [u8])
     requires { length bases.old ≡ ceiling }
     ensures { (w : List ℕ) → Based w scalars bases.new }
 {
-    let mut k = 0;
-    while k < SCALARS {
+    for k in 0..SCALARS {
         bases[k] = k as u8;
-        k += 1;
     }
 }
 

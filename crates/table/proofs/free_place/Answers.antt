@@ -1,7 +1,8 @@
 -- `table::free_place` meets its contract: the loop goes along e's way, whose places rise. Assumes nothing.
 use native.Mathlib.Omega.{arith}
 use mathlib.Core.Bool.{true, false}
-use mathlib.Core.Path.{◌≡◌, refl, sym, ◌∙◌, ap}
+use mathlib.Core.Path.{◌≡◌, sym, ◌∙◌, ap}
+use Rattle.table.proofs.SoundLaws.{same-words}
 use Rattle.table.proofs.SlotLaws.{slot-below, walk_start, walk-hit, walk-rise, walk_step, walk_end}
 use Rattle.table.specs.declared.Entry.{Entry}
 use Rattle.table.specs.Table.{sameb, entry_at}
@@ -16,13 +17,13 @@ loop-at-init c = let a = c.args in let p = c.requires in (walk_start a.words.now
 pub entry_at-requires : goal.entry_at-requires
 entry_at-requires c = let p = c.requires in let l = p.4.low c.loop-at.place in let q = c.loop-at.invariant.1 in let r = p.0 in omega arith
 
-pub returns-then-alike : goal.returns-then-alike
-returns-then-alike c =
+pub returns-then-eq : goal.returns-then-eq
+returns-then-eq c =
     let a = c.args in
     let p = c.requires in
     let l = c.loop-at in
-    let s : sameb (entry_at a.words.now l.at) a.e ≡ true = ap (λ (x : Entry). sameb x a.e) (sym c.entry_at.ensures) ∙ sym c.alike.ensures ∙ c.if-alike.true in
-    record { found = λ _. sym (walk-hit a.words.now a.i a.links.now a.e p.1 p.2 p.4 l.place l.turns l.invariant.0 l.at l.invariant.1 s); free = λ d. absurd (d refl) }
+    let s : sameb (entry_at a.words.now l.at) a.e ≡ true = ap (λ (x : Entry). sameb x a.e) (sym c.entry_at.ensures) ∙ sym (same-words c.entry_at.result a.e) ∙ sym c.eq.ensures ∙ c.if-eq.true in
+    sym (walk-hit a.words.now a.i a.links.now a.e p.1 p.2 p.4 l.place l.turns l.invariant.0 l.at l.invariant.1 s)
 
 pub fork_of-place-requires : goal.fork_of-place-requires
 fork_of-place-requires c = let p = c.requires in let l = p.4.low c.loop-at.place in let q = c.loop-at.invariant.1 in let r = p.2 in omega arith
@@ -46,7 +47,7 @@ loop-at-preserved c =
     let a = c.args in
     let p = c.requires in
     let l = c.loop-at in
-    let s : sameb (entry_at a.words.now l.at) a.e ≡ false = ap (λ (x : Entry). sameb x a.e) (sym c.entry_at.ensures) ∙ sym c.alike.ensures ∙ c.if-alike.false in
+    let s : sameb (entry_at a.words.now l.at) a.e ≡ false = ap (λ (x : Entry). sameb x a.e) (sym c.entry_at.ensures) ∙ sym (same-words c.entry_at.result a.e) ∙ sym c.eq.ensures ∙ c.if-eq.false in
     (rw c.fork_of-place.ensures (walk_step a.words.now a.i a.links.now a.e p.1 p.2 p.4 l.place l.turns l.invariant.0 l.at l.invariant.1 c.loop-at-test.true s), c.wide-at-in-loop-at.ensures)
 
 pub returns : goal.returns
@@ -54,7 +55,5 @@ returns c =
     let a = c.args in
     let p = c.requires in
     let l = c.loop-at in
-    let inside = l.invariant.0.inside in
-    let high = p.2 in
     let end = c.loop-at-test.false in
-    record { found = λ q. absurd (omega arith); free = λ _. walk_end a.words.now a.i a.links.now a.e p.1 p.2 p.4 l.place l.turns l.invariant.0 l.at l.invariant.1 (omega arith) p.3 }
+    walk_end a.words.now a.i a.links.now a.e p.1 p.2 p.4 l.place l.turns l.invariant.0 l.at l.invariant.1 (omega arith) p.3

@@ -1,4 +1,4 @@
-use Prim.Native.Nat.{◌≤◌, ◌-◌}
+use Prim.Native.Nat.{◌≤◌}
 use mathlib.Core.Path.{◌≡◌}
 use mathlib.Core.Bool.{true}
 use Rattle.table.specs.Tools.{all_below}
@@ -7,7 +7,4 @@ use Rattle.table.specs.inner.Slots.{Linked, Based}
 use Rattle.table.proofs.rest_good.Given as goal
 
 abbrev pub invariant-loop-i : goal.invariant-loop-i
-invariant-loop-i l = (scalars ≤ l.i) × (l.i ≤ l.n) × (all_below (good_at l.words) l.i ≡ true) × Linked l.words l.i l.links × Based l.words l.i l.bases
-
-abbrev pub decreases-loop-i : goal.decreases-loop-i
-decreases-loop-i l = l.n - l.i
+invariant-loop-i l = (scalars ≤ l.i) × (all_below (good_at l.words) l.i ≡ true) × Linked l.words l.i l.links × Based l.words l.i l.bases

@@ -1,6 +1,6 @@
 -- How the soundness test looks for equal entries. Each entry has a way through places, which begins at its slot; an entry stands at the first place of its way that was free.
 -- So equal entries stand on one way. Assumes nothing.
-use Rattle.std.specs.Prelude.{ℕ, ◌+◌, ◌*◌, ◌/◌, ◌%◌, ◌≤◌, ◌<◌, ◌≡◌, Bool, true, false, List, ◌≢◌, length, get_or, set}
+use Rattle.std.specs.Prelude.{ℕ, ◌+◌, ◌*◌, ◌/◌, ◌%◌, ◌≤◌, ◌<◌, ◌≡◌, Bool, true, false, List, length, get_or, set, Option, Some, None}
 use Rattle.table.specs.Table.{scalars, ceiling, entry_at, base_of, scalar_ok, find_in, is_nothing}
 use Rattle.table.specs.declared.Entry.{Entry}
 
@@ -60,10 +60,10 @@ pub record Free (w : List ℕ) (i : ℕ) (links : List ℕ) (e : Entry) (place :
   pub empty : get_or links place 0 ≡ 0
   pub reached : (k : ℕ) → 0 < k → Way (set links place k) (entry_slot e) (turns_of e) k
 
--- where looking along e's way ends: at `places` if e is found
-pub record Ended (w : List ℕ) (i : ℕ) (links : List ℕ) (e : Entry) (place : ℕ) : Type 0 where
-  pub found : place ≡ places → is_nothing (find_in w i e) ≡ false
-  pub free : place ≢ places → Free w i links e place
+-- where looking along e's way ends: at a free place, or at none if e is found
+abbrev pub Ended : List ℕ → ℕ → List ℕ → Entry → Option ℕ → Type 0
+Ended w i links e (Some place) = Free w i links e place
+Ended w i links e None = is_nothing (find_in w i e) ≡ false
 
 -- `bases` has the innermost scalar of each of the first n entries
 pub record Based (w : List ℕ) (n : ℕ) (bases : List ℕ) : Type 0 where
