@@ -2,64 +2,39 @@
 // pushes is known only when running.
 #![tactic(auto)]
 
-use answer::Place;
-use frame::{HEADER, Item, Placed};
+use frame::{Item, Placed};
+use reader::Reader;
 use std::io;
 
-fn text(rt: &impl Print, bytes: &[u8]) -> io::Result<()> {
-    rt.write_all(bytes)
-}
-
-fn number(rt: &impl Print, n: usize) -> io::Result<()> {
-    print!(rt; "{n}")
-}
-
-// A byte's number after a word, and what stands between two numbers.
-fn after(rt: &impl Print, word: &[u8], n: u8) -> io::Result<()> {
-    text(rt, word)?;
-    number(rt, n as usize)
-}
-
 // The mark of a value that is pushed.
-fn mark(rt: &impl Print, running: bool) -> io::Result<()> {
-    if running {
-        text(rt, b" running")?;
-    }
-    Ok(())
+fn mark(running: bool) -> &'static str {
+    if running { " running" } else { "" }
+}
+
+// A name, which ends a line. It may be any bytes.
+fn name(rt: &impl Print, name: &[u8]) -> io::Result<()> {
+    rt.write_all(name)?;
+    println!(rt;)
 }
 
 // Writes what stands at a place, and says whether an item stands there.
 fn line(rt: &impl Print, sheet: &[u8], found: Placed) -> io::Result<bool> {
-    let at = found.at;
-    number(rt, at.0)?;
-    let item = found.item;
-    match item {
-        Item::Push { ty, running } => {
-            text(rt, b" push ")?;
-            number(rt, ty.0)?;
-            mark(rt, running)?;
-        }
-        Item::Unary(o) => {
-            after(rt, b" unary ", o)?;
-        }
-        Item::Binary(o) => {
-            after(rt, b" binary ", o)?;
-        }
+    print!(rt; "{}", found.at.0)?;
+    match found.item {
+        Item::Push { ty, running } => println!(rt; " push {}{}", ty.0, mark(running))?,
+        Item::Unary(o) => println!(rt; " unary {o}")?,
+        Item::Binary(o) => println!(rt; " binary {o}")?,
         Item::Call { count, name: _ } => {
-            after(rt, b" call ", count)?;
-            text(rt, b" ")?;
-            text(rt, frame::call_name(sheet, at))?;
+            print!(rt; " call {count} ")?;
+            name(rt, frame::call_name(sheet, found.at))?;
         }
         Item::CallTemplate {
             template,
             count,
             name: _,
         } => {
-            text(rt, b" template ")?;
-            number(rt, template.0)?;
-            after(rt, b" call ", count)?;
-            text(rt, b" ")?;
-            text(rt, frame::call_name(sheet, at))?;
+            print!(rt; " template {} call {count} ", template.0)?;
+            name(rt, frame::call_name(sheet, found.at))?;
         }
         Item::Take {
             kind,
@@ -67,36 +42,28 @@ fn line(rt: &impl Print, sheet: &[u8], found: Placed) -> io::Result<bool> {
             q,
             elem,
             running,
-        } => {
-            after(rt, b" take ", kind)?;
-            text(rt, b" ")?;
-            number(rt, p as usize)?;
-            after(rt, b" ", q)?;
-            after(rt, b" ", elem)?;
-            mark(rt, running)?;
-        }
+        } => println!(rt; " take {kind} {p} {q} {elem}{}", mark(running))?,
         Item::End => {
-            text(rt, b" end\n")?;
+            println!(rt; " end")?;
             return Ok(false);
         }
         Item::Bad => {
-            text(rt, b" bad\n")?;
+            println!(rt; " bad")?;
             return Ok(false);
         }
     }
-    text(rt, b"\n")?;
     Ok(true)
 }
 
 // No more lines than bytes are written: each item but the last has two bytes at least.
 fn list(rt: &impl Print, sheet: &[u8]) -> io::Result<()> {
-    let mut at = Place(HEADER);
+    let mut reader = Reader::start(sheet);
     for _ in 0..sheet.len() {
-        let found = reader::read(sheet, at);
-        if !line(rt, sheet, found)? {
+        let step = reader.next();
+        if !line(rt, sheet, step.found)? {
             return Ok(());
         }
-        at = found.next;
+        reader = step.rest;
     }
     Ok(())
 }
@@ -108,6 +75,6 @@ fn main(rt: HostRuntime) -> io::Result<()> {
     if frame::header(sheet) {
         list(&rt, sheet)
     } else {
-        text(&rt, b"header\n")
+        println!(&rt; "header")
     }
 }
