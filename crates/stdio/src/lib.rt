@@ -17,6 +17,7 @@ pub fn large_buffer() -> [u8; 65536]
 
 // Reads until the buffer is full or the input ends, and gives how many bytes it put at the buffer's front: those that the reader gives next, and all of them
 // where they do not fill it. With an empty buffer it reads nothing. A read that fails is an error.
+// Stays: a read gives as much as it likes, so no index is counted; std's `read_exact` fails where the input ends first, and `read_to_end` fills a Vec.
 pub fn read_full<R: Read>(reader: &mut R, buffer: &mut [u8]) -> io::Result<usize>
     ensures in_bounds { ReadsAtMost result buffer.new }
     ensures bytes { IfOk result (λ n. Consumes (R.remaining reader.old) (R.remaining reader.new) (take n buffer.new)) }
@@ -35,12 +36,9 @@ pub fn read_full<R: Read>(reader: &mut R, buffer: &mut [u8]) -> io::Result<usize
 
 // How many words the program was started with, its own name the first of them.
 pub fn arg_count(rt: &impl Env) -> usize {
-    for i in 0..usize::MAX {
-        if let Err(FillError::NotPresent) = rt.arg(i, &mut []) {
-            return i;
-        }
-    }
-    usize::MAX
+    (0..usize::MAX)
+        .find(|i| matches!(rt.arg(*i, &mut []), Err(FillError::NotPresent)))
+        .unwrap_or(usize::MAX)
 }
 
 // Puts word i at the buffer's front and gives its length, or 0 where there is none or the buffer does not hold it.
