@@ -1,9 +1,9 @@
 // Entering: a type that is absent from the table becomes its next entry.
 #![tactic(auto)]
 
-ghost use Rattle.std.specs.Prelude.{◌≡◌, ◌+◌, ◌*◌, ◌≤◌, length, None};
+ghost use Rattle.std.specs.Prelude.{◌≡◌, ◌+◌, ◌*◌, ◌^◌, ◌<◌, ◌≤◌, length, None, OnOk, IfErr};
 ghost use Rattle.table.specs.Table.{stride, scalars, ceiling, put_entry, find_in, Sound};
-ghost use Rattle.table.specs.Enter.{with_scalars, free, container, EnterDone, EnterTwoDone, entry_answer};
+ghost use Rattle.table.specs.Enter.{with_scalars, free, lacking, container, EnterDone, EnterTwoDone, entry_answer};
 ghost use Rattle.table.specs.Placing.{enter_type, Gave};
 
 use table::{
@@ -28,8 +28,7 @@ pub fn put_scalars(words: &mut [u32])
     requires { scalars * stride ≤ length words.old }
     ensures { words.new ≡ with_scalars scalars words.old }
 {
-    let mut i = 0;
-    while i < SCALARS {
+    for i in 0..SCALARS {
         put_entry(
             words,
             i,
@@ -40,7 +39,6 @@ pub fn put_scalars(words: &mut [u32])
                 elem: 0,
             },
         );
-        i += 1;
     }
 }
 
@@ -49,11 +47,20 @@ fn free_of(words: &[u32], n: usize) -> usize
     requires { Sound words.now n }
     ensures { result ≡ free words.now n }
 {
-    let whole = words.len() / STRIDE;
-    if CEILING <= whole {
-        return CEILING - n;
+    (words.len() / STRIDE).min(CEILING) - n
+}
+
+// Whether there is room for k entries more; else how many of them lack.
+fn room_for(words: &[u32], n: usize, k: usize) -> Result<(), Lacks>
+    requires { Sound words.now n × (k < 2 ^ 32) }
+    ensures room { OnOk result (k ≤ free words.now n) }
+    ensures lacks { IfErr result (λ e. (free words.now n < k) × (e.0 ≡ lacking words.now n k)) }
+{
+    let room = free_of(words, n);
+    if room < k {
+        return Err(Lacks((k - room) as u32));
     }
-    whole - n
+    Ok(())
 }
 
 // The number of e, which is entered where it is absent.
@@ -64,10 +71,7 @@ pub fn enter(words: &mut [u32], n: usize, e: Entry) -> Result<Entered, Lacks>
     if let Some(ty) = find(words, n, e) {
         return Ok(Entered { ty, used: n });
     }
-    let room = free_of(words, n);
-    if room < 1 {
-        return Err(Lacks((1 - room) as u32));
-    }
+    room_for(words, n, 1)?;
     put_entry(words, n, e);
     Ok(Entered {
         ty: TypeNo(n),
@@ -81,10 +85,8 @@ fn container_of(outer: Entry, t: usize) -> Entry
     ensures { result ≡ container outer t }
 {
     Entry {
-        kind: outer.kind,
-        p: outer.p,
-        q: outer.q,
         elem: t as u32,
+        ..outer
     }
 }
 
@@ -93,10 +95,7 @@ fn enter_both(words: &mut [u32], n: usize, inner: Entry, outer: Entry) -> Result
     requires { Sound words.old n × (find_in words.old n inner ≡ None) }
     ensures { EnterTwoDone words.old n inner outer result words.new }
 {
-    let room = free_of(words, n);
-    if room < 2 {
-        return Err(Lacks((2 - room) as u32));
-    }
+    room_for(words, n, 2)?;
     put_entry(words, n, inner);
     put_entry(words, n + 1, container_of(outer, n));
     Ok(Entered {

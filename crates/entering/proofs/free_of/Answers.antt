@@ -1,12 +1,17 @@
 -- `entering::free_of` meets its contract: the least of the two, less the count. Assumes nothing.
-use borrow.Author.Tests.{le-leb, lt-leb}
+use Prim.Native.Nat.{◌/◌, ◌≤◌, ◌<◌}
+use native.Mathlib.Omega.{arith}
+use lib.Dec.{leb}
+use lib.ListN.{length}
+use borrow.Author.Tests.{leb-true, leb-false}
+use Rattle.table.proofs.KindLaws.{split}
 use Rattle.table.specs.Enter.{free}
 use Rattle.entering.proofs.free_of.Goals as goal
 
-pub returns-then-whole-ge-CEILING : goal.returns-then-whole-ge-CEILING
-unfolding free
-returns-then-whole-ge-CEILING c = rw (le-leb 256 _ c.if-whole-ge-CEILING.true)
-
 pub returns : goal.returns
 unfolding free
-returns c = rw (lt-leb 256 _ c.if-whole-ge-CEILING.false)
+returns c =
+    let w = length c.args.words.now / 4 in
+    split (leb 256 w)
+    (λ b. let h : 256 ≤ w = leb-true 256 w b in rw b (omega arith))
+    (λ b. let h : w < 256 = leb-false 256 w b in rw b (omega arith))
