@@ -1,15 +1,16 @@
 -- The rules that are not listed, by their numbers: what each wants of its first operand; values from a place on. Assumes nothing.
-use Prim.Native.Nat.{ℕ, zero, suc, ◌≤◌, ◌<◌}
+use Prim.Native.Nat.{ℕ, zero, suc, ◌+◌, ◌≤◌, ◌<◌}
 use mathlib.Core.Path.{◌≡◌, refl, sym, ◌∙◌, ap, subst}
 use mathlib.Core.Logic.{◌≢◌, ◌⊎◌, inl, inr}
 use mathlib.Core.Bool.{Bool, true, false, ◌&&◌, ◌||◌, cond}
-use mathlib.Core.List.{List, [], ◌∷◌, map}
-use native.Mathlib.Nat.{le_of_suc-le-suc, not-suc-le-zero}
+use mathlib.Core.List.{List, ◌∷◌, map}
 use native.Mathlib.Omega.{arith}
 use lib.Dec.{T, eqb, ltb}
-use lib.ListN.{length, get_or}
-use borrow.Author.Tests.{ne_eqb, le-ltb, eqb-true, eqb-false, ltb-true, ltb-false}
-use Rattle.std.specs.Prelude.{Some}
+use lib.ListN.{length}
+use Rattle.std.proofs.Common.{Some, not}
+use Rattle.std.specs.List.{position, position_or_len}
+use Rattle.std.proofs.lemmas.List.Recursion.{is_position_or_len}
+use borrow.Author.Tests.{ne_eqb, le-ltb, lt-ltb, eqb-true, eqb-false, ltb-true, ltb-false}
 use Rattle.conv.specs.Types.{Ty, i32, u32, formed}
 use Rattle.conv.specs.Types.Ty.{scalar, exchange}
 use Rattle.conv.specs.Rank.{converts}
@@ -130,18 +131,17 @@ module _ (w : List ℕ) (s : ℕ) where
   abbrev value_tys : List ℕ → List Ty
   value_tys vs = map (type_at w) (map number_of vs)
 
-  pub value-at : (vs : List ℕ) (i : ℕ) → i < length vs → ((k : ℕ) → k < i → goes (get_or vs k 0) ≡ true) → goes (get_or vs i 0) ≡ false → first_miss (values (length vs) s) (value_tys vs) ≡ i
+  first-breaks : (vs : List ℕ) → first_miss (values (length vs) s) (value_tys vs) ≡ position_or_len (λ v. not (goes v)) vs
   unfolding values first_miss
-  value-at [] i l h e = absurd (not-suc-le-zero l)
-  value-at (v ∷ vs) zero l h e = ap (λ (b : Bool). cond b (suc (first_miss (values (length vs) s) (value_tys vs))) 0) e
-  value-at (v ∷ vs) (suc i) l h e =
-      ap (λ (b : Bool). cond b (suc (first_miss (values (length vs) s) (value_tys vs))) 0) (h 0 (omega arith)) ∙ ap suc (value-at vs i (le_of_suc-le-suc l) (λ k m. h (suc k) (omega arith)) e)
+  first-breaks vs = is_position_or_len (λ us. first_miss (values (length us) s) (value_tys us)) (λ v. not (goes v)) refl (λ v us. turned (goes v) (first_miss (values (length us) s) (value_tys us))) vs
+    where
+      turned : (b : Bool) (k : ℕ) → cond b (suc k) 0 ≡ cond (not b) 0 (1 + k)
+      turned true k = omega arith
+      turned false k = refl
 
-  pub value_none : (vs : List ℕ) → ((k : ℕ) → k < length vs → goes (get_or vs k 0) ≡ true) → first_miss (values (length vs) s) (value_tys vs) ≡ length vs
-  unfolding values first_miss
-  value_none [] h = refl
-  value_none (v ∷ vs) h =
-      ap (λ (b : Bool). cond b (suc (first_miss (values (length vs) s) (value_tys vs))) 0) (h 0 (omega arith)) ∙ ap suc (value_none vs (λ k m. h (suc k) (omega arith)))
+  -- the first value that does not convert, where one does not
+  pub breaks-at : (vs : List ℕ) → first_miss (values (length vs) s) (value_tys vs) < length vs → position (λ v. not (goes v)) vs ≡ Some (first_miss (values (length vs) s) (value_tys vs))
+  breaks-at vs h = let e = first-breaks vs in let l : position_or_len (λ v. not (goes v)) vs < length vs = omega arith in rw (lt-ltb (position_or_len (λ v. not (goes v)) vs) (length vs) l, e)
 
 -- HOW MANY OPERANDS: one at least, and at most three
 

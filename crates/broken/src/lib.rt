@@ -1,7 +1,8 @@
 // The one line of a call refused by a rule that is not listed: the first operand that breaks it, and what is wanted.
 #![tactic(auto)]
 
-ghost use Rattle.std.specs.Prelude.{◌≡◌, true, false, ◌⊎◌, ◌+◌, ◌/◌, ◌<◌, ◌≤◌, length};
+ghost use Rattle.std.specs.Prelude.{◌≡◌, true, false, ◌⊎◌, ◌+◌, ◌/◌, ◌<◌, ◌≤◌, length, not, position};
+ghost use Rattle.conv.specs.Rank.{converts};
 ghost use Rattle.conv.specs.Types.{i32, u32};
 ghost use Rattle.conv.specs.Types.Ty.{scalar};
 ghost use Rattle.held.specs.Held.{number_of};
@@ -24,65 +25,50 @@ const INDIRECTION: u8 = 110;
 // The scalar i32.
 const I32: u8 = 3;
 
+// What a rule wants of its first operand.
+fn first_wanted(rule: u8) -> &'static [u8]
+    ensures wanted { 100 ≤ rule → result.now ≡ ascii (first_wanted (ruling_of rule)) }
+    ensures short { length result.now < 256 }
+{
+    match rule {
+        ADDRESS_OF => b"a reference, not in space handle",
+        INDIRECTION => b"a pointer",
+        names::RULE_ARRAY_LENGTH =>
+            b"a pointer in space storage, read or read_write, to an array without count",
+        names::RULE_UNIFORM_LOAD =>
+            b"a read_write pointer in space workgroup to an atomic, or to a type of fixed size with no atomic in it",
+        _ => b"a read_write pointer in space storage or workgroup to an atomic",
+    }
+}
+
 // The line of a first operand that breaks its rule.
 fn first_line(words: &[u32], n: usize, rule: u8, v: u32, out: &mut [u8], at: usize) -> usize
     requires { Sound words.now n × (number_of v < n) × (100 ≤ rule) × (at < far / 4) }
     ensures put { Put out.old at (wanted_line 0 (operand_ty words.now v) (ascii (first_wanted (ruling_of rule)))) result out.new }
     ensures upper_bound { result ≤ at + piece_room }
 {
-    if rule == ADDRESS_OF {
-        return reasons::wanted_line(words, n, 0, v, b"a reference, not in space handle", out, at);
-    }
-    if rule == INDIRECTION {
-        return reasons::wanted_line(words, n, 0, v, b"a pointer", out, at);
-    }
-    if rule == names::RULE_ARRAY_LENGTH {
-        return reasons::wanted_line(
-            words,
-            n,
-            0,
-            v,
-            b"a pointer in space storage, read or read_write, to an array without count",
-            out,
-            at,
-        );
-    }
-    if rule == names::RULE_UNIFORM_LOAD {
-        return reasons::wanted_line(
-            words,
-            n,
-            0,
-            v,
-            b"a read_write pointer in space workgroup to an atomic, or to a type of fixed size with no atomic in it",
-            out,
-            at,
-        );
-    }
-    reasons::wanted_line(
-        words,
-        n,
-        0,
-        v,
-        b"a read_write pointer in space storage or workgroup to an atomic",
-        out,
-        at,
-    )
+    reasons::wanted_line(words, n, 0, v, first_wanted(rule), out, at)
 }
 
-// The place of the first value that does not convert to the scalar s, or how many there are.
-fn first_value(words: &[u32], n: usize, rest: &[u32], s: u8) -> usize
+// The place of the first value that does not convert to the scalar s.
+fn first_value(words: &[u32], n: usize, rest: &[u32], s: u8) -> Option<usize>
     requires { Sound words.now n × Below n rest.now × (s < 7) }
-    ensures { result ≡ first_miss (values (length rest.now) s) (operand_tys words.now rest.now) }
+    ensures { result ≡ position (λ v. not (converts (operand_ty words.now v) (scalar s))) rest.now }
 {
-    let mut i = 0;
-    while i < rest.len() {
-        let goes = memory::value_fits(words, n, rest[i], s);
-        if !goes {
-            return i;
-        }
-        i += 1;
+    rest.iter()
+        .position(|v| !memory::value_fits(words, n, *v, s))
+}
+
+// What is wanted of a value: the component s, i32 or u32.
+fn component(s: u8) -> &'static [u8]
+    requires { (s ≡ i32) ⊎ (s ≡ u32) }
+    ensures spelled { result.now ≡ spelling (scalar s) }
+    ensures short { length result.now < 256 }
+{
+    match s {
+        I32 => b"i32",
+        _ => b"u32",
     }
-    i
 }
 
 // The line of the first value that does not convert to the component s, i32 or u32, of an atomic.
@@ -91,21 +77,18 @@ fn value_line(words: &[u32], n: usize, rest: &[u32], s: u8, out: &mut [u8], at: 
     ensures put { Put out.old at (value_line (length rest.now) s (operand_tys words.now rest.now)) result out.new }
     ensures upper_bound { result ≤ at + piece_room }
 {
-    let k = first_value(words, n, rest, s);
-    if s == I32 {
-        return reasons::wanted_line(words, n, k + 1, rest[k], b"i32", out, at);
-    }
-    reasons::wanted_line(words, n, k + 1, rest[k], b"u32", out, at)
+    let k = first_value(words, n, rest, s).unwrap();
+    reasons::wanted_line(words, n, k + 1, rest[k], component(s), out, at)
 }
 
 // Whether a rule has one operand and looks at no value.
 fn is_alone(rule: u8) -> bool
     ensures { result ≡ alone rule }
 {
-    (rule == names::RULE_ARRAY_LENGTH)
-        | (rule == names::RULE_UNIFORM_LOAD)
-        | (rule == ADDRESS_OF)
-        | (rule == INDIRECTION)
+    matches!(
+        rule,
+        names::RULE_ARRAY_LENGTH | names::RULE_UNIFORM_LOAD | ADDRESS_OF | INDIRECTION
+    )
 }
 
 // The line of a call that is refused with 8 by a rule that is not listed.

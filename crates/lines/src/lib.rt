@@ -6,14 +6,11 @@ ghost use Rattle.table.specs.Table.{Sound};
 ghost use Rattle.text.specs.Text.{decimal, Put, far};
 ghost use Rattle.lines.specs.Lines.{type_line, refused_line, first_line, lines_of, lines_room, start, report, Spellable};
 
-use answer::{Answer, Refusal, TypeNo};
+use answer::{Answer, Reason, Refusal, TypeNo};
 use sheet::type_sheet;
 
 // The bytes that any answer's two lines have room in.
 pub const ROOM: usize = 32768;
-
-// The number of the refusal where the table lacks room.
-const NO_ROOM: u8 = 9;
 
 // The words of a table that has room for 256 entries.
 const WORDS: usize = 1024;
@@ -35,15 +32,13 @@ fn refused_line(r: Refusal, out: &mut [u8]) -> usize
     ensures put { Put out.old 0 (refused_line r) result out.new }
     ensures result_bound { result + 64 ≤ lines_room }
 {
-    let why = r.reason;
-    let place = r.place;
-    let number = answer::reason_no(why);
+    let number = answer::reason_no(r.reason);
     let a = text::put_after(out, 0, b"refused ", cast::wide(number));
-    let b = text::put_after(out, a, b" at ", place.0);
-    if number != NO_ROOM {
-        return b;
+    let b = text::put_after(out, a, b" at ", r.place.0);
+    match r.reason {
+        Reason::NoRoom(lacking) => text::put_after(out, b, b" lacking ", cast::word(lacking)),
+        _ => b,
     }
-    text::put_after(out, b, b" lacking ", cast::word(answer::lacking_of(why)))
 }
 
 fn first_line(words: &[u32], a: Answer, out: &mut [u8]) -> usize
@@ -87,6 +82,5 @@ pub fn answer_sheet(profile: u32, bytes: &[u8], out: &mut [u8]) -> usize
 {
     let mut words = scalars();
     let typed = type_sheet(&mut words, table::SCALARS, profile, bytes);
-    let a = typed.answer;
-    write(&words, a, out)
+    write(&words, typed.answer, out)
 }

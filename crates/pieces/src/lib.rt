@@ -28,10 +28,8 @@ fn load(words: &[u32], n: usize, args: &[u32], codes: &mut [u8])
     requires { Sound words.now n × Under n (numbers args.now) × (length args.now ≤ length codes.old) }
     ensures { take (length args.now) codes.new ≡ map code_of (types_of words.now args.now) }
 {
-    let mut i = 0;
-    while i < args.len() {
-        codes[i] = ruled::code_at(words, n, held::number(args[i]).0);
-        i += 1;
+    for (i, v) in args.iter().enumerate() {
+        codes[i] = ruled::code_at(words, n, held::number(*v).0);
     }
 }
 
@@ -112,16 +110,12 @@ fn row_piece(
     load(words, n, args, &mut codes);
     let xs = &codes[0..args.len()];
     let row = wide(rule);
-    if j == 0 {
-        if accepted {
-            return chosen_piece(row, call_ty::any_running(args), xs, out, at);
-        }
-        return at;
+    match (j, accepted) {
+        (0, true) => chosen_piece(row, call_ty::any_running(args), xs, out, at),
+        (0, false) => at,
+        (_, true) => lost_piece(row, call_ty::any_running(args), args, xs, j - 1, out, at),
+        (_, false) => missed_piece(words, n, row, args, xs, j - 1, out, at),
     }
-    if accepted {
-        return lost_piece(row, call_ty::any_running(args), args, xs, j - 1, out, at);
-    }
-    missed_piece(words, n, row, args, xs, j - 1, out, at)
 }
 
 // How many pieces a call has, by its rule's number.
@@ -129,12 +123,10 @@ pub fn count(rule: u8, accepted: bool) -> usize
     ensures { ((ts : List Ty) (ms : List Bool) → result ≡ length (pieces accepted (ruling_of rule) ts ms)) × (result ≤ 256) }
 {
     if rule < names::RULE_BITCAST {
-        return listing::count(wide(rule)) + 1;
+        listing::count(wide(rule)) + 1
+    } else {
+        usize::from(!accepted)
     }
-    if accepted {
-        return 0;
-    }
-    1
 }
 
 // Piece j of a call, put into out from place at on; the place after it.

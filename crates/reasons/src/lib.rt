@@ -1,9 +1,9 @@
 // The text that tells why a call is accepted or refused with 8, piece by piece, put into a lent output. Parameters are operands' numbers; so are xs, those of the operands args.
 #![tactic(auto)]
 
-ghost use Rattle.std.specs.Prelude.{◌≡◌, true, false, [], ◌++◌, map, ◌+◌, ◌/◌, ◌<◌, ◌≤◌, length, get_or};
+ghost use Rattle.std.specs.Prelude.{◌≡◌, true, false, [], ◌++◌, map, ◌+◌, ◌/◌, ◌<◌, ◌≤◌, length, get_or, position};
 ghost use Rattle.conv.specs.Types.Ty.{scalar};
-ghost use Rattle.held.specs.Held.{number_of};
+ghost use Rattle.held.specs.Held.{number_of, mark_of};
 ghost use Rattle.text.specs.Text.{Put, far};
 ghost use Rattle.table.specs.Table.{Sound};
 ghost use Rattle.spell.specs.Spell.{spelling};
@@ -21,18 +21,11 @@ ghost use Rattle.reasons.specs.inner.Told.{ruling_of, types_of, Told, piece_room
 
 use cast::wide;
 
-// The place of the first operand that is running, or how many there are.
-fn first_running(args: &[u32]) -> usize
-    ensures { result ≡ first_by is_true (marks_of args.now) }
+// The place of the first operand that is running.
+fn first_running(args: &[u32]) -> Option<usize>
+    ensures { result ≡ position mark_of args.now }
 {
-    let mut i = 0;
-    while i < args.len() {
-        if held::running(args[i]) {
-            return i;
-        }
-        i += 1;
-    }
-    i
+    args.iter().position(|v| held::running(*v))
 }
 
 // `operand 1 is f32`, of the operand v at place 0.
@@ -76,7 +69,7 @@ pub fn dropped_line(args: &[u32], ps: &[u8], out: &mut [u8], at: usize) -> usize
     let b = text::put_text(out, a, b": dropped, ");
     let c = phrase::put_operand(out, b, weigh::first_abstract(ps));
     let d = text::put_text(out, c, b"abstract and ");
-    let e = phrase::put_operand(out, d, first_running(args));
+    let e = phrase::put_operand(out, d, first_running(args).unwrap_or(args.len()));
     let f = text::put_text(out, e, b"running");
     text::put_byte(out, f, b'\n')
 }

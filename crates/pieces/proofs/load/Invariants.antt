@@ -1,4 +1,4 @@
-use Prim.Native.Nat.{ℕ, ◌≤◌, ◌<◌, ◌-◌}
+use Prim.Native.Nat.{ℕ, ◌<◌}
 use mathlib.Core.Path.{◌≡◌}
 use lib.ListN.{length, get_or}
 use Rattle.overload.specs.inner.Code.{code_of}
@@ -7,7 +7,4 @@ use Rattle.call_ty.specs.Calls.{numbers}
 use Rattle.pieces.proofs.load.Given as goal
 
 abbrev pub invariant-loop-i : goal.invariant-loop-i
-invariant-loop-i l = (l.i ≤ length l.args) × (length l.codes ≡ length l.initial.codes) × ((k : ℕ) → k < l.i → get_or l.codes k 0 ≡ code_of (type_at l.words (get_or (numbers l.args) k 0)))
-
-abbrev pub decreases-loop-i : goal.decreases-loop-i
-decreases-loop-i l = length l.args - l.i
+invariant-loop-i l = (length l.codes ≡ length l.initial.codes) × ((k : ℕ) → k < l.i → get_or l.codes k 0 ≡ code_of (type_at l.words (get_or (numbers l.args) k 0)))

@@ -15,4 +15,4 @@ pub spell_type-requires : goal.spell_type-requires
 spell_type-requires c = let p = c.requires in record { sound = p.0; i_lt_n = omega (arith, p.1, c.number.ensures); span_bound = omega (arith, p.1, p.3, p.0.high, c.number.ensures, c.put_operand-a.ensures.upper_bound) }
 
 pub returns : goal.returns
-returns c = let a = c.args in let p = c.requires in record { put = put-put c.put_operand-a.ensures.put (put_as (ap (λ (i : ℕ). spelling (type_at a.words.now i)) c.number.ensures) c.spell_type.ensures.put); upper_bound = omega (arith, c.put_operand-a.ensures.upper_bound, c.spell_type.ensures.put.place, type-slim a.words.now (λ i. omega (arith, c.shared_slice_known-1.given i)) c.number.result.0, p.1, p.0.high, c.number.ensures) }
+returns c = let a = c.args in let p = c.requires in record { put = put-put c.put_operand-a.ensures.put (put_as (ap (λ (i : ℕ). spelling (type_at a.words.now i)) c.number.ensures) c.spell_type.ensures.put); upper_bound = omega (arith, c.put_operand-a.ensures.upper_bound, c.spell_type.ensures.put.place, type-slim a.words.now (λ i. omega (arith, c.type_inv.words i)) c.number.result.0, p.1, p.0.high, c.number.ensures) }
