@@ -23,3 +23,19 @@ module _ (r : Refusal) where
       → Put d 0 (refused_line r) k u
   unfolding lacking_part refused_line
   refused-lacking {d} {v} {u} {j} {k} {m} h e p q = rw (eq-eqb (reason_no r.reason) 9 h) (put-put p (rw e at q))
+
+-- 9 is the number of one reason alone
+pub not-nine : (r : Reason) → ((k : ℕ) → r ≡ NoRoom k → ⊥) → reason_no r ≢ 9
+not-nine (NoRoom k) f = λ e. f k refl
+not-nine Unsound f = λ e. omega arith
+not-nine NoSuchType f = λ e. omega arith
+not-nine Reference f = λ e. omega arith
+not-nine Unknown f = λ e. omega arith
+not-nine Template f = λ e. omega arith
+not-nine Count f = λ e. omega arith
+not-nine Operands f = λ e. omega arith
+not-nine NoOverload f = λ e. omega arith
+not-nine Framing f = λ e. omega arith
+not-nine Stack f = λ e. omega arith
+not-nine TooLong f = λ e. omega arith
+not-nine RunningAbstract f = λ e. omega arith
