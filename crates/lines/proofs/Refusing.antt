@@ -1,10 +1,13 @@
 -- The line of a refusal, from its parts: for want of room it has one more. Assumes nothing.
 use Prim.Native.Nat.{ℕ}
-use mathlib.Core.Path.{◌≡◌, refl, sym, subst, ap}
+use mathlib.Core.Path.{◌≡◌, refl}
 use mathlib.Core.Logic.{◌≢◌}
-use mathlib.Core.List.{List, [], ◌∷◌, ◌++◌}
+use native.Mathlib.Omega.{arith}
+use mathlib.Core.List.{List, ◌++◌}
 use borrow.Author.Tests.{eq-eqb, ne_eqb}
 use Rattle.answer.specs.Answer.{reason_no, lacking_of}
+use Rattle.answer.specs.declared.Reason.{Reason}
+use Rattle.answer.specs.declared.Reason.TheVariants.{Unsound, NoSuchType, Reference, Unknown, Template, Count, Operands, NoOverload, NoRoom, Framing, Stack, TooLong, RunningAbstract}
 use Rattle.answer.specs.declared.Refusal.{Refusal}
 use Rattle.text.specs.Text.{ascii, decimal, Put}
 use Rattle.text.proofs.Puts.{put-put, put-nothing}

@@ -1,7 +1,7 @@
 -- `lines::refused_line` meets its contract: each call puts the next part of the line. Assumes nothing.
-use mathlib.Core.Path.{◌≡◌, sym, ◌∙◌, ap}
+use mathlib.Core.Path.{sym, ◌∙◌, ap}
 use native.Mathlib.Omega.{arith}
-use Rattle.lines.proofs.Refusing.{refused-short, refused-lacking}
+use Rattle.lines.proofs.Refusing.{refused-short, refused-lacking, not-nine}
 use Rattle.text.proofs.Lengths.{after-near}
 use Rattle.text.proofs.Puts.{put-put}
 use Rattle.text.specs.Text.{ascii}
