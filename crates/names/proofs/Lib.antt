@@ -2,6 +2,7 @@ pub mod Bytes
 pub mod Order
 pub mod Lines
 pub mod Letters
+pub mod Sides
 pub mod Halving
 pub mod Found
 pub mod Rules

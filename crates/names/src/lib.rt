@@ -8,7 +8,7 @@ ghost use Rattle.names.specs.Names.{count, name_at, rule_of};
 ghost use Rattle.names.specs.inner.Table.{name_table, ends_blank, Ordered, StandsAt, has_name, rule_at, replied};
 
 use std::cmp::Ordering;
-use tables::{COUNT, LINE_WIDTH, NAME_WIDTH};
+use tables::{COUNT, LINE_WIDTH, NAME_WIDTH, NAMES};
 
 // The numbers of the crate rules and of the calls on memory. A number below the first is that of a row of overloads.
 pub const RULE_BITCAST: u8 = 100;
@@ -33,10 +33,12 @@ pub const PROFILES: u32 = 2;
 // What names are filled up with: it is below every letter and digit.
 const BLANK: u8 = b' ';
 
-// Where a line's profile and its mark stand behind the number of its rule, and the mark of a result that is running.
-const PROFILE_AT: usize = 1;
+// Where the number of a line's rule stands, its profile and its mark; and the mark of a result that is running.
+const RULE_AT: usize = NAME_WIDTH;
 
-const MARK_AT: usize = 2;
+const PROFILE_AT: usize = NAME_WIDTH + 1;
+
+const MARK_AT: usize = NAME_WIDTH + 2;
 
 const MARK_RUNNING: u8 = 1;
 
@@ -50,7 +52,7 @@ pub struct NamedRule {
 // The names: made once where a run or a single call begins, and lent from there.
 #[derive(Drop)]
 pub struct Names {
-    rows: [u8; COUNT * LINE_WIDTH],
+    rows: [[u8; LINE_WIDTH]; COUNT],
     ghost stand: { rows ≡ name_table },
 }
 
@@ -58,20 +60,17 @@ pub struct Names {
 fn ends_blank(name: &[u8]) -> bool
     ensures { result ≡ ends_blank name.now }
 {
-    let count = name.len();
-    if count == 0 {
-        return false;
+    match name.last() {
+        Some(last) => *last == BLANK,
+        None => false,
     }
-    name[count - 1] == BLANK
 }
 
 impl Names {
     pub fn new() -> Self
         ensures { result.rows ≡ name_table }
     {
-        Names {
-            rows: tables::name_table(),
-        }
+        Names { rows: NAMES }
     }
 
     // How a line's name stands to this one, by the first letter in which they differ. Where this one ends, the line's next letter decides.
@@ -79,29 +78,17 @@ impl Names {
         requires { (row < count) × (length name.now ≤ 32) }
         ensures { Ordered result (name_at row) name.now }
     {
-        let from = row * LINE_WIDTH;
-        let mut i = 0;
-        while i < name.len() {
-            let letter = self.rows[from + i];
-            let other = name[i];
-            if letter != other {
-                if letter < other {
-                    return Ordering::Less;
-                }
-                return Ordering::Greater;
-            }
-            i += 1;
+        let line = &self.rows[row];
+        let end = name.len();
+        let side = (&line[..end]).cmp(&name);
+        if side.is_eq() && end < NAME_WIDTH {
+            return line[end].cmp(&BLANK);
         }
-        if NAME_WIDTH <= i {
-            return Ordering::Equal;
-        }
-        if self.rows[from + i] != BLANK {
-            return Ordering::Greater;
-        }
-        Ordering::Equal
+        side
     }
 
     // The row that has this name: what is left of the sorted rows is halved until it is there, or none is left.
+    // Stays: that it halves is what the loop's measure says, at most eight looks into the rows, and the edit `one_by_one` is refused by that alone. The library's `binary_search_by` promises no such number.
     fn row_of(&self, name: &[u8]) -> Option<usize>
         requires { (length name.now ≤ 32) × (ends_blank name.now ≡ false) }
         ensures { StandsAt name.now result }
@@ -111,15 +98,9 @@ impl Names {
         while low < high {
             let middle = (low + high) / 2;
             match self.compared(middle, name) {
-                Ordering::Less => {
-                    low = middle + 1;
-                }
-                Ordering::Equal => {
-                    return Some(middle);
-                }
-                Ordering::Greater => {
-                    high = middle;
-                }
+                Ordering::Less => low = middle + 1,
+                Ordering::Equal => return Some(middle),
+                Ordering::Greater => high = middle,
             }
         }
         None
@@ -129,10 +110,7 @@ impl Names {
     pub fn find(&self, name: &[u8]) -> Option<usize>
         ensures { StandsAt name.now result }
     {
-        if NAME_WIDTH < name.len() {
-            return None;
-        }
-        if ends_blank(name) {
+        if NAME_WIDTH < name.len() || ends_blank(name) {
             return None;
         }
         self.row_of(name)
@@ -142,13 +120,7 @@ impl Names {
     pub fn has_name(&self, row: usize, name: &[u8]) -> bool
         ensures { result ≡ has_name row name.now }
     {
-        if COUNT <= row {
-            return false;
-        }
-        if NAME_WIDTH < name.len() {
-            return false;
-        }
-        if ends_blank(name) {
+        if COUNT <= row || NAME_WIDTH < name.len() || ends_blank(name) {
             return false;
         }
         self.compared(row, name).is_eq()
@@ -158,19 +130,13 @@ impl Names {
     pub fn rule_at(&self, profile: u32, row: usize) -> Option<NamedRule>
         ensures { result ≡ replied (rule_at profile row) }
     {
-        if PROFILES <= profile {
-            return None;
-        }
-        if COUNT <= row {
-            return None;
-        }
-        let number = row * LINE_WIDTH + NAME_WIDTH;
-        if profile < cast::wide(self.rows[number + PROFILE_AT]) {
+        let line = self.rows.get(row)?;
+        if PROFILES <= profile || profile < cast::wide(line[PROFILE_AT]) {
             return None;
         }
         Some(NamedRule {
-            rule: self.rows[number],
-            running: self.rows[number + MARK_AT] == MARK_RUNNING,
+            rule: line[RULE_AT],
+            running: line[MARK_AT] == MARK_RUNNING,
         })
     }
 

@@ -1,5 +1,5 @@
 -- What the code's constant holds: a line for each name. The promise of a call is read without it. Assumes nothing.
-use Rattle.std.specs.Prelude.{ℕ, zero, suc, ◌-◌, ◌<◌, ◌≡◌, Bool, ◌&&◌, cond, List, [], ◌∷◌, ◌++◌, T, eqb, ltb, length, get_or, Option, Some, None}
+use Rattle.std.specs.Prelude.{ℕ, zero, suc, ◌-◌, ◌<◌, ◌≡◌, Bool, ◌&&◌, cond, List, [], ◌∷◌, ◌++◌, map, T, eqb, ltb, length, get_or, Option, Some, None}
 use Rattle.overload.specs.Rows.{Ruling, row_at}
 use Rattle.overload.specs.Rows.Ruling.{by_row, address, indirection, on_atomic, comparing, uniform_load, array_length}
 use Rattle.names.specs.Names.{Rule, loading, updating, exchanging, uniform_loading, Name, names, no_name, before, same_bytes, count, name_at, Named, rule_for}
@@ -67,13 +67,9 @@ mark_byte running = cond running 1 0
 unfoldable pub line : Name → List ℕ
 line r = filled name_width r.text ++ (rule_number r.rule ∷ r.profile ∷ mark_byte r.running ∷ [])
 
-unfoldable pub lines_of : List Name → List ℕ
-lines_of [] = []
-lines_of (r ∷ rs) = line r ++ lines_of rs
-
 -- THE TABLE, as it is lent
-unfoldable pub name_table : List ℕ
-name_table = lines_of names
+unfoldable pub name_table : List (List ℕ)
+name_table = map line names
 
 -- a name that ends with a blank is none of them
 unfoldable pub ends_blank : List ℕ → Bool

@@ -2,12 +2,13 @@
 use mathlib.Core.Path.{sym, ◌∙◌}
 use Rattle.names.specs.inner.Table.{StandsAt}
 use Rattle.names.proofs.Found.{too_long, blank-end}
+use Rattle.names.proofs.Names.find.Goals.{then-name-gt-NAME_WIDTH-via-then-name-gt-NAME_WIDTH, then-name-gt-NAME_WIDTH-via-else-name-gt-NAME_WIDTH+then-ends_blank}
 use Rattle.names.proofs.Names.find.Goals as goal
 
 pub returns-then-name-gt-NAME_WIDTH : goal.returns-then-name-gt-NAME_WIDTH
 unfolding StandsAt
-returns-then-name-gt-NAME_WIDTH c = too_long c.args.name.now c.if-name-gt-NAME_WIDTH.true
-
-pub returns-then-ends_blank : goal.returns-then-ends_blank
-unfolding StandsAt
-returns-then-ends_blank c = blank-end c.args.name.now (sym c.ends_blank.ensures ∙ c.if-ends_blank.true)
+returns-then-name-gt-NAME_WIDTH c =
+    elim c.then-name-gt-NAME_WIDTH.branch [
+      | then-name-gt-NAME_WIDTH-via-then-name-gt-NAME_WIDTH w ↦ too_long c.args.name.now w.if-name-gt-NAME_WIDTH.true
+      | then-name-gt-NAME_WIDTH-via-else-name-gt-NAME_WIDTH+then-ends_blank w ↦ blank-end c.args.name.now (sym w.ends_blank.ensures ∙ w.if-ends_blank.true)
+    ]

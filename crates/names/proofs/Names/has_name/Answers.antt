@@ -5,28 +5,24 @@ use Prim.Native.Nat.{◌<◌}
 use Rattle.names.specs.Names.{count}
 use Rattle.names.proofs.Letters.{counted}
 use Rattle.names.proofs.Found.{too_long, blank-end, past-last, has-not, has-by}
-use Rattle.names.proofs.Names.has_name.Goals.{Else-row-ge-COUNT}
+use Rattle.names.proofs.Names.has_name.Goals.{then-row-ge-COUNT-via-then-row-ge-COUNT, then-row-ge-COUNT-via-else-row-ge-COUNT+then-name-gt-NAME_WIDTH, then-row-ge-COUNT-via-else-row-ge-COUNT+else-name-gt-NAME_WIDTH+then-ends_blank}
 use Rattle.names.proofs.Names.has_name.Goals as goal
 
-row_in : (c : Else-row-ge-COUNT) → c.args.row < count
-row_in c = omega (arith, counted, c.if-row-ge-COUNT.false)
-
 pub returns-then-row-ge-COUNT : goal.returns-then-row-ge-COUNT
-returns-then-row-ge-COUNT c = let a = c.args in sym (past-last a.row a.name.now (omega (arith, counted, c.if-row-ge-COUNT.true)))
-
-pub returns-then-name-gt-NAME_WIDTH : goal.returns-then-name-gt-NAME_WIDTH
-returns-then-name-gt-NAME_WIDTH c = let a = c.args in
-    let l = row_in (goal.at.returns-then-name-gt-NAME_WIDTH c).Else-row-ge-COUNT in
-    sym (has-not a.row a.name.now l (too_long a.name.now c.if-name-gt-NAME_WIDTH.true a.row l))
-
-pub returns-then-ends_blank : goal.returns-then-ends_blank
-returns-then-ends_blank c = let a = c.args in
-    let l = row_in (goal.at.returns-then-ends_blank c).Else-row-ge-COUNT in
-    sym (has-not a.row a.name.now l (blank-end a.name.now (sym c.ends_blank.ensures ∙ c.if-ends_blank.true) a.row l))
+returns-then-row-ge-COUNT c = let a = c.args in
+    elim c.then-row-ge-COUNT.branch [
+      | then-row-ge-COUNT-via-then-row-ge-COUNT w ↦ sym (past-last a.row a.name.now (omega (arith, counted, w.if-row-ge-COUNT.true)))
+      | then-row-ge-COUNT-via-else-row-ge-COUNT+then-name-gt-NAME_WIDTH w ↦
+          let l : a.row < count = omega (arith, counted, w.if-row-ge-COUNT.false) in
+          sym (has-not a.row a.name.now l (too_long a.name.now w.if-name-gt-NAME_WIDTH.true a.row l))
+      | then-row-ge-COUNT-via-else-row-ge-COUNT+else-name-gt-NAME_WIDTH+then-ends_blank w ↦
+          let l : a.row < count = omega (arith, counted, w.if-row-ge-COUNT.false) in
+          sym (has-not a.row a.name.now l (blank-end a.name.now (sym w.ends_blank.ensures ∙ w.if-ends_blank.true) a.row l))
+    ]
 
 pub compared-requires : goal.compared-requires
-compared-requires c = (row_in (goal.at.compared-requires c).Else-row-ge-COUNT, c.if-name-gt-NAME_WIDTH.false)
+compared-requires c = (omega (arith, counted, c.if-row-ge-COUNT.false), c.if-name-gt-NAME_WIDTH.false)
 
 pub returns : goal.returns
 returns c = let a = c.args in
-    c.is_eq.ensures ∙ has-by a.row a.name.now (row_in (goal.at.returns c).Else-row-ge-COUNT) c.if-name-gt-NAME_WIDTH.false (sym c.ends_blank.ensures ∙ c.if-ends_blank.false) _ c.compared.ensures
+    c.is_eq.ensures ∙ has-by a.row a.name.now (omega (arith, counted, c.if-row-ge-COUNT.false)) c.if-name-gt-NAME_WIDTH.false (sym c.ends_blank.ensures ∙ c.if-ends_blank.false) _ c.compared.ensures
