@@ -7,7 +7,7 @@ ghost use Rattle.overload.specs.Overload.{fits};
 ghost use Rattle.overload.specs.Rows.{row_at, overloads_of, operand_count};
 ghost use Rattle.overload.specs.inner.Code.{operand, kept};
 ghost use Rattle.listing.specs.Listing.{overload_at};
-ghost use Rattle.weigh.specs.Weigh.{first_by, Shaped};
+ghost use Rattle.weigh.specs.Weigh.{first_by, place_in, Shaped};
 ghost use Rattle.choice.specs.inner.Chosen.{left_by, chosen_by, stands_back};
 
 // Whether an overload, by its parameters, fits the operands and is left, where one of them is running or none.
@@ -15,10 +15,10 @@ fn is_left(running: bool, ps: &[u8], xs: &[u8]) -> bool
     requires { Shaped ps.now × (length xs.now ≡ length ps.now) }
     ensures { result ≡ both (fits (map operand ps.now) (map operand xs.now)) (left_by running (map operand ps.now)) }
 {
-    if weigh::first_miss(ps, xs) < xs.len() {
+    if weigh::first_miss(ps, xs).is_some() {
         return false;
     }
-    !(running & (weigh::first_abstract(ps) < xs.len()))
+    !(running & weigh::first_abstract(ps).is_some())
 }
 
 // Whether the overload at place j does not keep that at place i, which has the parameters ps, from being chosen.
@@ -47,29 +47,23 @@ fn is_chosen(row: usize, running: bool, xs: &[u8], i: usize) -> bool
     if !is_left(running, ps, xs) {
         return false;
     }
-    let n = listing::count(row);
-    let mut j = 0;
-    while j < n {
+    for j in 0..listing::count(row) {
         if !stands_back(row, running, xs, i, ps, j) {
             return false;
         }
-        j += 1;
     }
     true
 }
 
-// The place of the chosen overload of a row, or how many it has where none is chosen.
-pub fn chosen(row: usize, running: bool, xs: &[u8]) -> usize
+// The place of the chosen overload of a row.
+pub fn chosen(row: usize, running: bool, xs: &[u8]) -> Option<usize>
     requires { length xs.now ≡ operand_count (row_at row) }
-    ensures { result ≡ first_by (chosen_by running (row_at row) (map operand xs.now)) (overloads_of (row_at row)) }
+    ensures { result ≡ place_in (length (overloads_of (row_at row))) (first_by (chosen_by running (row_at row) (map operand xs.now)) (overloads_of (row_at row))) }
 {
-    let n = listing::count(row);
-    let mut i = 0;
-    while i < n {
+    for i in 0..listing::count(row) {
         if is_chosen(row, running, xs, i) {
-            return i;
+            return Some(i);
         }
-        i += 1;
     }
-    i
+    None
 }

@@ -52,7 +52,9 @@ pub fn miss_line(
     ensures put { Put out.old at (miss_line (map operand ps.now) (types_of words.now args.now)) result out.new }
     ensures upper_bound { result ≤ at + piece_room }
 {
-    let k = weigh::first_miss(ps, xs);
+    let Some(k) = weigh::first_miss(ps, xs) else {
+        return at;
+    };
     let a = phrase::put_signature(out, at, ps);
     let b = text::put_text(out, a, b": ");
     let c = put_is(words, n, k, args[k], out, b);
@@ -67,7 +69,7 @@ pub fn dropped_line(args: &[u32], ps: &[u8], out: &mut [u8], at: usize) -> usize
 {
     let a = phrase::put_signature(out, at, ps);
     let b = text::put_text(out, a, b": dropped, ");
-    let c = phrase::put_operand(out, b, weigh::first_abstract(ps));
+    let c = phrase::put_operand(out, b, weigh::first_abstract(ps).unwrap_or(ps.len()));
     let d = text::put_text(out, c, b"abstract and ");
     let e = phrase::put_operand(out, d, first_running(args).unwrap_or(args.len()));
     let f = text::put_text(out, e, b"running");

@@ -9,13 +9,15 @@ use native.Mathlib.Omega.{arith}
 use lib.Dec.{T, eqb, ltb, leb}
 use lib.ListN.{length, get_or, drop, drop_of_length-le}
 use lib.Seq.{drop-cons}
-use borrow.Author.Tests.{eq-eqb, ne_eqb, lt-ltb, le-leb, lt-leb}
+use borrow.Author.Tests.{eq-eqb, ne_eqb, lt-ltb, le-ltb, le-leb, lt-leb, ltb-true, ltb-false}
 use Rattle.conv.specs.Types.{abstract_ty, is_abstract}
-use Rattle.conv.specs.Rank.{pick, both, none, rank_of, form_of, same_shape, component_of, conversion_rank, made}
+use Rattle.conv.specs.Rank.{pick, both, none, rank_of, form_of, same_shape, component_of, conversion_rank, made, found}
 use Rattle.overload.specs.Overload.{or, no_more, less}
 use Rattle.overload.specs.inner.Code.{shape_of_no, operand}
 use Rattle.overload.proofs.Slots.{by_shape}
-use Rattle.weigh.specs.Weigh.{first_by, first_miss}
+use Rattle.weigh.specs.Weigh.{first_by, first_miss, place_in}
+use Rattle.std.specs.Prelude.{Option, Some, None, is_some, unwrap_or}
+use Rattle.conv.proofs.Answered.{rank-found}
 use Rattle.conv.proofs.Finite.{both_left, both_right, same, same-eq, below, below₂}
 use Rattle.conv.proofs.Made.{made-rank, shape-made}
 
@@ -43,6 +45,50 @@ module _ (x p : ℕ) (hx : x < 256) (hp : p < 91) where
   pub cost-other : x / 7 ≢ p / 7 → 255 ≡ conversion_rank (operand x) (operand p)
   cost-other e = sym (cost ∙ ap (λ (b : Bool). pick b (rank_of (x % 7) (p % 7)) none) (ne_eqb (x / 7) (p / 7) e))
 
+  -- an operand has a rank exactly where it converts
+  pub cost-found : is_some (found (conversion_rank (operand x) (operand p))) ≡ ltb (conversion_rank (operand x) (operand p)) none
+  cost-found = ap (λ (r : ℕ). is_some (found r)) cost ∙ go (eqb (x / 7) (p / 7)) ∙ sym (ap (λ (r : ℕ). ltb r none) cost)
+    where
+      go : (b : Bool) → is_some (found (pick b (rank_of (x % 7) (p % 7)) none)) ≡ ltb (pick b (rank_of (x % 7) (p % 7)) none) none
+      go true = rank-found (x % 7) (p % 7)
+      go false = refl
+
+-- A PLACE as the code answers it
+
+pub place-at : (n k : ℕ) → k < n → place_in n k ≡ Some k
+place-at n k h = rw (lt-ltb k n h)
+
+pub place-past : (n k : ℕ) → n ≤ k → place_in n k ≡ None
+place-past n k h = rw (le-ltb k n h)
+
+pub place-there : (n k : ℕ) → is_some (place_in n k) ≡ ltb k n
+place-there n k = go (ltb k n)
+  where
+    go : (b : Bool) → is_some (cond b (Some k) None) ≡ b
+    go true = refl
+    go false = refl
+
+-- whether there is one
+module _ (n k : ℕ) (r : Option ℕ) (e : r ≡ place_in n k) where
+  pub placed : is_some r ≡ true → k < n
+  placed h = ltb-true k n (sym (ap is_some e ∙ place-there n k) ∙ h)
+
+  pub not-placed : is_some r ≡ false → n ≤ k
+  not-placed h = ltb-false k n (sym (ap is_some e ∙ place-there n k) ∙ h)
+
+  pub placed-at : (i : ℕ) → r ≡ Some i → (k < n) × (k ≡ i)
+  placed-at i q =
+      let l : k < n = placed (ap is_some q) in
+      let same : Some k ≡ Some i = sym (e ∙ place-at n k l) ∙ q in
+      (l, cc)
+
+  pub placed-or : (k ≤ n) → unwrap_or r n ≡ k
+  placed-or h = ap (λ (s : Option ℕ). unwrap_or s n) e ∙ go (ltb k n) refl
+    where
+      go : (b : Bool) → ltb k n ≡ b → unwrap_or (cond b (Some k) None) n ≡ k
+      go true q = refl
+      go false q = let l = ltb-false k n q in omega arith
+
 -- THE FIRST THAT DOES NOT CONVERT: how many were passed, and the first of those that are left
 
 abbrev miss_from : List ℕ → List ℕ → ℕ → ℕ
@@ -56,11 +102,16 @@ module _ (ps xs : List ℕ) (i : ℕ) (hp : i < length ps) (hx : i < length xs) 
   unfolding first_miss
   miss-at = rw (add-one, drop-cons ps i 0 hp, drop-cons xs i 0 hx)
 
-  pub miss-here : fee ≡ 255 → miss_from ps xs i ≡ 0
-  miss-here e = miss-at ∙ ap (λ (r : ℕ). cond (ltb r none) (suc (miss_from ps xs (i + 1))) 0) e
+  -- by whether it has a rank
+  module _ (small : get_or xs i 0 < 256) (shaped : get_or ps i 0 < 91) where
+    ranked : is_some (found fee) ≡ ltb fee none
+    ranked = cost-found (get_or xs i 0) (get_or ps i 0) small shaped
 
-  pub miss_later : fee < 255 → miss_from ps xs i ≡ suc (miss_from ps xs (i + 1))
-  miss_later l = miss-at ∙ ap (λ (b : Bool). cond b (suc (miss_from ps xs (i + 1))) 0) (lt-ltb fee none l)
+    pub miss-here : is_some (found fee) ≡ false → miss_from ps xs i ≡ 0
+    miss-here e = miss-at ∙ ap (λ (b : Bool). cond b (suc (miss_from ps xs (i + 1))) 0) (sym ranked ∙ e)
+
+    pub miss_later : is_some (found fee) ≡ true → miss_from ps xs i ≡ suc (miss_from ps xs (i + 1))
+    miss_later e = miss-at ∙ ap (λ (b : Bool). cond b (suc (miss_from ps xs (i + 1))) 0) (sym ranked ∙ e)
 
 pub miss-end : (ps xs : List ℕ) (i : ℕ) → length ps ≤ i → miss_from ps xs i ≡ 0
 unfolding first_miss

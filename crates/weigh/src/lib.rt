@@ -6,14 +6,9 @@ ghost use Rattle.conv.specs.Types.{abstract_ty};
 ghost use Rattle.conv.specs.Rank.{both, conversion_rank, found};
 ghost use Rattle.overload.specs.Overload.{no_more, less};
 ghost use Rattle.overload.specs.inner.Code.{operand};
-ghost use Rattle.weigh.specs.Weigh.{first_by, first_miss, Shaped};
+ghost use Rattle.weigh.specs.Weigh.{first_by, first_miss, place_in, Shaped};
 
-use conv::SCALARS;
-
-// The scalars that are abstract.
-const ABSTRACT_INT: u8 = 1;
-
-const ABSTRACT_FLOAT: u8 = 2;
+use conv::{ABSTRACT_FLOAT, ABSTRACT_INT, SCALARS};
 
 // The rank of the conversion of an operand to a parameter.
 pub fn rank(x: u8, p: u8) -> Option<u8>
@@ -34,35 +29,31 @@ pub fn cost(x: u8, p: u8) -> u8
     rank(x, p).unwrap_or(u8::MAX)
 }
 
-// The place of the first operand that does not convert to its parameter, or how many there are.
-pub fn first_miss(ps: &[u8], xs: &[u8]) -> usize
+// The place of the first operand that does not convert to its parameter.
+pub fn first_miss(ps: &[u8], xs: &[u8]) -> Option<usize>
     requires { Shaped ps.now × (length xs.now ≡ length ps.now) }
-    ensures { result ≡ first_miss (map operand ps.now) (map operand xs.now) }
+    ensures { result ≡ place_in (length xs.now) (first_miss (map operand ps.now) (map operand xs.now)) }
 {
-    let mut i = 0;
-    while i < ps.len() {
-        if cost(xs[i], ps[i]) == u8::MAX {
-            return i;
+    for (i, p) in ps.iter().enumerate() {
+        if rank(xs[i], *p).is_none() {
+            return Some(i);
         }
-        i += 1;
     }
-    i
+    None
 }
 
-// The place of the first parameter that is abstract, or how many there are.
-pub fn first_abstract(ps: &[u8]) -> usize
+// The place of the first parameter that is abstract.
+pub fn first_abstract(ps: &[u8]) -> Option<usize>
     requires { Shaped ps.now }
-    ensures { result ≡ first_by abstract_ty (map operand ps.now) }
+    ensures { result ≡ place_in (length ps.now) (first_by abstract_ty (map operand ps.now)) }
 {
-    let mut i = 0;
-    while i < ps.len() {
-        let s = ps[i] % SCALARS;
+    for (i, p) in ps.iter().enumerate() {
+        let s = *p % SCALARS;
         if (s == ABSTRACT_INT) | (s == ABSTRACT_FLOAT) {
-            return i;
+            return Some(i);
         }
-        i += 1;
     }
-    i
+    None
 }
 
 // Whether no operand costs more under the parameters ps than under qs, and some operand less.
@@ -71,15 +62,13 @@ pub fn beats(xs: &[u8], ps: &[u8], qs: &[u8]) -> bool
     ensures { result ≡ both (no_more (map operand xs.now) (map operand ps.now) (map operand qs.now)) (less (map operand xs.now) (map operand ps.now) (map operand qs.now)) }
 {
     let mut cheaper = false;
-    let mut i = 0;
-    while i < xs.len() {
-        let a = cost(xs[i], ps[i]);
-        let b = cost(xs[i], qs[i]);
+    for (i, x) in xs.iter().enumerate() {
+        let a = cost(*x, ps[i]);
+        let b = cost(*x, qs[i]);
         if b < a {
             return false;
         }
         cheaper = cheaper | (a < b);
-        i += 1;
     }
     cheaper
 }

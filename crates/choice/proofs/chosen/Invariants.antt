@@ -1,4 +1,4 @@
-use Prim.Native.Nat.{ℕ, ◌≤◌, ◌<◌, ◌-◌}
+use Prim.Native.Nat.{ℕ, ◌<◌}
 use mathlib.Core.Path.{◌≡◌}
 use mathlib.Core.Bool.{false}
 use mathlib.Core.List.{map}
@@ -9,7 +9,4 @@ use Rattle.choice.specs.inner.Chosen.{chosen_by}
 use Rattle.choice.proofs.chosen.Given as goal
 
 abbrev pub invariant-loop-i : goal.invariant-loop-i
-invariant-loop-i l = (l.i ≤ l.n) × ((k : ℕ) → k < l.i → chosen_by l.running (row_at l.row) (map operand l.xs) (overload_at (row_at l.row) k) ≡ false)
-
-abbrev pub decreases-loop-i : goal.decreases-loop-i
-decreases-loop-i l = l.n - l.i
+invariant-loop-i l = (k : ℕ) → k < l.i → chosen_by l.running (row_at l.row) (map operand l.xs) (overload_at (row_at l.row) k) ≡ false

@@ -30,16 +30,16 @@ pub returns-then-not-is_left : goal.returns-then-not-is_left
 returns-then-not-is_left c = let a = c.args in let e = c.requires.0 in let q = params-part a.row a.i c.params-all.result c.params-all.ensures (length a.xs.now - 0) (omega (arith, e)) (omega (arith, e, count-few a.row)) in sym (chosen-away a.row a.running (map operand a.xs.now) (overload_at (row_at a.row) a.i) (subst (λ (ps : List Ty). both (fits ps (map operand a.xs.now)) (left_by a.running ps) ≡ false) q.2 (sym c.is_left.ensures ∙ c.if-not-is_left.true)))
 
 pub loop-j-init : goal.loop-j-init
-loop-j-init c = (omega arith, λ k h. absurd (omega arith))
+loop-j-init c = λ k h. absurd (omega arith)
 
 pub stands_back-requires : goal.stands_back-requires
-stands_back-requires c = let a = c.args in let e = c.requires.0 in let q = params-part a.row a.i c.params-all.result c.params-all.ensures (length a.xs.now - 0) (omega (arith, e)) (omega (arith, e, count-few a.row)) in (e, c.requires.1, omega (arith, c.count-n.ensures.0, c.loop-j-test.true), q.0, omega (arith, q.1), q.2)
+stands_back-requires c = let a = c.args in let e = c.requires.0 in let q = params-part a.row a.i c.params-all.result c.params-all.ensures (length a.xs.now - 0) (omega (arith, e)) (omega (arith, e, count-few a.row)) in (e, c.requires.1, omega (arith, c.count-j-end.ensures.0, c.loop-j-test.true), q.0, omega (arith, q.1), q.2)
 
 pub returns-then-not-stands_back : goal.returns-then-not-stands_back
-returns-then-not-stands_back c = let a = c.args in sym (chosen-not a.row a.running (map operand a.xs.now) (overload_at (row_at a.row) a.i) c.loop-j.j (omega (arith, c.count-n.ensures.0, c.loop-j-test.true)) (sym c.stands_back.ensures ∙ c.if-not-stands_back.true))
+returns-then-not-stands_back c = let a = c.args in sym (chosen-not a.row a.running (map operand a.xs.now) (overload_at (row_at a.row) a.i) c.loop-j.j (omega (arith, c.count-j-end.ensures.0, c.loop-j-test.true)) (sym c.stands_back.ensures ∙ c.if-not-stands_back.true))
 
 pub loop-j-preserved : goal.loop-j-preserved
-loop-j-preserved c = let a = c.args in (omega arith, below_more (λ (k : ℕ). stands_back a.running (map operand a.xs.now) (overload_at (row_at a.row) a.i) (overload_at (row_at a.row) k) ≡ true) _ c.loop-j.invariant.1 (sym c.stands_back.ensures ∙ c.if-not-stands_back.false))
+loop-j-preserved c = let a = c.args in below_more (λ (k : ℕ). stands_back a.running (map operand a.xs.now) (overload_at (row_at a.row) a.i) (overload_at (row_at a.row) k) ≡ true) _ c.loop-j.invariant (sym c.stands_back.ensures ∙ c.if-not-stands_back.false)
 
 pub returns : goal.returns
-returns c = let a = c.args in let e = c.requires.0 in let q = params-part a.row a.i c.params-all.result c.params-all.ensures (length a.xs.now - 0) (omega (arith, e)) (omega (arith, e, count-few a.row)) in sym (chosen-all a.row a.running (map operand a.xs.now) (overload_at (row_at a.row) a.i) (subst (λ (ps : List Ty). both (fits ps (map operand a.xs.now)) (left_by a.running ps) ≡ true) q.2 (sym c.is_left.ensures ∙ c.if-not-is_left.false)) (λ k h. c.loop-j.invariant.1 k (omega (arith, c.count-n.ensures.0))))
+returns c = let a = c.args in let e = c.requires.0 in let q = params-part a.row a.i c.params-all.result c.params-all.ensures (length a.xs.now - 0) (omega (arith, e)) (omega (arith, e, count-few a.row)) in sym (chosen-all a.row a.running (map operand a.xs.now) (overload_at (row_at a.row) a.i) (subst (λ (ps : List Ty). both (fits ps (map operand a.xs.now)) (left_by a.running ps) ≡ true) q.2 (sym c.is_left.ensures ∙ c.if-not-is_left.false)) (λ k h. c.loop-j.invariant k (omega (arith, c.count-j-end.ensures.0))))

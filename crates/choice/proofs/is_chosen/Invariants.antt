@@ -1,4 +1,4 @@
-use Prim.Native.Nat.{ℕ, ◌≤◌, ◌<◌, ◌-◌}
+use Prim.Native.Nat.{ℕ, ◌<◌}
 use mathlib.Core.Path.{◌≡◌}
 use mathlib.Core.Bool.{true}
 use mathlib.Core.List.{map}
@@ -9,7 +9,4 @@ use Rattle.choice.specs.inner.Chosen.{stands_back}
 use Rattle.choice.proofs.is_chosen.Given as goal
 
 abbrev pub invariant-loop-j : goal.invariant-loop-j
-invariant-loop-j l = (l.j ≤ l.n) × ((k : ℕ) → k < l.j → stands_back l.running (map operand l.xs) (overload_at (row_at l.row) l.i) (overload_at (row_at l.row) k) ≡ true)
-
-abbrev pub decreases-loop-j : goal.decreases-loop-j
-decreases-loop-j l = l.n - l.j
+invariant-loop-j l = (k : ℕ) → k < l.j → stands_back l.running (map operand l.xs) (overload_at (row_at l.row) l.i) (overload_at (row_at l.row) k) ≡ true
