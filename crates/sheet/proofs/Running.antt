@@ -20,7 +20,7 @@ use Rattle.frame.specs.declared.Item.TheVariants.{Push, Unary, Binary, Call, Cal
 use Rattle.frame.specs.declared.Placed.{Placed}
 use Rattle.frame.proofs.FrameLaws.{framed, own-place}
 use Rattle.frame.proofs.ItemsLaws.{items-from}
-use Rattle.sheet.specs.declared.Turn.TheVariants as turn
+use Rattle.std.specs.declared.ops.ControlFlow.TheVariants.{Continue, Break}
 use Rattle.step.specs.Effect.{most, State, Effect, goes, silent, ends, stops, effect_of}
 use Rattle.sheet.specs.Machine.{after, more, done, turn_of, onward, run_items, end_mark, onward_mark, runs_items, begun, type_sheet}
 use Rattle.step.specs.inner.Code.{state_of, Good, Ready}
@@ -28,7 +28,7 @@ use Rattle.memo.specs.declared.Went.{Went}
 use Rattle.memo.specs.inner.Quick.{WentIn}
 use Rattle.sheet.specs.inner.Code.{turn_by, DoneMarked, TurnCounted, Turns, RushesIn}
 use Rattle.step.specs.Kept.{Grew, Needed}
-use Rattle.sheet.specs.declared.Rushed.{Rushed}
+use Rattle.sheet.specs.declared.Here.{Here}
 use Rattle.step.proofs.Keeping.{item-kept}
 
 -- a turn goes on only after an item, not at the end or at bad framing
@@ -120,32 +120,32 @@ module _ (profile : ℕ) (s w₀ : List ℕ) (n₀ : ℕ) (w vals : List ℕ) (c
   st = state_of count vals n w
 
   -- after quick items
-  pub left-rushed : (r : Rushed) → RushesIn profile s at count vals n w r vals' → Left profile s w₀ n₀ w vals' r.count n r.at.0
+  pub left-rushed : (r : Here) → RushesIn profile s at count vals n w r vals' → Left profile s w₀ n₀ w vals' r.count r.used r.at.0
   left-rushed r h = record { long = l.long; ready = h.ready; rest = h.rest ∙ l.rest; mark = h.mark ∙ l.mark }
 
   module _ (w' : List ℕ) where
-    module _ (c u : ℕ) (p : Place) (t : Turns (turn_of profile s (item_at s at) st) (end_mark (effect_of profile at st s (item_at s at).item)) (item_at s at).next.0 (turn.More c u p) vals' w') where
-      went_on : turn_of profile s (item_at s at) st ≡ more (state_of c vals' u w')
+    module _ (x : Here) (t : Turns (turn_of profile s (item_at s at) st) (end_mark (effect_of profile at st s (item_at s at).item)) (item_at s at).next.0 (Continue x) vals' w') where
+      went_on : turn_of profile s (item_at s at) st ≡ more (state_of x.count vals' x.used w')
       unfolding turn_by
       went_on = sym t.turned
 
-      counted : (c ≤ most) × (p.0 ≡ (item_at s at).next.0)
+      counted : (x.count ≤ most) × (x.at.0 ≡ (item_at s at).next.0)
       unfolding TurnCounted
       counted = t.counted
 
-      pub left-again : length vals' ≡ length vals → length w' ≡ length w → Left profile s w₀ n₀ w' vals' c u p.0
+      pub left-again : length vals' ≡ length vals → length w' ≡ length w → Left profile s w₀ n₀ w' vals' x.count x.used x.at.0
       left-again a b =
           record {
             long = b ∙ l.long;
-            ready = record { size = a ∙ l.ready.size; fits = counted.0; good = (turn-kept profile s (item_at s at) st (state_of c vals' u w') went_on l.ready.good).0 };
-            rest = ap (λ (k : ℕ). run_items profile s (items_from s k) (state_of c vals' u w')) counted.1 ∙ sym (run_more profile s at st (state_of c vals' u w') went_on) ∙ l.rest;
-            mark = ap (λ (k : ℕ). runs_items profile s (items_from s k) (state_of c vals' u w')) counted.1 ∙ sym (mark-more profile s at st (state_of c vals' u w') went_on) ∙ l.mark;
+            ready = record { size = a ∙ l.ready.size; fits = counted.0; good = (turn-kept profile s (item_at s at) st (state_of x.count vals' x.used w') went_on l.ready.good).0 };
+            rest = ap (λ (k : ℕ). run_items profile s (items_from s k) (state_of x.count vals' x.used w')) counted.1 ∙ sym (run_more profile s at st (state_of x.count vals' x.used w') went_on) ∙ l.rest;
+            mark = ap (λ (k : ℕ). runs_items profile s (items_from s k) (state_of x.count vals' x.used w')) counted.1 ∙ sym (mark-more profile s at st (state_of x.count vals' x.used w') went_on) ∙ l.mark;
           }
 
-      pub left_less : (at < p.0) × (p.0 ≤ length s)
-      left_less = let f = run-forward profile s at st (state_of c vals' u w') went_on in let e = counted.1 in (omega (arith, f.0, e), omega (arith, f.1, e))
+      pub left_less : (at < x.at.0) × (x.at.0 ≤ length s)
+      left_less = let f = run-forward profile s at st (state_of x.count vals' x.used w') went_on in let e = counted.1 in (omega (arith, f.0, e), omega (arith, f.1, e))
 
-    pub left-done : (a : Typed) → Turns (turn_of profile s (item_at s at) st) (end_mark (effect_of profile at st s (item_at s at).item)) (item_at s at).next.0 (turn.Done a) vals' w'
+    pub left-done : (a : Typed) → Turns (turn_of profile s (item_at s at) st) (end_mark (effect_of profile at st s (item_at s at).item)) (item_at s at).next.0 (Break a) vals' w'
         → GaveMarked (run_items profile s (items_from s header_size) (begun w₀ n₀)) (runs_items profile s (items_from s header_size) (begun w₀ n₀)) a w'
     unfolding turn_by DoneMarked
     left-done a t =
@@ -156,37 +156,37 @@ module _ (profile : ℕ) (s w₀ : List ℕ) (n₀ : ℕ) (w vals : List ℕ) (c
 
 -- QUICK ITEMS: one more leaves the rest as it was
 
-module _ (profile : ℕ) (s : List ℕ) (from at : ℕ) (high count : ℕ) (vals₀ vals : List ℕ) (used : ℕ) (w : List ℕ)
-    (h : RushesIn profile s from high vals₀ used w (record { at = record { 0 = at }; count = count }) vals) where
+module _ (profile : ℕ) (s : List ℕ) (from high : ℕ) (vals₀ : List ℕ) (used : ℕ) (w : List ℕ) (l : Here) (vals : List ℕ) (h : RushesIn profile s from high vals₀ used w l vals) where
   -- then others
-  pub rush-join : (r : Rushed) (vals' : List ℕ) → RushesIn profile s at count vals used w r vals' → RushesIn profile s from high vals₀ used w r vals'
+  pub rush-join : (r : Here) (vals' : List ℕ) → RushesIn profile s l.at.0 l.count vals l.used w r vals' → RushesIn profile s from high vals₀ used w r vals'
   rush-join r vals' g =
       let a = h.onward in
       let b = g.onward in
-      record { ready = g.ready; rest = g.rest ∙ h.rest; mark = g.mark ∙ h.mark; onward = omega arith }
+      record { ready = g.ready; rest = g.rest ∙ h.rest; mark = g.mark ∙ h.mark; onward = omega arith; same = g.same ∙ h.same }
 
   -- then one that went
-  module _ (x : Went) (vals' : List ℕ) (g : WentIn profile s at count vals used w x vals') where
+  module _ (x : Went) (vals' : List ℕ) (g : WentIn profile s l.at.0 l.count vals l.used w x vals') where
     abbrev now : State
-    now = state_of count vals used w
+    now = state_of l.count vals l.used w
 
-    turns : turn_of profile s (item_at s at) now ≡ more (state_of x.count vals' used w)
+    turns : turn_of profile s (item_at s l.at.0) now ≡ more (state_of x.count vals' l.used w)
     unfolding turn_of after
-    turns = ap (λ (p : Place). after s p.0 (item_at s at).next.0 (effect_of profile p.0 now s (item_at s at).item)) (own-place s at) ∙ ap (after s at (item_at s at).next.0) g.effect
+    turns = ap (λ (p : Place). after s p.0 (item_at s l.at.0).next.0 (effect_of profile p.0 now s (item_at s l.at.0).item)) (own-place s l.at.0) ∙ ap (after s l.at.0 (item_at s l.at.0).next.0) g.effect
 
     -- it has bytes
-    pub rush-further : at < at + x.bytes
-    rush-further = let f = (run-forward profile s at now (state_of x.count vals' used w) turns).0 in omega (arith, f, g.next)
+    pub rush-further : l.at.0 < l.at.0 + x.bytes
+    rush-further = let f = (run-forward profile s l.at.0 now (state_of x.count vals' l.used w) turns).0 in omega (arith, f, g.next)
 
-    pub rush-on : length vals' ≡ length vals → RushesIn profile s from high vals₀ used w (record { at = record { 0 = at + x.bytes }; count = x.count }) vals'
+    pub rush-on : length vals' ≡ length vals → RushesIn profile s from high vals₀ used w (record { at = record { 0 = l.at.0 + x.bytes }; count = x.count; used = l.used }) vals'
     rush-on a =
-        let k = turn-kept profile s (item_at s at) now (state_of x.count vals' used w) turns h.ready.good in
+        let k = turn-kept profile s (item_at s l.at.0) now (state_of x.count vals' l.used w) turns h.ready.good in
         let b = h.onward in
         record {
           ready = record { size = a ∙ h.ready.size; fits = g.high; good = k.0 };
-          rest = sym (ap (λ (n : ℕ). run_items profile s (items_from s n) (state_of x.count vals' used w)) g.next) ∙ sym (run_more profile s at now (state_of x.count vals' used w) turns) ∙ h.rest;
-          mark = sym (ap (λ (n : ℕ). runs_items profile s (items_from s n) (state_of x.count vals' used w)) g.next) ∙ sym (mark-more profile s at now (state_of x.count vals' used w) turns) ∙ h.mark;
+          rest = sym (ap (λ (n : ℕ). run_items profile s (items_from s n) (state_of x.count vals' l.used w)) g.next) ∙ sym (run_more profile s l.at.0 now (state_of x.count vals' l.used w) turns) ∙ h.rest;
+          mark = sym (ap (λ (n : ℕ). runs_items profile s (items_from s n) (state_of x.count vals' l.used w)) g.next) ∙ sym (mark-more profile s l.at.0 now (state_of x.count vals' l.used w) turns) ∙ h.mark;
           onward = omega (arith, b);
+          same = h.same;
         }
 
 -- A SHEET, test by test

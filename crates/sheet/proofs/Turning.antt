@@ -21,13 +21,12 @@ use Rattle.frame.proofs.FrameLaws.{own-place}
 use Rattle.frame.specs.declared.Placed.{Placed}
 use Rattle.step.specs.declared.Did.{Did}
 use Rattle.step.specs.declared.Did.TheVariants as did
-use Rattle.sheet.specs.declared.Turn.{Turn}
-use Rattle.sheet.specs.declared.Turn.TheVariants as turn
+use Rattle.std.specs.declared.ops.ControlFlow.TheVariants.{Continue, Break}
 use Rattle.step.specs.Effect.{most, State, Effect, effect_of}
 use Rattle.memo.specs.inner.Memo.{AfterStep}
 use Rattle.sheet.specs.Machine.{end_answer, left_answer, after, more, done, turn_of, end_mark}
 use Rattle.step.specs.inner.Code.{state_of, effect_by, Counted, Does}
-use Rattle.sheet.specs.inner.Code.{turn_by, DoneMarked, TurnCounted, TurnsBy, Turns, AfterTurn}
+use Rattle.sheet.specs.inner.Code.{Turn, turn_by, DoneMarked, TurnCounted, TurnsBy, Turns, AfterTurn}
 use Rattle.step.proofs.StackLaws.{sized}
 
 -- a call without value, test by test
@@ -47,12 +46,12 @@ marks-own m a b e = e ∙ ap (marked_by m) (sym (ap (λ (x : Typed). x.answer) e
 
 module _ (size place next : ℕ) (vals : List ℕ) where
   module _ (c u : ℕ) where
-    pub turn-goes : (n : Place) → n.0 ≡ next → Counted (did.Went c u) → TurnsBy size place next (did.Went c u) vals (turn.More c u n)
+    pub turn-goes : (n : Place) → n.0 ≡ next → Counted (did.Went c u) → TurnsBy size place next (did.Went c u) vals (Continue (record { at = n; count = c; used = u }))
     unfolding after effect_by turn_by DoneMarked end_mark Counted TurnCounted
     turn-goes n e k = record { turned = λ s words l. refl; counted = (k, e); marked = λ words. tt }
 
     pub turn-silent : length vals ≡ most → Counted (did.Silent c u) → (a : Typed) (b : Answer) → a ≡ marked_by false b → b ≡ left_answer size place next c u
-        → TurnsBy size place next (did.Silent c u) vals (turn.Done a)
+        → TurnsBy size place next (did.Silent c u) vals (Break a)
     unfolding after effect_by turn_by DoneMarked end_mark Counted TurnCounted
     turn-silent l k a b e f =
         let m : c ≤ most = k in
@@ -68,7 +67,7 @@ module _ (size place next : ℕ) (vals : List ℕ) where
     unfolding Counted
     counted-end k = k
 
-    pub turn-ends : (a : Typed) → a ≡ marked_by (mark_of (get_or (take c vals) 0 0)) (end_answer size (take c vals) u) → TurnsBy size place next (did.Ended c u) vals (turn.Done a)
+    pub turn-ends : (a : Typed) → a ≡ marked_by (mark_of (get_or (take c vals) 0 0)) (end_answer size (take c vals) u) → TurnsBy size place next (did.Ended c u) vals (Break a)
     unfolding after effect_by turn_by DoneMarked end_mark Counted TurnCounted
     turn-ends a e =
         record {
@@ -77,7 +76,7 @@ module _ (size place next : ℕ) (vals : List ℕ) where
           marked = λ words. marks-own (mark_of (get_or (take c vals) 0 0)) a (end_answer size (take c vals) u) e;
         }
 
-  pub turn-stops : (r : Refusal) (a : Typed) → a ≡ marked_by false (Refused r) → TurnsBy size place next (did.Refused r) vals (turn.Done a)
+  pub turn-stops : (r : Refusal) (a : Typed) → a ≡ marked_by false (Refused r) → TurnsBy size place next (did.Refused r) vals (Break a)
   unfolding after effect_by turn_by DoneMarked end_mark TurnCounted
   turn-stops r a e =
       record {
@@ -104,11 +103,11 @@ module _ (size place next : ℕ) (vals memo w : List ℕ) where
 
   pub after_turn : (s : List ℕ) → length s ≡ size → (d : Did) (r : Turn) → TurnsBy size place next d vals r → AfterStep d memo w → AfterTurn r memo w
   unfolding AfterStep AfterTurn after effect_by turn_by
-  after_turn s l d (turn.Done a) t m = tt
-  after_turn s l (did.Went c u) (turn.More c' u' p) t m =
-      let q : more (state_of c' vals u' w) ≡ more (state_of c vals u w) = t.turned s w l in
-      let z : ◌≡◌ {A = State} (state_of c' vals u' w) (state_of c vals u w) = cc in
-      rw (ap (λ (x : State). x.used) z) m
-  after_turn s l (did.Silent c u) (turn.More c' u' p) t m = let q = t.turned s w l in impossible (cc)
-  after_turn s l (did.Ended c u) (turn.More c' u' p) t m = let q = t.turned s w l in impossible (cc)
-  after_turn s l (did.Refused x) (turn.More c' u' p) t m = let q = t.turned s w l in impossible (cc)
+  after_turn s l d (Break a) t m = tt
+  after_turn s l (did.Went c u) (Continue x) t m =
+      let q : more (state_of x.count vals x.used w) ≡ more (state_of c vals u w) = t.turned s w l in
+      let z : ◌≡◌ {A = State} (state_of x.count vals x.used w) (state_of c vals u w) = cc in
+      rw (ap (λ (y : State). y.used) z) m
+  after_turn s l (did.Silent c u) (Continue x) t m = let q = t.turned s w l in impossible (cc)
+  after_turn s l (did.Ended c u) (Continue x) t m = let q = t.turned s w l in impossible (cc)
+  after_turn s l (did.Refused r) (Continue x) t m = let q = t.turned s w l in impossible (cc)

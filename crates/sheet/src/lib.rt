@@ -18,27 +18,18 @@ use frame::{HEADER, Items};
 use memo::Memo;
 use names::Names;
 use step::{Did, VALUES};
+use std::ops::ControlFlow;
 use table::{Answer, Place, Reason, Typed};
 
 // A call's name, as that part of the lent sheet.
 pub use frame::call_name;
 
-// What a turn came to: the machine goes on at the next place, or the sheet is answered.
+// Where a run stands: the place of the next item, and how many values and entries there are.
 #[derive(Clone, Copy)]
-pub enum Turn {
-    More {
-        count: usize,
-        used: usize,
-        next: Place,
-    },
-    Done(Typed),
-}
-
-// Where a run of quick items came to, and how many values it left.
-#[derive(Clone, Copy)]
-pub struct Rushed {
+pub struct Here {
     pub at: Place,
     pub count: usize,
+    pub used: usize,
 }
 
 // The answer at the end of a sheet of `size` bytes: the one value that stands, with its mark.
@@ -73,96 +64,98 @@ fn leave(size: usize, at: Place, next: Place, count: usize, used: usize) -> Answ
     table::refused(Reason::Stack, at, used)
 }
 
-// The turn after what an item at a place did, in a sheet of `size` bytes.
-fn turn_by(d: Did, size: usize, at: Place, next: Place, stack: &[u32]) -> Turn
+// The turn after what an item at a place did, in a sheet of `size` bytes: the run goes on, or the sheet is answered.
+fn turn_by(
+    d: Did,
+    size: usize,
+    at: Place,
+    next: Place,
+    stack: &[u32],
+) -> ControlFlow<Typed, Here>
     requires { (length stack.now ≡ 64) × Counted d }
     ensures { TurnsBy size at.0 next.0 d stack.now result }
 {
     match d {
-        Did::Went { count: c, used: u } => Turn::More {
-            count: c,
-            used: u,
-            next,
-        },
-        Did::Silent { count: c, used: u } => Turn::Done(unmarked(leave(size, at, next, c, u))),
-        Did::Ended { count: c, used: u } => Turn::Done(finish(size, stack, c, u)),
-        Did::Refused(r) => Turn::Done(unmarked(Answer::Refused(r))),
+        Did::Went { count, used } => ControlFlow::Continue(Here {
+            at: next,
+            count,
+            used,
+        }),
+        Did::Silent { count, used } => {
+            ControlFlow::Break(unmarked(leave(size, at, next, count, used)))
+        }
+        Did::Ended { count, used } => ControlFlow::Break(finish(size, stack, count, used)),
+        Did::Refused(r) => ControlFlow::Break(unmarked(Answer::Refused(r))),
     }
 }
 
-// One turn of the machine, at a place.
+// One turn of the machine.
 fn one_turn(
     items: Items,
     names: &Names,
     profile: u32,
-    at: Place,
+    here: Here,
     stack: &mut [u32],
-    count: usize,
     table: &mut [u32],
-    used: usize,
     memo: &mut Memo,
-) -> Turn
-    requires { Ready count stack.old used table.old × Recalls memo.old.slots table.old used }
-    ensures { Turns (turn_of profile (sheet_in items.entry) (item_at (sheet_in items.entry) at.0) (state_of count stack.old used table.old)) (end_mark (effect_of profile at.0 (state_of count stack.old used table.old) (sheet_in items.entry) (item_at (sheet_in items.entry) at.0).item)) (item_at (sheet_in items.entry) at.0).next.0 result stack.new table.new × AfterTurn result memo.new.slots table.new }
+) -> ControlFlow<Typed, Here>
+    requires { Ready here.count stack.old here.used table.old × Recalls memo.old.slots table.old here.used }
+    ensures { Turns (turn_of profile (sheet_in items.entry) (item_at (sheet_in items.entry) here.at.0) (state_of here.count stack.old here.used table.old)) (end_mark (effect_of profile here.at.0 (state_of here.count stack.old here.used table.old) (sheet_in items.entry) (item_at (sheet_in items.entry) here.at.0).item)) (item_at (sheet_in items.entry) here.at.0).next.0 result stack.new table.new × AfterTurn result memo.new.slots table.new }
 {
-    let found = items.item(at);
+    let found = items.item(here.at);
     let d = memo::noted_step(
-        items, names, profile, found.item, at, stack, count, table, used, memo,
+        items, names, profile, found.item, here.at, stack, here.count, table, here.used, memo,
     );
-    turn_by(d, HEADER + items.bytes.len(), at, found.next, stack)
+    turn_by(
+        d,
+        HEADER + items.bytes.len(),
+        here.at,
+        found.next,
+        stack,
+    )
 }
 
-// The items from a place on, as long as they are quick.
-fn rush(
-    items: Items,
-    from: Place,
-    stack: &mut [u32],
-    count: usize,
-    table: &[u32],
-    used: usize,
-    memo: &Memo,
-) -> Rushed
-    requires { Ready count stack.old used table.now × Recalls memo.now.slots table.now used }
-    ensures { Rushes (sheet_in items.entry) from.0 count stack.old used table.now result stack.new }
+// From a place on, as long as the items are quick.
+fn rush(items: Items, from: Here, stack: &mut [u32], table: &[u32], memo: &Memo) -> Here
+    requires { Ready from.count stack.old from.used table.now × Recalls memo.now.slots table.now from.used }
+    ensures { Rushes (sheet_in items.entry) from.at.0 from.count stack.old from.used table.now result stack.new }
 {
-    let mut at = from.0;
-    let mut count = count;
-    while let Some(went) = memo::quick_at(items, Place(at), stack, count, table, used, memo) {
-        at += went.bytes;
-        count = went.count;
+    let mut here = from;
+    while let Some(went) = memo::quick_at(
+        items, here.at, stack, here.count, table, here.used, memo,
+    ) {
+        here.at = Place(here.at.0 + went.bytes);
+        here.count = went.count;
     }
-    Rushed {
-        at: Place(at),
-        count,
-    }
+    here
 }
 
-// The items from a place on, as long as they are quick or calls that the memo has.
+// From a place on, as long as the items are quick or calls that the memo has.
 fn rush_calls(
     items: Items,
     names: &Names,
     profile: u32,
-    from: Place,
+    from: Here,
     stack: &mut [u32],
-    count: usize,
     table: &[u32],
-    used: usize,
     memo: &Memo,
-) -> Rushed
-    requires { Ready count stack.old used table.now × Recalls memo.now.slots table.now used }
-    ensures { RushesIn profile (sheet_in items.entry) from.0 count stack.old used table.now result stack.new }
+) -> Here
+    requires { Ready from.count stack.old from.used table.now × Recalls memo.now.slots table.now from.used }
+    ensures { RushesIn profile (sheet_in items.entry) from.at.0 from.count stack.old from.used table.now result stack.new }
 {
-    let mut at = from.0;
-    let mut count = count;
+    let mut here = from;
     loop {
-        let r = rush(items, Place(at), stack, count, table, used, memo);
+        let left = rush(items, here, stack, table, memo);
         let Some(went) = memo::call_at(
-            items, names, profile, r.at, stack, r.count, table, used, memo,
+            items, names, profile, left.at, stack, left.count, table, left.used, memo,
         ) else {
-            return r;
+            return left;
         };
-        at = r.at.0 + went.bytes;
-        count = went.count;
+        here = Here {
+            at: Place(left.at.0 + went.bytes),
+            count: went.count,
+            used: left.used,
+        };
     }
 }
 
@@ -179,34 +172,18 @@ fn run_on(
     requires { Sound table.old used × (length stack.old ≡ 64) × Recalls memo.old.slots table.old used }
     ensures { GaveMarked (run_items profile (sheet_in items.entry) (items_from (sheet_in items.entry) header_size) (begun table.old used)) (runs_items profile (sheet_in items.entry) (items_from (sheet_in items.entry) header_size) (begun table.old used)) result table.new }
 {
-    let mut count: usize = 0;
-    let mut used = used;
-    let mut at = HEADER;
+    let mut here = Here {
+        at: Place(HEADER),
+        count: 0,
+        used,
+    };
     loop {
-        let r = rush_calls(
-            items,
-            names,
-            profile,
-            Place(at),
-            stack,
-            count,
-            table,
-            used,
-            memo,
-        );
-        match one_turn(
-            items, names, profile, r.at, stack, r.count, table, used, memo,
-        ) {
-            Turn::More {
-                count: c,
-                used: u,
-                next,
-            } => {
-                at = next.0;
-                count = c;
-                used = u;
+        let left = rush_calls(items, names, profile, here, stack, table, memo);
+        match one_turn(items, names, profile, left, stack, table, memo) {
+            ControlFlow::Continue(next) => {
+                here = next;
             }
-            Turn::Done(a) => {
+            ControlFlow::Break(a) => {
                 return a;
             }
         }

@@ -5,8 +5,8 @@ use Rattle.memo.specs.inner.Memo.{Recalls}
 use Rattle.sheet.proofs.Running.{Left}
 use Rattle.sheet.proofs.run_on.Given as goal
 
-abbrev pub invariant-loop-c : goal.invariant-loop-c
-invariant-loop-c l = Left l.profile (sheet_in l.items) l.initial.table l.used-2 l.table l.stack l.count l.used l.at × Recalls l.memo.slots l.table l.used
+abbrev pub invariant-loop-next : goal.invariant-loop-next
+invariant-loop-next l = Left l.profile (sheet_in l.items) l.initial.table l.used l.table l.stack l.here.count l.here.used l.here.at.0 × Recalls l.memo.slots l.table l.here.used
 
-abbrev pub decreases-loop-c : goal.decreases-loop-c
-decreases-loop-c l = length (sheet_in l.items) - l.at
+abbrev pub decreases-loop-next : goal.decreases-loop-next
+decreases-loop-next l = length (sheet_in l.items) - l.here.at.0

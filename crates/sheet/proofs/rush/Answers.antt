@@ -11,18 +11,18 @@ use Rattle.sheet.proofs.Running.{rush-further, rush-on}
 use Rattle.sheet.proofs.rush.Goals as goal
 
 pub loop-went-init : goal.loop-went-init
-loop-went-init c = λ profile. record { ready = c.requires.0; rest = refl; mark = refl; onward = omega arith }
+loop-went-init c = λ profile. record { ready = c.requires.0; rest = refl; mark = refl; onward = omega arith; same = refl }
 
 pub quick_at-requires : goal.quick_at-requires
-quick_at-requires c = ((c.loop-went.invariant 0).ready, c.requires.1)
+quick_at-requires c = let i = c.loop-went.invariant 0 in (i.ready, rw i.same c.requires.1)
 
 pub returns : goal.returns
 returns c = let a = c.args in
     let l = c.loop-went in
-    subst (λ (y : List ℕ). Rushes (sheet_in a.items) a.from.0 a.count a.stack.now a.used a.table.now (record { at = record { 0 = l.at }; count = l.count }) y) (sym c.in_default.ensures) l.invariant
+    subst (λ (y : List ℕ). Rushes (sheet_in a.items) a.from.at.0 a.from.count a.stack.now a.from.used a.table.now l.here y) (sym c.in_default.ensures) l.invariant
 
-pub overflow_add-at : goal.overflow_add-at
-overflow_add-at c = let i = c.args.items in
+pub overflow_add-here : goal.overflow_add-here
+overflow_add-here c = let i = c.args.items in
     let h = (c.in-Some.ensures 0).within in
     let n = whole_length i.version i.bytes.now in
     search rules
@@ -31,10 +31,10 @@ pub loop-went-smaller : goal.loop-went-smaller
 loop-went-smaller c = let a = c.args in
     let l = c.loop-went in
     let h = c.in-Some.ensures 0 in
-    let f = rush-further 0 (sheet_in a.items) a.from.0 l.at a.count l.count a.stack.now l.stack a.used a.table.now (l.invariant 0) c.in-Some.went _ h in
+    let f = rush-further 0 (sheet_in a.items) a.from.at.0 a.from.count a.stack.now a.from.used a.table.now l.here l.stack (l.invariant 0) c.in-Some.went _ h in
     omega (arith, h.within, f)
 
 pub loop-went-preserved : goal.loop-went-preserved
 loop-went-preserved c = let a = c.args in
     let l = c.loop-went in
-    λ profile. rush-on profile (sheet_in a.items) a.from.0 l.at a.count l.count a.stack.now l.stack a.used a.table.now (l.invariant profile) c.in-Some.went _ (c.in-Some.ensures profile) c.quick_at.auto.stack
+    λ profile. rush-on profile (sheet_in a.items) a.from.at.0 a.from.count a.stack.now a.from.used a.table.now l.here l.stack (l.invariant profile) c.in-Some.went _ (c.in-Some.ensures profile) c.quick_at.auto.stack

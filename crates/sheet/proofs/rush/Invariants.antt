@@ -5,7 +5,7 @@ use Rattle.sheet.specs.inner.Code.{Rushes}
 use Rattle.sheet.proofs.rush.Given as goal
 
 abbrev pub invariant-loop-went : goal.invariant-loop-went
-invariant-loop-went l = Rushes (sheet_in l.items) l.initial.at l.initial.count l.initial.stack l.used l.table (record { at = record { 0 = l.at }; count = l.count }) l.stack
+invariant-loop-went l = Rushes (sheet_in l.items) l.initial.here.at.0 l.initial.here.count l.initial.stack l.initial.here.used l.table l.here l.stack
 
 abbrev pub decreases-loop-went : goal.decreases-loop-went
-decreases-loop-went l = length (sheet_in l.items) - l.at
+decreases-loop-went l = length (sheet_in l.items) - l.here.at.0

@@ -5,26 +5,31 @@ use Rattle.step.specs.Effect.{most}
 use Rattle.step.specs.inner.Code.{state_of, effect_by, Ready}
 use Rattle.memo.specs.inner.Memo.{Recalls}
 use Rattle.frame.specs.Frame.{items_from}
-use Rattle.sheet.specs.declared.Turn.{Turn}
-use Rattle.sheet.specs.declared.Turn.TheVariants as turn
-use Rattle.sheet.specs.declared.Rushed.{Rushed}
+use Rattle.std.specs.declared.ops.ControlFlow.{ControlFlow}
+use Rattle.std.specs.declared.ops.ControlFlow.TheVariants.{Continue, Break}
+use Rattle.answer.specs.declared.Typed.{Typed}
+use Rattle.sheet.specs.declared.Here.{Here}
 use Rattle.answer.specs.Answer.{marked_by}
 use Rattle.sheet.specs.Machine.{after, Turned, more, done, run_items, end_mark, runs_items}
 
+-- what a turn comes to: the run goes on here, or the sheet is answered
+abbrev pub Turn : Type 0
+Turn = ControlFlow Typed Here
+
 -- a turn, by the code's answer
 unfoldable pub turn_by : Turn → List ℕ → List ℕ → Turned
-turn_by (turn.More count used next) vals words = more (state_of count vals used words)
-turn_by (turn.Done a) vals words = done (record { answer = a.answer; words = words })
+turn_by (Continue x) vals words = more (state_of x.count vals x.used words)
+turn_by (Break a) vals words = done (record { answer = a.answer; words = words })
 
 -- the sheet's answer has the mark m, where it has a value
 unfoldable pub DoneMarked : Bool → Turn → Type 0
-DoneMarked m (turn.More count used next) = Unit {0}
-DoneMarked m (turn.Done a) = a ≡ marked_by m a.answer
+DoneMarked m (Continue x) = Unit {0}
+DoneMarked m (Break a) = a ≡ marked_by m a.answer
 
 -- the counted values lie within the slice, and the turn goes on at the next place
 unfoldable pub TurnCounted : ℕ → Turn → Type 0
-TurnCounted n (turn.More count used next) = (count ≤ most) × (next.0 ≡ n)
-TurnCounted n (turn.Done a) = Unit {0}
+TurnCounted n (Continue x) = (x.count ≤ most) × (x.at.0 ≡ n)
+TurnCounted n (Break a) = Unit {0}
 
 -- what the turn after an item promises, whatever words stand in the table
 pub record TurnsBy (size place next : ℕ) (d : Did) (vals : List ℕ) (r : Turn) : Type 0 where
@@ -39,16 +44,17 @@ pub record Turns (t : Turned) (m : Bool) (next : ℕ) (r : Turn) (vals words : L
 
 -- the memo after a turn that goes on
 unfoldable pub AfterTurn : Turn → List ℕ → List ℕ → Type 0
-AfterTurn (turn.More count used next) memo w = Recalls memo w used
-AfterTurn (turn.Done a) memo w = Unit {0}
+AfterTurn (Continue x) memo w = Recalls memo w x.used
+AfterTurn (Break a) memo w = Unit {0}
 
 -- what is left of the items gives what they gave from the first place, in a profile
-pub record RushesIn (profile : ℕ) (s : List ℕ) (from count : ℕ) (vals : List ℕ) (used : ℕ) (w : List ℕ) (r : Rushed) (after : List ℕ) : Type 0 where
-  pub ready : Ready r.count after used w
-  pub rest : run_items profile s (items_from s r.at.0) (state_of r.count after used w) ≡ run_items profile s (items_from s from) (state_of count vals used w)
-  pub mark : runs_items profile s (items_from s r.at.0) (state_of r.count after used w) ≡ runs_items profile s (items_from s from) (state_of count vals used w)
+pub record RushesIn (profile : ℕ) (s : List ℕ) (from count : ℕ) (vals : List ℕ) (used : ℕ) (w : List ℕ) (r : Here) (after : List ℕ) : Type 0 where
+  pub ready : Ready r.count after r.used w
+  pub rest : run_items profile s (items_from s r.at.0) (state_of r.count after r.used w) ≡ run_items profile s (items_from s from) (state_of count vals used w)
+  pub mark : runs_items profile s (items_from s r.at.0) (state_of r.count after r.used w) ≡ runs_items profile s (items_from s from) (state_of count vals used w)
   pub onward : from ≤ r.at.0
+  pub same : r.used ≡ used
 
 -- and in every one
-abbrev pub Rushes : List ℕ → ℕ → ℕ → List ℕ → ℕ → List ℕ → Rushed → List ℕ → Type 0
+abbrev pub Rushes : List ℕ → ℕ → ℕ → List ℕ → ℕ → List ℕ → Here → List ℕ → Type 0
 Rushes s from count vals used w r after = (profile : ℕ) → RushesIn profile s from count vals used w r after
