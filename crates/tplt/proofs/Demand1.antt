@@ -22,43 +22,44 @@ use Rattle.table.proofs.Keeping.{kept-as, kept-refused, kept-entering}
 use Rattle.tplt.specs.Heads.{head_of}
 use Rattle.tplt.specs.Params.{params_of, types_known, arguments_of}
 use Rattle.tplt.specs.Templates.{parsed_of, type_of, outcome_of, template_outcome}
-use Rattle.tplt.specs.inner.Steps.{Fit}
+use Rattle.tplt.proofs.TemplateLaws.{Fits}
 use Rattle.tplt.specs.declared.Parsed.{Parsed}
-use Rattle.tplt.specs.declared.Parsed.TheVariants.{OfVec, OfMat, OfAtomic, OfArray, Wrong}
-use Rattle.tplt.proofs.OutcomeLaws.{unsound-outcome, unknown-outcome, parsed-outcome, call-fit}
+use Rattle.std.specs.Prelude.{Result, Ok, Err}
+use Rattle.conv.specs.Types.{bool}
+use Rattle.conv.specs.Types.Ty.{scalar}
+use Rattle.tplt.proofs.OutcomeLaws.{unsound-outcome, unknown-outcome, parsed-outcome, call-fits}
 
 -- a refusal is no value
 refused_none : {P : Type 0} (reason : Reason) (w : List ℕ) (n : ℕ) {t : TypeNo} {m : ℕ} {v : List ℕ} → turned_down reason 0 w n ≡ record { answer = Value t m; words = v } → P
 refused_none reason w n h = let e = ap (λ (o : Outcome). o.answer) h in absurd (let z : ◌≡◌ {A = ℕ} 0 1 = cc in omega arith)
 
+-- the type of a template; a refusal has none, and bool stands in
+abbrev pub type_given : List ℕ → Result Parsed Reason → Ty
+type_given w (Ok p) = type_of w p
+type_given w (Err r) = scalar bool
+
 module _ (w : List ℕ) (n : ℕ) (s : Sound w n) where
-  parsed-kept : (p : Parsed) → Fit w n p → Kept w n (outcome_of w n p)
+  parsed-kept : (x : Result Parsed Reason) → Fits w n x → Kept w n (outcome_of w n x)
   unfolding outcome_of
-  parsed-kept (OfVec x) f = kept-entering w n s 0 (type_of w (OfVec x)) f.good
-  parsed-kept (OfMat x) f = kept-entering w n s 0 (type_of w (OfMat x)) f.good
-  parsed-kept (OfAtomic x) f = kept-entering w n s 0 (type_of w (OfAtomic x)) f.good
-  parsed-kept (OfArray x) f = kept-entering w n s 0 (type_of w (OfArray x)) f.good
-  parsed-kept (Wrong r) f = kept-refused w n r 0
+  parsed-kept (Ok p) f = kept-entering w n s 0 (type_of w p) f.good
+  parsed-kept (Err r) f = kept-refused w n r 0
 
   module _ (t : TypeNo) (m : ℕ) (v : List ℕ) where
-    parsed-stands : (p : Parsed) → Fit w n p → outcome_of w n p ≡ record { answer = Value t m; words = v } → Stands w n (type_of w p) t.0 m v
+    parsed-stands : (x : Result Parsed Reason) → Fits w n x → outcome_of w n x ≡ record { answer = Value t m; words = v } → Stands w n (type_given w x) t.0 m v
     unfolding outcome_of
-    parsed-stands (OfVec x) f h = entering-stands 0 w n s (type_of w (OfVec x)) f.good t m v h
-    parsed-stands (OfMat x) f h = entering-stands 0 w n s (type_of w (OfMat x)) f.good t m v h
-    parsed-stands (OfAtomic x) f h = entering-stands 0 w n s (type_of w (OfAtomic x)) f.good t m v h
-    parsed-stands (OfArray x) f h = entering-stands 0 w n s (type_of w (OfArray x)) f.good t m v h
-    parsed-stands (Wrong r) f h = refused_none r w n h
+    parsed-stands (Ok p) f h = entering-stands 0 w n s (type_of w p) f.good t m v h
+    parsed-stands (Err r) f h = refused_none r w n h
 
 module _ (w : List ℕ) (n : ℕ) (head : List ℕ) (args : List ℤ) where
   -- what the head and the list come to, and the type that they give
-  abbrev given : Parsed
+  abbrev given : Result Parsed Reason
   given = parsed_of w (head_of head) (arguments_of n args)
 
   abbrev pub given_type : Ty
-  given_type = type_of w given
+  given_type = type_given w given
 
-  fit : Sound w n → Fit w n given
-  fit s = call-fit w n head args s (head_of head) refl (arguments_of n args) refl given refl
+  fit : Sound w n → Fits w n given
+  fit s = call-fits w n head args s (head_of head) refl (arguments_of n args) refl given refl
 
   -- the three ways of a call
   by_way : {P : Type 0} → (template_outcome w n head args ≡ turned_down Unsound 0 w n → P) → (template_outcome w n head args ≡ turned_down NoSuchType 0 w n → P)

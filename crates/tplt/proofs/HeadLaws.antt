@@ -17,7 +17,8 @@ use Rattle.text.specs.Text.{ascii}
 use Rattle.tplt.specs.Heads.{head_name, heads, bytes, named, amongst, head_of}
 use Rattle.tplt.specs.inner.Steps.{longest, key_of, head_at}
 use Rattle.tplt.specs.declared.head.Head.{Head}
-use Rattle.tplt.specs.declared.head.Head.TheVariants.{Vector, Matrix, Atomic, Array, NoHead}
+use Rattle.tplt.specs.declared.head.Head.TheVariants.{Vector, Matrix, Atomic, Array}
+use Rattle.std.specs.Prelude.{Option, Some, None}
 
 -- THE NUMBER OF A NAME
 
@@ -101,7 +102,10 @@ well_sized (Vector k) = is_width k
 well_sized (Matrix c r) = is_width c && is_width r
 well_sized Atomic = true
 well_sized Array = true
-well_sized NoHead = true
+
+abbrev pub sized : Option Head → Bool
+sized (Some h) = well_sized h
+sized None = true
 
 all-bytes : List ℕ → Bool
 all-bytes [] = true
@@ -123,28 +127,28 @@ unfolding all_right all-bytes ascii
 heads-right = refl
 
 module _ (name : List ℕ) where
-  among-sized : (hs : List Head) → all_right hs ≡ true → well_sized (amongst hs name) ≡ true
+  among-sized : (hs : List Head) → all_right hs ≡ true → sized (amongst hs name) ≡ true
   unfolding all_right
   among-sized [] q = refl
   among-sized (h ∷ hs) q = go (named name (head_name h)) (and_left _ _ (and_left _ _ q)) (among-sized hs (and_right (well_sized h && (leb (length (head_name h)) longest && all-bytes (head_name h))) _ q))
     where
-      go : (t : Bool) → well_sized h ≡ true → well_sized (amongst hs name) ≡ true → well_sized (cond t h (amongst hs name)) ≡ true
+      go : (t : Bool) → well_sized h ≡ true → sized (amongst hs name) ≡ true → sized (cond t (Some h) (amongst hs name)) ≡ true
       go true a b = a
       go false a b = b
 
-  pub head-sized : well_sized (head_of name) ≡ true
+  pub head-sized : sized (head_of name) ≡ true
   unfolding head_of
   head-sized = among-sized heads heads-right
 
   -- a name that is longer than any is none
-  among-short : longest < length name → (hs : List Head) → all_right hs ≡ true → amongst hs name ≡ NoHead
+  among-short : longest < length name → (hs : List Head) → all_right hs ≡ true → amongst hs name ≡ None
   unfolding all_right
   among-short l [] q = refl
   among-short l (h ∷ hs) q =
       let s = leb-true (length (head_name h)) longest (and_left _ _ (and_right (well_sized h) _ (and_left _ _ q))) in
       rw (ne_eqb (length name) (length (head_name h)) (λ z. omega arith)) (among-short l hs (and_right (well_sized h && (leb (length (head_name h)) longest && all-bytes (head_name h))) _ q))
 
-  pub long-name : longest < length name → NoHead ≡ head_of name
+  pub long-name : longest < length name → None ≡ head_of name
   unfolding head_of
   long-name l = sym (among-short l heads heads-right)
 

@@ -14,12 +14,14 @@ use Rattle.tplt.specs.Heads.{head_of}
 use Rattle.tplt.specs.Params.{params_of, types_known, arguments_of}
 use Rattle.tplt.specs.Templates.{parsed_of, outcome_of, template_outcome}
 use Rattle.tplt.specs.inner.Steps.{Below, Fit, Outcomes}
+use Rattle.std.specs.Prelude.{Option, Result, Ok, Err}
+use Rattle.answer.specs.declared.Reason.{Reason}
 use Rattle.tplt.specs.declared.head.Head.{Head}
 use Rattle.tplt.specs.declared.param.Arguments.{Arguments}
 use Rattle.tplt.specs.declared.Parsed.{Parsed}
-use Rattle.tplt.proofs.HeadLaws.{well_sized, head-sized}
+use Rattle.tplt.proofs.HeadLaws.{sized, head-sized}
 use Rattle.tplt.proofs.ParamLaws.{arguments-below}
-use Rattle.tplt.proofs.TemplateLaws.{parsed-fit}
+use Rattle.tplt.proofs.TemplateLaws.{Fits, parsed-fit}
 
 module _ (w : List ℕ) (n : ℕ) (head : List ℕ) (args : List ℤ) where
   pub unsound-outcome : soundb w n ≡ false → template_outcome w n head args ≡ turned_down Unsound 0 w n
@@ -41,14 +43,24 @@ module _ (w : List ℕ) (n : ℕ) (head : List ℕ) (args : List ℤ) where
 
   module _ (s : Sound w n) where
     -- the list's type number is below n
-    pub list-below : (a : Arguments) → a ≡ arguments_of n args → Below n a
-    list-below a q = subst (λ (x : Arguments). Below n x) (sym q) (arguments-below n (omega (arith, s.low)) args)
+    pub list-below : (a : Option Arguments) → a ≡ arguments_of n args → Below n a
+    list-below a q = subst (λ (x : Option Arguments). Below n x) (sym q) (arguments-below n args)
 
     -- what the head and the list come to is fit to be entered
-    module _ (h : Head) (hq : h ≡ head_of head) (a : Arguments) (aq : a ≡ arguments_of n args) (p : Parsed) (pq : p ≡ parsed_of w h a) where
-      pub call-fit : Fit w n p
-      call-fit = subst (λ (x : Parsed). Fit w n x) (sym pq) (parsed-fit w n s h (ap well_sized hq ∙ head-sized head) a (list-below a aq))
+    module _ (h : Option Head) (hq : h ≡ head_of head) (a : Option Arguments) (aq : a ≡ arguments_of n args) (x : Result Parsed Reason) (pq : x ≡ parsed_of w h a) where
+      pub call-fits : Fits w n x
+      call-fits = subst (λ (y : Result Parsed Reason). Fits w n y) (sym pq) (parsed-fit w n s h (ap sized hq ∙ head-sized head) a (list-below a aq))
 
-      pub call-done : soundb w n ≡ true → types_known (params_of n args) ≡ true → (r : Answer) (v : List ℕ) → Outcomes w n p r v → Gave (template_outcome w n head args) r v
-      call-done sound known r v o =
-          gave-whole (o.outcome ∙ ap (outcome_of w n) (pq ∙ (λ i. parsed_of w (hq i) (aq i))) ∙ sym (parsed-outcome sound known))
+      pub call-fit : (p : Parsed) → x ≡ Ok p → Fit w n p
+      call-fit p e = subst (λ (y : Result Parsed Reason). Fits w n y) e call-fits
+
+      module _ (sound : soundb w n ≡ true) (known : types_known (params_of n args) ≡ true) where
+        come-to : outcome_of w n x ≡ template_outcome w n head args
+        come-to = ap (outcome_of w n) (pq ∙ (λ i. parsed_of w (hq i) (aq i))) ∙ sym (parsed-outcome sound known)
+
+        pub call-done : (p : Parsed) → x ≡ Ok p → (r : Answer) (v : List ℕ) → Outcomes w n p r v → Gave (template_outcome w n head args) r v
+        call-done p e r v o = gave-whole (o.outcome ∙ ap (outcome_of w n) (sym e) ∙ come-to)
+
+        pub call-wrong : (why : Reason) → x ≡ Err why → (r : Answer) → r ≡ (turned_down why 0 w n).answer → Gave (template_outcome w n head args) r w
+        unfolding outcome_of
+        call-wrong why e r q = gave-whole (ap (λ (y : Answer). record { answer = y; words = w }) q ∙ ap (outcome_of w n) (sym e) ∙ come-to)

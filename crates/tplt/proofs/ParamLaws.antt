@@ -12,11 +12,14 @@ use denote.Enum.Declared.{tag_of}
 use types.Run.{OneOf, miss}
 use Rattle.answer.specs.declared.TypeNo.{TypeNo}
 use Rattle.tplt.specs.Params.{type_param, i32_param, u32_param, param_of, params_of, is_known, is_typed, types_known, alone, before, paired, form_of, arguments_of, count_of}
-use Rattle.tplt.specs.inner.Steps.{number_of, param_at}
+use Rattle.tplt.specs.inner.Steps.{Below, param_at}
 use Rattle.tplt.specs.declared.param.TpltParam.{TpltParam}
 use Rattle.tplt.specs.declared.param.TpltParam.TheVariants.{Typed, NoType, AbstractInt, I32, U32, Other}
-use Rattle.tplt.specs.declared.param.Arguments.TheVariants.{Two, Amiss}
-use Rattle.tplt.specs.declared.param.ArrayCount.TheVariants.{Unfit}
+use Rattle.tplt.specs.declared.param.Arguments.{Arguments}
+use Rattle.tplt.specs.declared.param.Arguments.TheVariants.{Two}
+use Rattle.std.specs.Prelude.{Option, Some, None, Result, Err}
+use Rattle.answer.specs.declared.Reason.{Reason}
+use Rattle.answer.specs.declared.Reason.TheVariants.{Count}
 use Rattle.tplt.specs.contracts.param.TpltParam.{the_type}
 
 -- a list of one pair, of two, and of any other length
@@ -38,17 +41,17 @@ list-two n (a ∷ b ∷ c ∷ d ∷ []) q = refl
 list-two n (a ∷ b ∷ c ∷ d ∷ e ∷ t) q = absurd (omega arith)
 
 -- a type comes first, and then another type or a literal
-pub two_typed : (p q : TpltParam) → is_typed q ≡ true → paired p q ≡ Amiss
+pub two_typed : (p q : TpltParam) → is_typed q ≡ true → paired p q ≡ None
 two_typed p q h = rw h
 
-pub two-literal : (t : TypeNo) (q : TpltParam) → is_typed q ≡ false → paired (Typed t) q ≡ Two t q
+pub two-literal : (t : TypeNo) (q : TpltParam) → is_typed q ≡ false → paired (Typed t) q ≡ Some (Two t q)
 two-literal t q h = rw h
 
-either : (b : Bool) → cond b Amiss Amiss ≡ Amiss
+either : (b : Bool) → cond {A = Option Arguments} b None None ≡ None
 either true = refl
 either false = refl
 
-pub list-other : (n : ℕ) (xs : List ℤ) → (length xs ≡ 2 → ⊥) → (length xs ≡ 4 → ⊥) → arguments_of n xs ≡ Amiss
+pub list-other : (n : ℕ) (xs : List ℤ) → (length xs ≡ 2 → ⊥) → (length xs ≡ 4 → ⊥) → arguments_of n xs ≡ None
 unfolding arguments_of params_of
 list-other n [] p q = refl
 list-other n (a ∷ []) p q = refl
@@ -76,7 +79,7 @@ typed-other (I32 k) h = refl
 typed-other (U32 k) h = refl
 typed-other Other h = refl
 
-pub alone-other : (p : TpltParam) → OneOf (1 ∷ 2 ∷ 3 ∷ 4 ∷ 5 ∷ []) (tag_of the_type p) → alone p ≡ Amiss
+pub alone-other : (p : TpltParam) → OneOf (1 ∷ 2 ∷ 3 ∷ 4 ∷ 5 ∷ []) (tag_of the_type p) → alone p ≡ None
 alone-other (Typed t) h = absurd (miss (1 ∷ 2 ∷ 3 ∷ 4 ∷ 5 ∷ []) 0 tt h)
 alone-other NoType h = refl
 alone-other (AbstractInt k) h = refl
@@ -84,7 +87,7 @@ alone-other (I32 k) h = refl
 alone-other (U32 k) h = refl
 alone-other Other h = refl
 
-pub count-other : (p : TpltParam) → OneOf (0 ∷ 1 ∷ 5 ∷ []) (tag_of the_type p) → Unfit ≡ count_of p
+pub count-other : (p : TpltParam) → OneOf (0 ∷ 1 ∷ 5 ∷ []) (tag_of the_type p) → Err Count ≡ count_of p
 unfolding count_of
 count-other (Typed t) h = refl
 count-other NoType h = refl
@@ -95,10 +98,10 @@ count-other Other h = refl
 
 -- A LIST WHOSE FIRST ARGUMENT IS NO TYPE
 
-before-amiss : (p q : TpltParam) → alone p ≡ Amiss → paired p q ≡ Amiss
+before-amiss : (p q : TpltParam) → alone p ≡ None → paired p q ≡ None
 before-amiss p q h = go (is_typed q) p h
   where
-    go : (b : Bool) (p : TpltParam) → alone p ≡ Amiss → cond b Amiss (before p q) ≡ Amiss
+    go : (b : Bool) (p : TpltParam) → alone p ≡ None → cond b None (before p q) ≡ None
     go true p h = refl
     go false (Typed t) h = absurd (let z : ◌≡◌ {A = ℕ} 0 1 = cc in omega arith)
     go false NoType h = refl
@@ -107,7 +110,7 @@ before-amiss p q h = go (is_typed q) p h
     go false (U32 k) h = refl
     go false Other h = refl
 
-pub list-untyped : (n : ℕ) (xs : List ℤ) → alone (param_at n xs 0) ≡ Amiss → arguments_of n xs ≡ Amiss
+pub list-untyped : (n : ℕ) (xs : List ℤ) → alone (param_at n xs 0) ≡ None → arguments_of n xs ≡ None
 unfolding arguments_of params_of
 list-untyped n [] h = refl
 list-untyped n (a ∷ []) h = refl
@@ -142,56 +145,56 @@ rest-none n (a ∷ t) (suc at) l = rest-none n t at (omega arith)
 -- THE NUMBER OF A TYPE ARGUMENT IS BELOW n
 
 abbrev within : ℕ → TpltParam → Type 0
-within n p = number_of (alone p) < n
+within n p = Below n (alone p)
 
-type-within : (n : ℕ) → 0 < n → (v : ℤ) → within n (type_param n v)
+type-within : (n : ℕ) → (v : ℤ) → within n (type_param n v)
 unfolding type_param
-type-within n l (pos k) = go (ltb k n) refl
+type-within n (pos k) = go (ltb k n) refl
   where
     go : (b : Bool) → ltb k n ≡ b → within n (cond b (Typed (record { 0 = k })) NoType)
     go true e = ltb-true k n e
-    go false e = l
-type-within n l (negsuc k) = l
+    go false e = tt
+type-within n (negsuc k) = tt
 
-i32-within : (n : ℕ) → 0 < n → (v : ℤ) → within n (i32_param v)
+i32-within : (n : ℕ) → (v : ℤ) → within n (i32_param v)
 unfolding i32_param
-i32-within n l (pos k) = go (leb k 2147483647)
+i32-within n (pos k) = go (leb k 2147483647)
   where
     go : (b : Bool) → within n (cond b (I32 (pos k)) Other)
-    go true = l
-    go false = l
-i32-within n l (negsuc k) = go (leb k 2147483647)
+    go true = tt
+    go false = tt
+i32-within n (negsuc k) = go (leb k 2147483647)
   where
     go : (b : Bool) → within n (cond b (I32 (negsuc k)) Other)
-    go true = l
-    go false = l
+    go true = tt
+    go false = tt
 
-u32-within : (n : ℕ) → 0 < n → (v : ℤ) → within n (u32_param v)
+u32-within : (n : ℕ) → (v : ℤ) → within n (u32_param v)
 unfolding u32_param
-u32-within n l (pos k) = go (leb k 4294967295)
+u32-within n (pos k) = go (leb k 4294967295)
   where
     go : (b : Bool) → within n (cond b (U32 k) Other)
-    go true = l
-    go false = l
-u32-within n l (negsuc k) = l
+    go true = tt
+    go false = tt
+u32-within n (negsuc k) = tt
 
-param-within : (n : ℕ) → 0 < n → (t v : ℤ) → within n (param_of n t v)
+param-within : (n : ℕ) → (t v : ℤ) → within n (param_of n t v)
 unfolding param_of
-param-within n l (pos t) v = go (eqb t 0) (eqb t 1) (eqb t 2) (eqb t 3)
+param-within n (pos t) v = go (eqb t 0) (eqb t 1) (eqb t 2) (eqb t 3)
   where
     go : (a b c d : Bool) → within n (cond a (type_param n v) (cond b (AbstractInt v) (cond c (i32_param v) (cond d (u32_param v) Other))))
-    go true b c d = type-within n l v
-    go false true c d = l
-    go false false true d = i32-within n l v
-    go false false false true = u32-within n l v
-    go false false false false = l
-param-within n l (negsuc t) v = l
+    go true b c d = type-within n v
+    go false true c d = tt
+    go false false true d = i32-within n v
+    go false false false true = u32-within n v
+    go false false false false = tt
+param-within n (negsuc t) v = tt
 
-paired-within : (n : ℕ) → 0 < n → (p q : TpltParam) → within n p → number_of (paired p q) < n
-paired-within n l p q h = go (is_typed q) p h
+paired-within : (n : ℕ) → (p q : TpltParam) → within n p → Below n (paired p q)
+paired-within n p q h = go (is_typed q) p h
   where
-    go : (b : Bool) (p : TpltParam) → within n p → number_of (cond b Amiss (before p q)) < n
-    go true p h = l
+    go : (b : Bool) (p : TpltParam) → within n p → Below n (cond b None (before p q))
+    go true p h = tt
     go false (Typed t) h = h
     go false NoType h = h
     go false (AbstractInt k) h = h
@@ -199,23 +202,23 @@ paired-within n l p q h = go (is_typed q) p h
     go false (U32 k) h = h
     go false Other h = h
 
-form-within : (n : ℕ) → 0 < n → (xs : List ℤ) → number_of (form_of (params_of n xs)) < n
+form-within : (n : ℕ) → (xs : List ℤ) → Below n (form_of (params_of n xs))
 unfolding params_of
-form-within n l [] = l
-form-within n l (a ∷ []) = l
-form-within n l (a ∷ b ∷ []) = param-within n l a b
-form-within n l (a ∷ b ∷ c ∷ []) = param-within n l a b
-form-within n l (a ∷ b ∷ c ∷ d ∷ []) = paired-within n l (param_of n a b) (param_of n c d) (param-within n l a b)
-form-within n l (a ∷ b ∷ c ∷ d ∷ e ∷ []) = paired-within n l (param_of n a b) (param_of n c d) (param-within n l a b)
-form-within n l (a ∷ b ∷ c ∷ d ∷ e ∷ f ∷ t) = l
+form-within n [] = tt
+form-within n (a ∷ []) = tt
+form-within n (a ∷ b ∷ []) = param-within n a b
+form-within n (a ∷ b ∷ c ∷ []) = param-within n a b
+form-within n (a ∷ b ∷ c ∷ d ∷ []) = paired-within n (param_of n a b) (param_of n c d) (param-within n a b)
+form-within n (a ∷ b ∷ c ∷ d ∷ e ∷ []) = paired-within n (param_of n a b) (param_of n c d) (param-within n a b)
+form-within n (a ∷ b ∷ c ∷ d ∷ e ∷ f ∷ t) = tt
 
-pub arguments-below : (n : ℕ) → 0 < n → (xs : List ℤ) → number_of (arguments_of n xs) < n
+pub arguments-below : (n : ℕ) → (xs : List ℤ) → Below n (arguments_of n xs)
 unfolding arguments_of
-arguments-below n l xs = go (eqb (length xs % 2) 0)
+arguments-below n xs = go (eqb (length xs % 2) 0)
   where
-    go : (b : Bool) → number_of (cond b (form_of (params_of n xs)) Amiss) < n
-    go true = form-within n l xs
-    go false = l
+    go : (b : Bool) → Below n (cond b (form_of (params_of n xs)) None)
+    go true = form-within n xs
+    go false = tt
 
 -- the loop over the pairs: a number that is no type ends it, any other argument goes on, and no pair is left at the end
 module _ (n : ℕ) (xs : List ℤ) (at : ℕ) where

@@ -12,7 +12,8 @@ use mir.Val.{Fits, SFits, to_z, of_z}
 use mir.ValLaws.{to_z-of_z, to_z_pos}
 use Rattle.tplt.specs.Params.{type_param, i32_param, u32_param, param_of, count_z}
 use Rattle.tplt.specs.declared.param.TpltParam.TheVariants.{Typed, NoType, AbstractInt, I32, U32, Other}
-use Rattle.tplt.specs.declared.param.ArrayCount.TheVariants.{Of, Unfit}
+use Rattle.std.specs.Prelude.{Ok, Err}
+use Rattle.answer.specs.declared.Reason.TheVariants.{Count}
 
 clash : {P : Type 0} {b : Bool} → b ≡ true → b ≡ false → P
 clash p q = absurd (let z : ◌≡◌ {A = ℕ} 0 1 = cc in omega arith)
@@ -89,7 +90,7 @@ u32-in (negsuc k) a b = clash refl a
 
 -- THE COUNT OF AN ARRAY
 
-pub count_under : (v : ℤ) → le_z v (pos 0) ≡ true → Unfit ≡ count_z v
+pub count_under : (v : ℤ) → le_z v (pos 0) ≡ true → Err Count ≡ count_z v
 unfolding count_z
 count_under (pos k) h = let l = leb-true k 0 h in rw (lt-leb 1 k (omega arith))
 count_under (negsuc k) h = refl
@@ -98,12 +99,12 @@ pub count-positive : (v : ℤ) → le_z v (pos 0) ≡ false → T (non_neg v)
 count-positive (pos k) h = tt
 count-positive (negsuc k) h = clash refl h
 
-pub count-over : (v : ℤ) → le_z v (pos 0) ≡ false → lt_z (pos 4294967295) v ≡ true → Unfit ≡ count_z v
+pub count-over : (v : ℤ) → le_z v (pos 0) ≡ false → lt_z (pos 4294967295) v ≡ true → Err Count ≡ count_z v
 unfolding count_z
 count-over (pos k) g h = let l = ltb-true 4294967295 k h in rw (le-leb 1 k (omega arith), lt-leb k 4294967295 l)
 count-over (negsuc k) g h = refl
 
-pub count-in : (v : ℤ) → le_z v (pos 0) ≡ false → nat_abs v ≤ 4294967295 → Of (nat_abs v) ≡ count_z v
+pub count-in : (v : ℤ) → le_z v (pos 0) ≡ false → nat_abs v ≤ 4294967295 → Ok (nat_abs v) ≡ count_z v
 unfolding count_z
 count-in (pos k) a l = let g = leb-false k 0 a in rw (le-leb 1 k (omega arith), le-leb k 4294967295 l)
 count-in (negsuc k) a l = clash refl a

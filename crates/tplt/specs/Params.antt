@@ -1,11 +1,11 @@
 -- Document 01, "Template types": the arguments of a list, and the count of an array. Assumes nothing.
-use Rattle.std.specs.Prelude.{ℕ, ◌%◌, Bool, true, false, ◌&&◌, cond, List, [], ◌∷◌, length, eqb, leb, ltb, ℤ, pos, negsuc}
+use Rattle.std.specs.Prelude.{ℕ, ◌%◌, Bool, true, false, ◌&&◌, cond, List, [], ◌∷◌, length, eqb, leb, ltb, ℤ, pos, negsuc, Option, Some, None, Result, Ok, Err}
 use Rattle.tplt.specs.declared.param.TpltParam.{TpltParam}
 use Rattle.tplt.specs.declared.param.TpltParam.TheVariants.{Typed, NoType, AbstractInt, I32, U32, Other}
 use Rattle.tplt.specs.declared.param.Arguments.{Arguments}
-use Rattle.tplt.specs.declared.param.Arguments.TheVariants.{One, Two, Amiss}
-use Rattle.tplt.specs.declared.param.ArrayCount.{ArrayCount}
-use Rattle.tplt.specs.declared.param.ArrayCount.TheVariants.{Of, Unfit}
+use Rattle.tplt.specs.declared.param.Arguments.TheVariants.{One, Two}
+use Rattle.answer.specs.declared.Reason.{Reason}
+use Rattle.answer.specs.declared.Reason.TheVariants.{Count}
 
 -- tag 0: a type's number, which is a type of the table where it is below n
 unfoldable pub type_param : ℕ → ℤ → TpltParam
@@ -59,44 +59,44 @@ is_typed (I32 k) = false
 is_typed (U32 k) = false
 is_typed Other = false
 
-abbrev pub alone : TpltParam → Arguments
-alone (Typed t) = One t
-alone NoType = Amiss
-alone (AbstractInt k) = Amiss
-alone (I32 k) = Amiss
-alone (U32 k) = Amiss
-alone Other = Amiss
+abbrev pub alone : TpltParam → Option Arguments
+alone (Typed t) = Some (One t)
+alone NoType = None
+alone (AbstractInt k) = None
+alone (I32 k) = None
+alone (U32 k) = None
+alone Other = None
 
-abbrev pub before : TpltParam → TpltParam → Arguments
-before (Typed t) q = Two t q
-before NoType q = Amiss
-before (AbstractInt k) q = Amiss
-before (I32 k) q = Amiss
-before (U32 k) q = Amiss
-before Other q = Amiss
+abbrev pub before : TpltParam → TpltParam → Option Arguments
+before (Typed t) q = Some (Two t q)
+before NoType q = None
+before (AbstractInt k) q = None
+before (I32 k) q = None
+before (U32 k) q = None
+before Other q = None
 
-abbrev pub paired : TpltParam → TpltParam → Arguments
-paired p q = cond (is_typed q) Amiss (before p q)
+abbrev pub paired : TpltParam → TpltParam → Option Arguments
+paired p q = cond (is_typed q) None (before p q)
 
-abbrev pub form_of : List TpltParam → Arguments
-form_of [] = Amiss
+abbrev pub form_of : List TpltParam → Option Arguments
+form_of [] = None
 form_of (p ∷ []) = alone p
 form_of (p ∷ q ∷ []) = paired p q
-form_of (p ∷ q ∷ r ∷ ps) = Amiss
+form_of (p ∷ q ∷ r ∷ ps) = None
 
 -- a tag without a value makes the list wrong
-unfoldable pub arguments_of : ℕ → List ℤ → Arguments
-arguments_of n args = cond (eqb (length args % 2) 0) (form_of (params_of n args)) Amiss
+unfoldable pub arguments_of : ℕ → List ℤ → Option Arguments
+arguments_of n args = cond (eqb (length args % 2) 0) (form_of (params_of n args)) None
 
 -- "A count of -3 or 0 is refused with 6, as is one above 4,294,967,295 or another literal; 1 and 4,294,967,295 pass"
-unfoldable pub count_z : ℤ → ArrayCount
-count_z (pos k) = cond (leb 1 k && leb k 4294967295) (Of k) Unfit
-count_z (negsuc k) = Unfit
+unfoldable pub count_z : ℤ → Result ℕ Reason
+count_z (pos k) = cond (leb 1 k && leb k 4294967295) (Ok k) (Err Count)
+count_z (negsuc k) = Err Count
 
-unfoldable pub count_of : TpltParam → ArrayCount
-count_of (Typed t) = Unfit
-count_of NoType = Unfit
+unfoldable pub count_of : TpltParam → Result ℕ Reason
+count_of (Typed t) = Err Count
+count_of NoType = Err Count
 count_of (AbstractInt z) = count_z z
 count_of (I32 z) = count_z z
 count_of (U32 k) = count_z (pos k)
-count_of Other = Unfit
+count_of Other = Err Count

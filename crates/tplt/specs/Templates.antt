@@ -1,48 +1,48 @@
 -- Document 01, "Template types": a head with a list answers that type, entered if absent. Assumes nothing.
-use Rattle.std.specs.Prelude.{ℕ, Bool, ◌&&◌, ◌||◌, not, cond, List, eqb, ℤ}
+use Rattle.std.specs.Prelude.{ℕ, Bool, ◌&&◌, ◌||◌, not, cond, List, eqb, ℤ, Option, Some, None, Result, Ok, Err}
 use Rattle.conv.specs.Types.{Ty, bool, i32, u32, f32, f16, is_value, is_runtime}
-use Rattle.conv.specs.Types.Ty.{scalar, vec, mat, array, runtime, atomic}
+use Rattle.conv.specs.Types.Ty.{vec, mat, array, runtime, atomic}
 use Rattle.table.specs.Table.{soundb}
 use Rattle.table.specs.Denote.{type_at}
 use Rattle.table.specs.Placing.{Outcome, turned_down, entering}
 use Rattle.answer.specs.declared.TypeNo.{TypeNo}
+use Rattle.answer.specs.declared.Reason.{Reason}
 use Rattle.answer.specs.declared.Reason.TheVariants.{Unsound, NoSuchType, Unknown, Template, Count}
 use Rattle.tplt.specs.declared.head.Head.{Head}
-use Rattle.tplt.specs.declared.head.Head.TheVariants.{Vector, Matrix, Atomic, Array, NoHead}
+use Rattle.tplt.specs.declared.head.Head.TheVariants.{Vector, Matrix, Atomic, Array}
 use Rattle.tplt.specs.declared.param.Arguments.{Arguments}
-use Rattle.tplt.specs.declared.param.Arguments.TheVariants.{One, Two, Amiss}
-use Rattle.tplt.specs.declared.param.ArrayCount.{ArrayCount}
-use Rattle.tplt.specs.declared.param.ArrayCount.TheVariants.{Of, Without, Unfit}
+use Rattle.tplt.specs.declared.param.Arguments.TheVariants.{One, Two}
+use Rattle.tplt.specs.declared.param.TpltParam.{TpltParam}
 use Rattle.tplt.specs.declared.Parsed.{Parsed}
-use Rattle.tplt.specs.declared.Parsed.TheVariants.{OfVec, OfMat, OfAtomic, OfArray, Wrong}
+use Rattle.tplt.specs.declared.Parsed.TheVariants.{OfVec, OfMat, OfAtomic, OfArray}
 use Rattle.tplt.specs.Heads.{head_of}
 use Rattle.tplt.specs.Params.{params_of, types_known, arguments_of, count_of}
 
 -- a list that is one type alone, of the component numbers that pass a test
-abbrev pub component : (ℕ → Bool) → (TypeNo → Parsed) → Arguments → Parsed
-component test make (One t) = cond (test t.0) (make t) (Wrong Template)
-component test make (Two t p) = Wrong Template
-component test make Amiss = Wrong Template
+abbrev pub component : (ℕ → Bool) → (TypeNo → Parsed) → Option Arguments → Result Parsed Reason
+component test make (Some (One t)) = cond (test t.0) (Ok (make t)) (Err Template)
+component test make (Some (Two t p)) = Err Template
+component test make None = Err Template
 
 -- "vec: bool, i32, u32, f32, f16": a scalar's number is its own
 abbrev pub is_concrete : ℕ → Bool
 is_concrete t = eqb t bool || eqb t i32 || eqb t u32 || eqb t f32 || eqb t f16
 
-unfoldable pub vec_parsed : ℕ → Arguments → Parsed
+unfoldable pub vec_parsed : ℕ → Option Arguments → Result Parsed Reason
 vec_parsed n a = component is_concrete (λ t. OfVec (record { n = n; ty = t })) a
 
 -- "mat: f32, f16"
 abbrev pub is_matrix_component : ℕ → Bool
 is_matrix_component t = eqb t f32 || eqb t f16
 
-unfoldable pub mat_parsed : ℕ → ℕ → Arguments → Parsed
+unfoldable pub mat_parsed : ℕ → ℕ → Option Arguments → Result Parsed Reason
 mat_parsed c r a = component is_matrix_component (λ t. OfMat (record { c = c; r = r; ty = t })) a
 
 -- "atomic: i32, u32"
 abbrev pub is_atomic_component : ℕ → Bool
 is_atomic_component t = eqb t i32 || eqb t u32
 
-unfoldable pub atomic_parsed : Arguments → Parsed
+unfoldable pub atomic_parsed : Option Arguments → Result Parsed Reason
 atomic_parsed a = component is_atomic_component (λ t. OfAtomic (record { ty = t })) a
 
 -- "array: a type (abstract too, crate rule), alone or with a literal"; of a pointer, a reference or an array without count it is 5
@@ -50,47 +50,45 @@ atomic_parsed a = component is_atomic_component (λ t. OfAtomic (record { ty = t
 abbrev pub is_element : Ty → Bool
 is_element R = is_value R && not (is_runtime R)
 
-abbrev pub counted : TypeNo → ArrayCount → Parsed
-counted t (Of k) = OfArray (record { n = Of k; ty = t })
-counted t Without = OfArray (record { n = Without; ty = t })
-counted t Unfit = Wrong Count
+abbrev pub of_count : TypeNo → Result ℕ Reason → Result Parsed Reason
+of_count t (Ok k) = Ok (OfArray (record { n = Some k; ty = t }))
+of_count t (Err r) = Err r
 
-unfoldable pub array_of_type : List ℕ → TypeNo → ArrayCount → Parsed
-array_of_type w t k = cond (is_element (type_at w t.0)) (counted t k) (Wrong Template)
+abbrev pub counted : TypeNo → Option TpltParam → Result Parsed Reason
+counted t None = Ok (OfArray (record { n = None; ty = t }))
+counted t (Some p) = of_count t (count_of p)
 
-unfoldable pub array_parsed : List ℕ → Arguments → Parsed
-array_parsed w (One t) = array_of_type w t Without
-array_parsed w (Two t p) = array_of_type w t (count_of p)
-array_parsed w Amiss = Wrong Template
+unfoldable pub array_of_type : List ℕ → TypeNo → Option TpltParam → Result Parsed Reason
+array_of_type w t p = cond (is_element (type_at w t.0)) (counted t p) (Err Template)
+
+unfoldable pub array_parsed : List ℕ → Option Arguments → Result Parsed Reason
+array_parsed w (Some (One t)) = array_of_type w t None
+array_parsed w (Some (Two t p)) = array_of_type w t (Some p)
+array_parsed w None = Err Template
 
 -- a head and a list, over a table
-unfoldable pub parsed_of : List ℕ → Head → Arguments → Parsed
-parsed_of w (Vector n) a = vec_parsed n a
-parsed_of w (Matrix c r) a = mat_parsed c r a
-parsed_of w Atomic a = atomic_parsed a
-parsed_of w Array a = array_parsed w a
-parsed_of w NoHead a = Wrong Unknown
+unfoldable pub parsed_of : List ℕ → Option Head → Option Arguments → Result Parsed Reason
+parsed_of w (Some (Vector n)) a = vec_parsed n a
+parsed_of w (Some (Matrix c r)) a = mat_parsed c r a
+parsed_of w (Some Atomic) a = atomic_parsed a
+parsed_of w (Some Array) a = array_parsed w a
+parsed_of w None a = Err Unknown
 
--- the type of a template; a refusal has none, and bool stands in
-abbrev pub array_of : ArrayCount → Ty → Ty
-array_of (Of k) R = array k R
-array_of Without R = runtime R
-array_of Unfit R = runtime R
+-- the type of a template
+abbrev pub array_of : Option ℕ → Ty → Ty
+array_of (Some k) R = array k R
+array_of None R = runtime R
 
 unfoldable pub type_of : List ℕ → Parsed → Ty
 type_of w (OfVec t) = vec t.n t.ty.0
 type_of w (OfMat t) = mat t.c t.r t.ty.0
 type_of w (OfAtomic t) = atomic t.ty.0
 type_of w (OfArray t) = array_of t.n (type_at w t.ty.0)
-type_of w (Wrong r) = scalar bool
 
 -- the outcome: the type is entered if absent, or 9; else the reason, at place 0
-unfoldable pub outcome_of : List ℕ → ℕ → Parsed → Outcome
-outcome_of w n (OfVec t) = entering 0 w n (type_of w (OfVec t))
-outcome_of w n (OfMat t) = entering 0 w n (type_of w (OfMat t))
-outcome_of w n (OfAtomic t) = entering 0 w n (type_of w (OfAtomic t))
-outcome_of w n (OfArray t) = entering 0 w n (type_of w (OfArray t))
-outcome_of w n (Wrong r) = turned_down r 0 w n
+unfoldable pub outcome_of : List ℕ → ℕ → Result Parsed Reason → Outcome
+outcome_of w n (Ok p) = entering 0 w n (type_of w p)
+outcome_of w n (Err r) = turned_down r 0 w n
 
 -- the whole, in the order 1, 2, 4, 5, 6, 9
 unfoldable pub template_outcome : List ℕ → ℕ → List ℕ → List ℤ → Outcome

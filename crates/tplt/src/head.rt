@@ -3,14 +3,13 @@ ghost use Rattle.std.specs.Prelude.{◌≡◌, ◌≤◌, length};
 ghost use Rattle.tplt.specs.Heads.{head_of, heads};
 ghost use Rattle.tplt.specs.inner.Steps.{longest, key_of, head_at};
 
-// A head: a vector of a width, a matrix of columns and rows, an atomic, an array, or no name of a head.
+// A head: a vector of a width, a matrix of columns and rows, an atomic or an array.
 #[derive(Clone, Copy)]
 pub enum Head {
     Vector(u32),
     Matrix(u32, u32),
     Atomic,
     Array,
-    NoHead,
 }
 
 // The names of the heads as numbers: their bytes from the last to the first, after a 1.
@@ -60,10 +59,10 @@ fn key_of(name: &[u8]) -> u64
     key
 }
 
-fn head_at(key: u64) -> Head
+fn head_at(key: u64) -> Option<Head>
     ensures { result ≡ head_at heads key }
 {
-    match key {
+    let head = match key {
         ARRAY => Head::Array,
         ATOMIC => Head::Atomic,
         VEC2 => Head::Vector(2),
@@ -78,16 +77,17 @@ fn head_at(key: u64) -> Head
         MAT4X2 => Head::Matrix(4, 2),
         MAT4X3 => Head::Matrix(4, 3),
         MAT4X4 => Head::Matrix(4, 4),
-        _ => Head::NoHead,
-    }
+        _ => return None,
+    };
+    Some(head)
 }
 
 // The head of a name: vec2 to vec4, mat2x2 to mat4x4, atomic, array.
-pub fn head_of(name: &[u8]) -> Head
+pub fn head_of(name: &[u8]) -> Option<Head>
     ensures { result ≡ head_of name.now }
 {
     if LONGEST < name.len() {
-        return Head::NoHead;
+        return None;
     }
     head_at(key_of(name))
 }

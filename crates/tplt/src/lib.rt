@@ -13,7 +13,7 @@ mod param;
 
 use entering::{answer_of, enter};
 use head::{Head, head_of};
-use param::{Arguments, ArrayCount, arguments_of, count_of, types_known};
+use param::{Arguments, TpltParam, arguments_of, count_of, types_known};
 use table::{Answer, Entry, Place, Reason, TypeNo, entry_at, refused, sound};
 
 // The four templates, each with the number of its component or element.
@@ -37,18 +37,17 @@ pub struct AtomicTemplate {
 
 #[derive(Clone, Copy)]
 pub struct ArrayTemplate {
-    pub n: ArrayCount,
+    pub n: Option<u32>,
     pub ty: TypeNo,
 }
 
-// What a head and a list come to: a template, or the reason why not.
+// What a head and a list come to, if nothing is wrong with them.
 #[derive(Clone, Copy)]
 pub enum Parsed {
     OfVec(VecTemplate),
     OfMat(MatTemplate),
     OfAtomic(AtomicTemplate),
     OfArray(ArrayTemplate),
-    Wrong(Reason),
 }
 
 // A scalar that is not abstract.
@@ -85,40 +84,46 @@ fn is_element(words: &[u32], n: usize, t: TypeNo) -> bool
     (e.kind != table::KIND_PTR) & (e.kind != table::KIND_REF) & (e.kind != table::KIND_RUNTIME)
 }
 
-// The type of a list that is a type alone; of any other list AbstractInt, which is no component.
-fn alone_in(a: Arguments) -> TypeNo
+// The type of a list that is a type alone.
+fn alone_in(a: Option<Arguments>) -> Result<TypeNo, Reason>
     ensures { result ≡ alone_in a }
 {
-    let Arguments::One(t) = a else {
-        return TypeNo(table::ABSTRACT_INT);
-    };
-    t
+    match a.ok_or(Reason::Template)? {
+        Arguments::One(t) => Ok(t),
+        Arguments::Two(_, _) => Err(Reason::Template),
+    }
 }
 
-// An array of a type, by its count.
-fn array_of_type(words: &[u32], n: usize, t: TypeNo, k: ArrayCount) -> Parsed
+// An array of a type, without a count or with that of a literal.
+fn array_of_type(
+    words: &[u32],
+    n: usize,
+    t: TypeNo,
+    literal: Option<TpltParam>,
+) -> Result<Parsed, Reason>
     requires sound { Sound words.now n }
     requires t_lt_n { t.0 < n }
-    ensures { result ≡ array_of_type words.now t k }
+    ensures { result ≡ array_of_type words.now t literal }
 {
     if !is_element(words, n, t) {
-        return Parsed::Wrong(Reason::Template);
+        return Err(Reason::Template);
     }
-    match k {
-        ArrayCount::Unfit => Parsed::Wrong(Reason::Count),
-        _ => Parsed::OfArray(ArrayTemplate { n: k, ty: t }),
-    }
+    let count = match literal {
+        Some(p) => Some(count_of(p)?),
+        None => None,
+    };
+    Ok(Parsed::OfArray(ArrayTemplate { n: count, ty: t }))
 }
 
 impl VecTemplate {
-    fn parse(n: u32, a: Arguments) -> Parsed
+    fn parse(n: u32, a: Option<Arguments>) -> Result<Parsed, Reason>
         ensures { result ≡ vec_parsed n a }
     {
-        let t = alone_in(a);
+        let t = alone_in(a)?;
         if is_concrete(t) {
-            return Parsed::OfVec(VecTemplate { n, ty: t });
+            return Ok(Parsed::OfVec(VecTemplate { n, ty: t }));
         }
-        Parsed::Wrong(Reason::Template)
+        Err(Reason::Template)
     }
 
     fn ty(self) -> Entry
@@ -137,14 +142,14 @@ impl VecTemplate {
 }
 
 impl MatTemplate {
-    fn parse(c: u32, r: u32, a: Arguments) -> Parsed
+    fn parse(c: u32, r: u32, a: Option<Arguments>) -> Result<Parsed, Reason>
         ensures { result ≡ mat_parsed c r a }
     {
-        let t = alone_in(a);
+        let t = alone_in(a)?;
         if is_matrix_component(t) {
-            return Parsed::OfMat(MatTemplate { c, r, ty: t });
+            return Ok(Parsed::OfMat(MatTemplate { c, r, ty: t }));
         }
-        Parsed::Wrong(Reason::Template)
+        Err(Reason::Template)
     }
 
     fn ty(self) -> Entry
@@ -164,14 +169,14 @@ impl MatTemplate {
 }
 
 impl AtomicTemplate {
-    fn parse(a: Arguments) -> Parsed
+    fn parse(a: Option<Arguments>) -> Result<Parsed, Reason>
         ensures { result ≡ atomic_parsed a }
     {
-        let t = alone_in(a);
+        let t = alone_in(a)?;
         if is_atomic_component(t) {
-            return Parsed::OfAtomic(AtomicTemplate { ty: t });
+            return Ok(Parsed::OfAtomic(AtomicTemplate { ty: t }));
         }
-        Parsed::Wrong(Reason::Template)
+        Err(Reason::Template)
     }
 
     fn ty(self) -> Entry
@@ -189,15 +194,14 @@ impl AtomicTemplate {
 }
 
 impl ArrayTemplate {
-    fn parse(words: &[u32], n: usize, a: Arguments) -> Parsed
+    fn parse(words: &[u32], n: usize, a: Option<Arguments>) -> Result<Parsed, Reason>
         requires sound { Sound words.now n }
         requires below { Below n a }
         ensures { result ≡ array_parsed words.now a }
     {
-        match a {
-            Arguments::One(t) => array_of_type(words, n, t, ArrayCount::Without),
-            Arguments::Two(t, p) => array_of_type(words, n, t, count_of(p)),
-            Arguments::Amiss => Parsed::Wrong(Reason::Template),
+        match a.ok_or(Reason::Template)? {
+            Arguments::One(t) => array_of_type(words, n, t, None),
+            Arguments::Two(t, p) => array_of_type(words, n, t, Some(p)),
         }
     }
 
@@ -209,13 +213,13 @@ impl ArrayTemplate {
         let t = self.ty;
         let elem = t.0 as u32;
         match n {
-            ArrayCount::Of(count) => Entry {
+            Some(count) => Entry {
                 kind: table::KIND_ARRAY,
                 p: count,
                 q: 0,
                 elem,
             },
-            _ => Entry {
+            None => Entry {
                 kind: table::KIND_RUNTIME,
                 p: 0,
                 q: 0,
@@ -226,21 +230,20 @@ impl ArrayTemplate {
 }
 
 // The template of a head and a list.
-fn parse(words: &[u32], n: usize, h: Head, a: Arguments) -> Parsed
+fn parse(words: &[u32], n: usize, h: Option<Head>, a: Option<Arguments>) -> Result<Parsed, Reason>
     requires sound { Sound words.now n }
     requires below { Below n a }
     ensures { result ≡ parsed_of words.now h a }
 {
-    match h {
+    match h.ok_or(Reason::Unknown)? {
         Head::Vector(k) => VecTemplate::parse(k, a),
         Head::Matrix(c, r) => MatTemplate::parse(c, r, a),
         Head::Atomic => AtomicTemplate::parse(a),
         Head::Array => ArrayTemplate::parse(words, n, a),
-        Head::NoHead => Parsed::Wrong(Reason::Unknown),
     }
 }
 
-// The entry of a template; a refusal has none, and that of bool stands in.
+// The entry of a template.
 fn entry_of(p: Parsed) -> Entry
     requires { number_in p < ceiling }
     ensures { result ≡ entry_in p }
@@ -250,12 +253,6 @@ fn entry_of(p: Parsed) -> Entry
         Parsed::OfMat(t) => t.ty(),
         Parsed::OfAtomic(t) => t.ty(),
         Parsed::OfArray(t) => t.ty(),
-        Parsed::Wrong(_) => Entry {
-            kind: 0,
-            p: 0,
-            q: 0,
-            elem: 0,
-        },
     }
 }
 
@@ -265,9 +262,6 @@ fn enter_parsed(words: &mut [u32], n: usize, p: Parsed) -> Answer
     requires fit { Fit words.old n p }
     ensures { Outcomes words.old n p result words.new }
 {
-    if let Parsed::Wrong(r) = p {
-        return refused(r, Place(0), n);
-    }
     answer_of(Place(0), n, enter(words, n, entry_of(p)))
 }
 
@@ -281,6 +275,8 @@ pub fn type_template(words: &mut [u32], n: usize, head: &[u8], args: &[i64]) -> 
     if !types_known(n, args) {
         return refused(Reason::NoSuchType, Place(0), n);
     }
-    let p = parse(words, n, head_of(head), arguments_of(n, args));
-    enter_parsed(words, n, p)
+    match parse(words, n, head_of(head), arguments_of(n, args)) {
+        Ok(p) => enter_parsed(words, n, p),
+        Err(r) => refused(r, Place(0), n),
+    }
 }

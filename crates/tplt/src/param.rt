@@ -3,7 +3,7 @@ ghost use Rattle.std.specs.Prelude.{◌+◌, ◌<◌, ◌≡◌, length};
 ghost use Rattle.tplt.specs.Params.{type_param, i32_param, u32_param, param_of, params_of, types_known, arguments_of, count_z, count_of};
 ghost use Rattle.tplt.specs.inner.Steps.{param_at};
 
-use table::TypeNo;
+use table::{Reason, TypeNo};
 
 // The tags of an argument. Any other tag is another literal.
 pub const TAG_TYPE: i64 = 0;
@@ -31,20 +31,11 @@ pub enum TpltParam {
     Other,
 }
 
-// A list of arguments, as far as it can be right: a type alone, or a type and a literal.
+// A list of arguments that can be right: a type alone, or a type and a literal.
 #[derive(Clone, Copy)]
 pub enum Arguments {
     One(TypeNo),
     Two(TypeNo, TpltParam),
-    Amiss,
-}
-
-// The count of an array, none, or a literal that is none.
-#[derive(Clone, Copy)]
-pub enum ArrayCount {
-    Of(u32),
-    Without,
-    Unfit,
 }
 
 fn type_param(n: usize, value: i64) -> TpltParam
@@ -127,70 +118,70 @@ pub fn types_known(n: usize, args: &[i64]) -> bool
 }
 
 // The list of arguments, by its form.
-pub fn arguments_of(n: usize, args: &[i64]) -> Arguments
+pub fn arguments_of(n: usize, args: &[i64]) -> Option<Arguments>
     ensures { result ≡ arguments_of n args.now }
 {
     let count = args.len();
     if count < 2 {
-        return Arguments::Amiss;
+        return None;
     }
     let first = param_at(n, args, 0);
     let TpltParam::Typed(t) = first else {
-        return Arguments::Amiss;
+        return None;
     };
     if count == 2 {
-        return Arguments::One(t);
+        return Some(Arguments::One(t));
     }
     if count != 4 {
-        return Arguments::Amiss;
+        return None;
     }
     let second = param_at(n, args, 2);
     match second {
-        TpltParam::Typed(_) => Arguments::Amiss,
-        TpltParam::NoType => Arguments::Amiss,
-        _ => Arguments::Two(t, second),
+        TpltParam::Typed(_) => None,
+        TpltParam::NoType => None,
+        _ => Some(Arguments::Two(t, second)),
     }
 }
 
 // The sign is tested before the cast, which then loses nothing.
-fn abstract_count(count: i64) -> ArrayCount
+fn abstract_count(count: i64) -> Result<u32, Reason>
     ensures { result ≡ count_z count }
 {
     if count <= 0 {
-        return ArrayCount::Unfit;
+        return Err(Reason::Count);
     }
     if U32_MAX < count {
-        return ArrayCount::Unfit;
+        return Err(Reason::Count);
     }
-    ArrayCount::Of(count as u32)
+    Ok(count as u32)
 }
 
-fn i32_count(n: i32) -> ArrayCount
+fn i32_count(n: i32) -> Result<u32, Reason>
     ensures { result ≡ count_z n }
 {
     if n <= 0 {
-        return ArrayCount::Unfit;
+        return Err(Reason::Count);
     }
-    ArrayCount::Of(n as u32)
+    Ok(n as u32)
 }
 
-fn u32_count(n: u32) -> ArrayCount
+fn u32_count(n: u32) -> Result<u32, Reason>
     ensures { result ≡ count_of (TpltParam.U32 n) }
 {
     if n == 0 {
-        return ArrayCount::Unfit;
+        return Err(Reason::Count);
     }
-    ArrayCount::Of(n)
+    Ok(n)
 }
 
 // The count that a literal gives.
-pub fn count_of(p: TpltParam) -> ArrayCount
+pub fn count_of(p: TpltParam) -> Result<u32, Reason>
     ensures { result ≡ count_of p }
 {
     match p {
         TpltParam::AbstractInt(n) => abstract_count(n),
         TpltParam::I32(n) => i32_count(n),
         TpltParam::U32(n) => u32_count(n),
-        _ => ArrayCount::Unfit,
+        _ => Err(Reason::Count),
     }
 }

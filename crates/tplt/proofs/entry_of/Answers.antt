@@ -24,6 +24,3 @@ returns-in-OfAtomic c = rw c.in-OfAtomic.is c.ty-in-OfAtomic.ensures
 
 pub returns-in-OfArray : goal.returns-in-OfArray
 returns-in-OfArray c = rw c.in-OfArray.is c.ty-in-OfArray.ensures
-
-pub returns-in-Wrong : goal.returns-in-Wrong
-returns-in-Wrong c = rw c.in-Wrong.is
