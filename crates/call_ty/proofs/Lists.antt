@@ -1,13 +1,14 @@
 -- Lists of numbers of types, and the types that they stand for. Assumes nothing.
 use Prim.Native.Nat.{ℕ, zero, suc, ◌-◌, ◌≤◌, ◌<◌}
 use mathlib.Core.Path.{◌≡◌, refl, sym, ◌∙◌, ap, subst}
-use mathlib.Core.Bool.{Bool, true, false, ◌&&◌, ◌||◌, cond}
+use mathlib.Core.Bool.{Bool, true, false, ◌&&◌, ◌||◌}
 use mathlib.Core.List.{List, [], ◌∷◌, map}
 use native.Mathlib.Nat.{not-suc-le-zero}
 use native.Mathlib.Omega.{arith}
 use lib.Dec.{ltb}
 use lib.ListN.{length, get_or, take, drop, length-map}
-use borrow.Author.Tests.{ltb-true, lt-ltb, le-ltb}
+use borrow.Author.Tests.{ltb-true, lt-ltb}
+use Rattle.std.specs.List.{list_all, list_any}
 use Rattle.held.specs.Held.{number_of, mark_of}
 use Rattle.conv.specs.Types.{abstract_ty, bool}
 use Rattle.conv.specs.Types.Ty.{scalar}
@@ -18,11 +19,10 @@ use Rattle.overload.specs.inner.Code.{code_of}
 use Rattle.overload.proofs.Operands.{and_left, and_right, all_formed, codes_of}
 use Rattle.table.specs.Table.{Sound}
 use Rattle.table.specs.Denote.{type_at}
-use Rattle.table.proofs.KindLaws.{and-false}
 use Rattle.table.proofs.FormedLaws.{formed-at}
 use Rattle.ruled.specs.Call.{any_reference}
 use Rattle.call_ty.specs.Calls.{all_under, numbers, marks_of, types}
-use Rattle.call_ty.specs.inner.Codes.{Under, numbers_if}
+use Rattle.call_ty.specs.inner.Codes.{Under}
 
 under_rest : (n t : ℕ) (ts : List ℕ) → Under n (t ∷ ts) → Under n ts
 under_rest n t ts u i l = u (suc i) (omega arith)
@@ -40,12 +40,6 @@ unfolding all_under
 under_all n [] u = refl
 under_all n (t ∷ ts) u = rw (lt-ltb t n (u 0 (omega arith)), under_all n ts (under_rest n t ts u))
 
-pub not-under : (n : ℕ) (ts : List ℕ) (i : ℕ) → i < length ts → n ≤ get_or ts i 0 → all_under n ts ≡ false
-unfolding all_under
-not-under n [] i l h = absurd (not-suc-le-zero l)
-not-under n (t ∷ ts) zero l h = rw (le-ltb t n h)
-not-under n (t ∷ ts) (suc i) l h = ap (λ (b : Bool). ltb t n && b) (not-under n ts i (omega arith) h) ∙ and-false (ltb t n)
-
 -- the numbers and the marks of operands
 
 pub number_at : (vs : List ℕ) (i : ℕ) → get_or (numbers vs) i 0 ≡ number_of (get_or vs i 0)
@@ -53,42 +47,32 @@ number_at [] i = refl
 number_at (v ∷ vs) zero = refl
 number_at (v ∷ vs) (suc i) = number_at vs i
 
-pub number-if : (held : Bool) (vs : List ℕ) (i : ℕ) → get_or (numbers_if held vs) i 0 ≡ cond held (number_of (get_or vs i 0)) (get_or vs i 0)
-number-if true vs i = number_at vs i
-number-if false vs i = refl
+-- the tests of a list, by std's
 
-or_yes : (b : Bool) → or b true ≡ true
-unfolding or
-or_yes true = refl
-or_yes false = refl
+pub under-all : (n : ℕ) (ts : List ℕ) → list_all (λ (t : ℕ). ltb t n) ts ≡ all_under n ts
+unfolding all_under
+under-all n [] = refl
+under-all n (t ∷ ts) = ap (λ (b : Bool). ltb t n && b) (under-all n ts)
 
-pub some-running : (vs : List ℕ) (i : ℕ) → i < length vs → mark_of (get_or vs i 0) ≡ true → any_running (marks_of vs) ≡ true
+pub numbers-all : (n : ℕ) (vs : List ℕ) → list_all (λ (v : ℕ). ltb (number_of v) n) vs ≡ all_under n (numbers vs)
+unfolding all_under
+numbers-all n [] = refl
+numbers-all n (v ∷ vs) = ap (λ (b : Bool). ltb (number_of v) n && b) (numbers-all n vs)
+
+pub running-any : (vs : List ℕ) → list_any mark_of vs ≡ any_running (marks_of vs)
 unfolding any_running or
-some-running [] i l h = absurd (not-suc-le-zero l)
-some-running (v ∷ vs) zero l h = ap (λ (b : Bool). or b (any_running (marks_of vs))) h
-some-running (v ∷ vs) (suc i) l h = ap (or (mark_of v)) (some-running vs i (omega arith) h) ∙ or_yes (mark_of v)
-
-pub none-running : (vs : List ℕ) → ((i : ℕ) → i < length vs → mark_of (get_or vs i 0) ≡ false) → any_running (marks_of vs) ≡ false
-unfolding any_running or
-none-running [] h = refl
-none-running (v ∷ vs) h = ap (λ (b : Bool). or b (any_running (marks_of vs))) (h 0 (omega arith)) ∙ none-running vs (λ i l. h (suc i) (omega arith))
+running-any [] = refl
+running-any (v ∷ vs) = ap (λ (b : Bool). mark_of v || b) (running-any vs)
 
 module _ (w : List ℕ) where
   -- an operand that is both running and abstract
   abbrev pub clashing : ℕ → Bool
   clashing v = both (mark_of v) (abstract_ty (type_at w (number_of v)))
 
-  pub some-clashes : (vs : List ℕ) (i : ℕ) → i < length vs → clashing (get_or vs i 0) ≡ true → running_abstract (types w (numbers vs)) (marks_of vs) ≡ true
+  pub clashes-any : (vs : List ℕ) → list_any clashing vs ≡ running_abstract (types w (numbers vs)) (marks_of vs)
   unfolding running_abstract or
-  some-clashes [] i l h = absurd (not-suc-le-zero l)
-  some-clashes (v ∷ vs) zero l h = ap (λ (b : Bool). or b (running_abstract (types w (numbers vs)) (marks_of vs))) h
-  some-clashes (v ∷ vs) (suc i) l h = ap (or (clashing v)) (some-clashes vs i (omega arith) h) ∙ or_yes (clashing v)
-
-  pub none-clashes : (vs : List ℕ) → ((i : ℕ) → i < length vs → clashing (get_or vs i 0) ≡ false) → running_abstract (types w (numbers vs)) (marks_of vs) ≡ false
-  unfolding running_abstract or
-  none-clashes [] h = refl
-  none-clashes (v ∷ vs) h =
-      ap (λ (b : Bool). or b (running_abstract (types w (numbers vs)) (marks_of vs))) (h 0 (omega arith)) ∙ none-clashes vs (λ i l. h (suc i) (omega arith))
+  clashes-any [] = refl
+  clashes-any (v ∷ vs) = ap (λ (b : Bool). clashing v || b) (clashes-any vs)
 
 -- the types of a list
 

@@ -10,7 +10,7 @@ ghost use Rattle.answer.specs.Answer.{refuse, marked_by};
 ghost use Rattle.held.specs.Held.{number_of};
 ghost use Rattle.overload.specs.Marks.{any_running, running_abstract};
 ghost use Rattle.call_ty.specs.Calls.{template_right, operands_of, given_by, given_outcome, call_outcome, all_under, numbers, marks_of, types, type_builtin_fn, builtin_runs};
-ghost use Rattle.call_ty.specs.inner.Codes.{by_number, Under, numbers_if, Loaded, numeric_code};
+ghost use Rattle.call_ty.specs.inner.Codes.{by_number, Under, Loaded, numeric_code};
 
 use conv::{PLAINS, SCALARS};
 use names::{NamedRule, Names};
@@ -82,42 +82,11 @@ fn operands_of(rule: u8) -> usize
     memory_operands(rule)
 }
 
-// A number of a list: a type's, or that of an operand.
-fn number_in(v: u32, held: bool) -> usize
-    ensures { result ≡ cond held (number_of v) v }
-{
-    if held {
-        return held::number(v).0;
-    }
-    cast::word(v)
-}
-
-// Whether every number of the list is below n; the list is one of types, or of operands.
-fn all_under(list: &[u32], held: bool, n: usize) -> bool
-    ensures { result ≡ all_under n (numbers_if held list.now) }
-{
-    let mut i = 0;
-    while i < list.len() {
-        if n <= number_in(list[i], held) {
-            return false;
-        }
-        i += 1;
-    }
-    true
-}
-
 // Whether an operand is running.
 pub fn any_running(args: &[u32]) -> bool
     ensures { result ≡ any_running (marks_of args.now) }
 {
-    let mut i = 0;
-    while i < args.len() {
-        if held::running(args[i]) {
-            return true;
-        }
-        i += 1;
-    }
-    false
+    args.iter().any(|v| held::running(*v))
 }
 
 // Whether an operand is both running and abstract at any depth.
@@ -125,14 +94,21 @@ fn any_clashes(words: &[u32], n: usize, args: &[u32]) -> bool
     requires { Sound words.now n × Under n (numbers args.now) }
     ensures { result ≡ running_abstract (types words.now (numbers args.now)) (marks_of args.now) }
 {
-    let mut i = 0;
-    while i < args.len() {
-        if ruled::clashes(words, n, args[i]) {
-            return true;
-        }
-        i += 1;
-    }
-    false
+    args.iter().any(|v| ruled::clashes(words, n, *v))
+}
+
+// Whether every type of a list is below n.
+fn all_types(n: usize, list: &[u32]) -> bool
+    ensures { result ≡ all_under n list.now }
+{
+    list.iter().all(|t| cast::word(*t) < n)
+}
+
+// Whether the type of every operand is.
+fn all_operands(n: usize, args: &[u32]) -> bool
+    ensures { result ≡ all_under n (numbers args.now) }
+{
+    args.iter().all(|v| held::number(*v).0 < n)
 }
 
 // The template list is as the rule wants it: one numeric scalar or vector for `bitcast`, none for every other.
@@ -270,10 +246,10 @@ pub fn type_builtin_fn(
     if !table::sound(words, n) {
         return unmarked(Reason::Unsound, Place(0), n);
     }
-    if !all_under(tplt, false, n) {
+    if !all_types(n, tplt) {
         return unmarked(Reason::NoSuchType, Place(0), n);
     }
-    if !all_under(args, true, n) {
+    if !all_operands(n, args) {
         return unmarked(Reason::NoSuchType, Place(0), n);
     }
     call_at(words, n, Place(0), &Names::new(), profile, name, tplt, args)

@@ -1,7 +1,6 @@
 -- What the code goes by: operands by their numbers, and the lists that a caller of `call_at` has checked. The promise of a call is read without it.
 -- Assumes nothing.
 use Rattle.std.specs.Prelude.{ℕ, ◌%◌, ◌<◌, ◌≡◌, Bool, true, false, ◌&&◌, not, List, map, ltb, length, get_or, take}
-use Rattle.held.specs.Held.{number_of}
 use Rattle.conv.specs.Types.{Ty}
 use Rattle.overload.specs.inner.Code.{code_of}
 use Rattle.ruled.specs.Call.{any_reference}
@@ -17,11 +16,6 @@ by_number place w n k ts us ms = by_rule place w n (rule (numbered k) false) ts 
 -- every number of the list is below n
 abbrev pub Under : ℕ → List ℕ → Type 0
 Under n ts = (i : ℕ) → i < length ts → get_or ts i 0 < n
-
--- a list of numbers, or of operands by their types' numbers
-abbrev pub numbers_if : Bool → List ℕ → List ℕ
-numbers_if true ts = map number_of ts
-numbers_if false ts = ts
 
 -- the operands' numbers stand in front, where none is a reference
 pub record Loaded (us : List Ty) (r : Bool) (codes : List ℕ) : Type 0 where
