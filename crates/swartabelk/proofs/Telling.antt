@@ -31,23 +31,22 @@ module _ (a : Answer) (f : Fits a) where
   refused-fits r e = rw e at f
 
 -- what is told of an answer, with its mark, is its reply
-module _ (d : Typed) (k : ℕ) (b : k ≡ mark_bit d.running) (r : Reply) where
+module _ (d : Typed) (k : ℕ) (b : k ≡ mark_bit d.running) where
   -- the reply of an answer with the mark of d
   abbrev like : Answer → Reply
   like a = reply_of (record { answer = a; running = d.running })
 
-  pub value-told : (t : TypeNo) (m x : ℕ) → d.answer ≡ Value t m → x ≡ t.0 → r ≡ tell 0 x k 0 m 0 → r ≡ reply_of d
+  pub value-told : (t : TypeNo) (m x z : ℕ) → d.answer ≡ Value t m → x ≡ t.0 → z ≡ m → tell 0 x k 0 z 0 ≡ reply_of d
   unfolding reply_of reply_to
-  value-told t m x e p h = h ∙ (λ i. tell 0 (p i) (b i) 0 m 0) ∙ ap like (sym e)
+  value-told t m x z e p q = (λ i. tell 0 (p i) (b i) 0 (q i) 0) ∙ ap like (sym e)
 
-  pub none_told : (m : ℕ) → d.answer ≡ NoValue m → r ≡ tell 0 no_value k 0 m 0 → r ≡ reply_of d
+  pub none_told : (m z : ℕ) → d.answer ≡ NoValue m → z ≡ m → tell 0 no_value k 0 z 0 ≡ reply_of d
   unfolding reply_of reply_to
-  none_told m e h = h ∙ (λ i. tell 0 no_value (b i) 0 m 0) ∙ ap like (sym e)
+  none_told m z e q = (λ i. tell 0 no_value (b i) 0 (q i) 0) ∙ ap like (sym e)
 
-  pub refused-told : (q : Refusal) (x y : ℕ) → d.answer ≡ Refused q → x ≡ reason_no q.reason → y ≡ lacking_of q.reason
-      → r ≡ tell x no_value k q.place.0 q.used y → r ≡ reply_of d
+  pub refused-told : (q : Refusal) (x y u v : ℕ) → d.answer ≡ Refused q → x ≡ reason_no q.reason → y ≡ lacking_of q.reason → u ≡ q.place.0 → v ≡ q.used → tell x no_value k u v y ≡ reply_of d
   unfolding reply_of reply_to
-  refused-told q x y e p l h = h ∙ (λ i. tell (p i) no_value (b i) q.place.0 q.used (l i)) ∙ ap like (sym e)
+  refused-told q x y u v e p l s t = (λ i. tell (p i) no_value (b i) (s i) (t i) (l i)) ∙ ap like (sym e)
 
 module _ (s : Spelled) (f : SpelledFits s) where
   pub length-fits : (k : ℕ) → s ≡ Ok k → k < 2 ^ 32

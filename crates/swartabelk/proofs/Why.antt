@@ -1,6 +1,6 @@
 -- The reply of a call that tells why fits into 32 bits, and is told in numbers. Assumes nothing.
 use Prim.Native.Nat.{ℕ, ◌<◌, ◌^◌}
-use mathlib.Core.Path.{◌≡◌, refl, sym, ◌∙◌, ap}
+use mathlib.Core.Path.{◌≡◌, sym, ◌∙◌, ap}
 use mathlib.Core.Bool.{Bool, true, false, cond}
 use mathlib.Core.List.{List}
 use native.Mathlib.Omega.{arith}
@@ -11,8 +11,6 @@ use Rattle.answer.specs.declared.Reason.TheVariants.{TooLong}
 use Rattle.answer.specs.declared.Refusal.{Refusal}
 use Rattle.answer.specs.declared.Answer.{Answer}
 use Rattle.answer.specs.declared.Answer.TheVariants.{Value, NoValue, Refused}
-use Rattle.ops_ty.specs.Ops.{type_unary_op, type_binary_op}
-use Rattle.call_ty.specs.Calls.{type_builtin_fn}
 use Rattle.spell.specs.Reply.{refuse_spelling}
 use Rattle.spell.specs.Reply.{Spelled}
 use Rattle.std.specs.Prelude.{Ok, Err}

@@ -12,9 +12,10 @@ ghost use Rattle.call_ty.specs.Calls.{type_builtin_fn, builtin_runs};
 ghost use Rattle.tplt.specs.Templates.{template_outcome};
 ghost use Rattle.sheet.specs.Machine.{type_sheet, sheet_runs};
 ghost use Rattle.why.specs.Why.{unary_pieces, binary_pieces, call_pieces};
-ghost use Rattle.swartabelk.specs.Reply.{mark_bit, tell, reply_of, Replied, check_answer, spelled_of, SpelledOut, ToldOut, part_of};
+ghost use Rattle.swartabelk.specs.Reply.{mark_bit, reply_of, Replied, check_answer, spelled_of, SpelledOut, ToldOut, part_of};
 ghost use Rattle.swartabelk.specs.inner.Code.{Fits, SpelledFits};
 
+use frame::Part;
 use table::{Answer, Entry, Place, Reason, Refusal, TypeNo, Typed};
 
 // The type of a reply that has no value, or is a refusal.
@@ -51,6 +52,17 @@ pub struct NamePart {
     pub length: usize,
 }
 
+impl From<Part> for NamePart {
+    ghost from_gives = { λ p r. r ≡ part_of p };
+
+    fn from(part: Part) -> NamePart {
+        NamePart {
+            start: part.start.0,
+            length: part.length,
+        }
+    }
+}
+
 // A number that fits, as it is.
 fn narrow(x: usize) -> u32
     requires { x < 2 ^ 32 }
@@ -59,53 +71,44 @@ fn narrow(x: usize) -> u32
     x as u32
 }
 
-// The numbers of a reply.
-fn told(refusal: u32, ty: u32, mark: u32, place: usize, used: usize, lacking: u32) -> Reply
-    requires { (place < 2 ^ 32) × (used < 2 ^ 32) }
-    ensures { result ≡ tell refusal ty mark place used lacking }
-{
-    Reply {
-        refusal,
-        ty,
-        mark,
-        place: narrow(place),
-        used: narrow(used),
-        lacking,
-    }
-}
-
 // A mark in numbers.
 fn mark_bit(running: bool) -> u32
     ensures { result ≡ mark_bit running }
 {
-    if running {
-        return held::RUNNING;
-    }
-    0
+    if running { held::RUNNING } else { 0 }
 }
 
 // An answer in numbers, with the mark of its value.
+// Stays: no `From`, here and below: one asks nothing of what it is given, and what does not fit into 32 bits has no reply, which `Fits` and `SpelledFits` rule out.
 fn reply_of(typed: Typed) -> Reply
     requires { Fits typed.answer }
     ensures { result ≡ reply_of typed }
 {
-    let mark = mark_bit(typed.running);
-    let a = typed.answer;
-    match a {
-        Answer::Value(t, n) => told(0, narrow(t.0), mark, 0, n, 0),
-        Answer::NoValue(n) => told(0, NO_VALUE, mark, 0, n, 0),
-        Answer::Refused(r) => {
-            let reason = r.reason;
-            let place = r.place;
-            told(
-                cast::wide(table::reason_no(reason)),
-                NO_VALUE,
-                mark,
-                place.0,
-                r.used,
-                table::lacking_of(reason),
-            )
-        }
+    let told = Reply {
+        refusal: 0,
+        ty: NO_VALUE,
+        mark: mark_bit(typed.running),
+        place: 0,
+        used: 0,
+        lacking: 0,
+    };
+    match typed.answer {
+        Answer::Value(t, used) => Reply {
+            ty: narrow(t.0),
+            used: narrow(used),
+            ..told
+        },
+        Answer::NoValue(n) => Reply {
+            used: narrow(n),
+            ..told
+        },
+        Answer::Refused(r) => Reply {
+            refusal: cast::wide(table::reason_no(r.reason)),
+            place: narrow(r.place.0),
+            used: narrow(r.used),
+            lacking: table::lacking_of(r.reason),
+            ..told
+        },
     }
 }
 
@@ -129,16 +132,12 @@ fn spelled_of(n: u32, s: Result<usize, Refusal>) -> SpelledReply
             place: 0,
             used: n,
         },
-        Err(r) => {
-            let reason = r.reason;
-            let place = r.place;
-            SpelledReply {
-                refusal: cast::wide(table::reason_no(reason)),
-                length: 0,
-                place: narrow(place.0),
-                used: narrow(r.used),
-            }
-        }
+        Err(r) => SpelledReply {
+            refusal: cast::wide(table::reason_no(r.reason)),
+            length: 0,
+            place: narrow(r.place.0),
+            used: narrow(r.used),
+        },
     }
 }
 
@@ -281,10 +280,5 @@ pub fn swartabelk_why_call(
 pub fn swartabelk_call_name(sheet: &[u8], place: usize) -> NamePart
     ensures { result ≡ part_of (name_part sheet.now place) }
 {
-    let part = frame::call_part(sheet, Place(place));
-    let start = part.start;
-    NamePart {
-        start: start.0,
-        length: part.length,
-    }
+    NamePart::from(frame::call_part(sheet, Place(place)))
 }
