@@ -6,7 +6,7 @@ ghost use Rattle.conv.specs.Types.{is_width, is_float, is_abstract, abstract_ty}
 ghost use Rattle.table.specs.Table.{stride, scalars, ceiling, kind_ptr, entry_at, sameb, words_unused, stored, sized, row_ok, base_of, scalar_ok, made_ok, find_in, is_nothing, good_at, soundb, allowedb, Sound};
 ghost use Rattle.table.specs.Denote.{type_at};
 ghost use Rattle.table.specs.Tools.{all_below};
-ghost use Rattle.table.specs.inner.Slots.{scalar_at, places, word_end, mixed, folded, entry_slot, turns_of, fork, Linked, Ended, Based};
+ghost use Rattle.table.specs.inner.Slots.{scalar_at, places, word_end, mixed, folded, entry_slot, turns_of, fork, Knows, Ended};
 
 pub use answer::{
     Answer, Place, Reason, Refusal, TypeNo, Typed, accepted, lacking_of, marked, no_value,
@@ -247,9 +247,11 @@ fn scalar_ok(k: usize, e: Entry) -> bool
     (cast::word(e.kind) == k) & (e.p == 0) & (e.q == 0) & (e.elem == 0)
 }
 
-// An entry above the scalars, standing at number i.
-fn made_ok(words: &[u32], i: usize, e: Entry) -> bool
-    requires { i * stride ≤ length words.now }
+// An entry above the scalars, standing at number i, where `base` gives the innermost scalar of an entry before it.
+fn made_ok<F: FnOnce(usize) -> usize>(words: &[u32], i: usize, e: Entry, base: F) -> bool
+    requires room { i * stride ≤ length words.now }
+    requires before { (j : ℕ) → j < i → F.pre base j }
+    requires base { (j r : ℕ) → j < i → F.post base j r → r ≡ base_of words.now j }
     ensures { result ≡ made_ok words.now i e }
 {
     let el = cast::word(e.elem);
@@ -260,7 +262,7 @@ fn made_ok(words: &[u32], i: usize, e: Entry) -> bool
     if e.kind < KIND_PTR {
         return flat_ok(e, f.kind);
     }
-    deep_ok(e, f.kind, base_of(words, el))
+    deep_ok(e, f.kind, base(el))
 }
 
 // The number of the first of the first n entries that has e's key.
@@ -328,92 +330,78 @@ fn fork_of(k: usize, turns: u64) -> usize
     SLOTS + 2 * k + (turns % 2) as usize
 }
 
-// The free place on e's way, if no entry with e's key stands on it.
-fn free_place(words: &[u32], links: &[u8], i: usize, e: Entry) -> Option<usize>
-    requires { (i * stride ≤ length words.now) × (scalars ≤ i) × (i ≤ ceiling) × (find_in words.now scalars e ≡ None) × Linked words.now i links.now }
-    ensures { Ended words.now i links.now e result }
-{
-    let mut place = slot_of(e);
-    let mut turns = turns_of(e);
-    let mut at = cast::wide(links[place]);
-    while 0 < at {
-        if entry_at(words, at) == e {
-            return None;
+// What the soundness test notes of the entries that it has passed: at each place the number of the entry there, or 0, and of each entry its innermost scalar.
+#[derive(Drop)]
+struct Passed {
+    links: [u8; PLACES],
+    bases: [u8; CEILING],
+}
+
+impl Passed {
+    // The scalars alone, each of which is its own innermost scalar.
+    fn scalars() -> Passed
+        ensures { (w : List ℕ) → Knows w scalars result.links result.bases }
+    {
+        let mut bases = [0; CEILING];
+        for k in 0..SCALARS {
+            bases[k] = k as u8;
         }
-        place = fork_of(at, turns);
-        turns = turns / 2;
-        at = cast::wide(links[place]);
+        Passed {
+            links: [0; PLACES],
+            bases,
+        }
     }
-    Some(place)
+
+    // The free place on e's way, if no entry with e's key stands on it.
+    fn free_place(&self, words: &[u32], i: usize, e: Entry) -> Option<usize>
+        requires { (i * stride ≤ length words.now) × (scalars ≤ i) × (i ≤ ceiling) × (find_in words.now scalars e ≡ None) × Knows words.now i self.now.links self.now.bases }
+        ensures { Ended words.now i self.now.links e result }
+    {
+        let mut place = slot_of(e);
+        let mut turns = turns_of(e);
+        let mut at = cast::wide(self.links[place]);
+        while 0 < at {
+            if entry_at(words, at) == e {
+                return None;
+            }
+            place = fork_of(at, turns);
+            turns = turns / 2;
+            at = cast::wide(self.links[place]);
+        }
+        Some(place)
+    }
+
+    // Whether entry i is good; then it stands on its way, and its innermost scalar is known.
+    fn good_next(&mut self, words: &[u32], i: usize) -> bool
+        requires { ((i + 1) * stride ≤ length words.now) × (scalars ≤ i) × (i < ceiling) × (all_below (scalar_at words.now) scalars ≡ true) × Knows words.now i self.old.links self.old.bases }
+        ensures good { result ≡ good_at words.now i }
+        ensures passed { result ≡ true → Knows words.now (i + 1) self.new.links self.new.bases }
+    {
+        let e = entry_at(words, i);
+        if !made_ok(words, i, e, |j| cast::wide(self.bases[j])) {
+            return false;
+        }
+        let Some(place) = self.free_place(words, i, e) else {
+            return false;
+        };
+        self.links[place] = i as u8;
+        self.bases[i] = self.bases[cast::word(e.elem)];
+        true
+    }
 }
 
-// `made_ok` of entry i, where the innermost scalars of those before it are known.
-fn made_next(words: &[u32], bases: &[u8], i: usize, e: Entry) -> bool
-    requires { (i * stride ≤ length words.now) × (i ≤ ceiling) × Based words.now i bases.now }
-    ensures { result ≡ made_ok words.now i e }
-{
-    let el = cast::word(e.elem);
-    if i <= el {
-        return false;
-    }
-    let f = entry_at(words, el);
-    if e.kind < KIND_PTR {
-        return flat_ok(e, f.kind);
-    }
-    deep_ok(e, f.kind, cast::wide(bases[el]))
-}
-
-// Whether entry i is good; then it stands on its way, and its innermost scalar is known.
-fn good_next(words: &[u32], i: usize, links: &mut [u8], bases: &mut [u8]) -> bool
-    requires { ((i + 1) * stride ≤ length words.now) × (scalars ≤ i) × (i < ceiling) × (all_below (scalar_at words.now) scalars ≡ true) × Linked words.now i links.old × Based words.now i bases.old }
-    ensures { (result ≡ good_at words.now i) × (length links.new ≡ places) × (length bases.new ≡ ceiling) × (result ≡ true → Linked words.now (i + 1) links.new × Based words.now (i + 1) bases.new) }
-{
-    let e = entry_at(words, i);
-    if !made_next(words, bases, i, e) {
-        return false;
-    }
-    let Some(place) = free_place(words, links, i, e) else {
-        return false;
-    };
-    links[place] = i as u8;
-    bases[i] = bases[cast::word(e.elem)];
-    true
-}
-
-// Whether the first n entries are good, where the scalars stand and alone are known.
-fn rest_good(words: &[u32], n: usize, links: &mut [u8], bases: &mut [u8]) -> bool
-    requires { (n * stride ≤ length words.now) × (scalars ≤ n) × (n ≤ ceiling) × (all_below (scalar_at words.now) scalars ≡ true) × Linked words.now scalars links.old × Based words.now scalars bases.old }
+// Whether the first n entries are good, where the scalars stand.
+fn rest_good(words: &[u32], n: usize) -> bool
+    requires { (n * stride ≤ length words.now) × (scalars ≤ n) × (n ≤ ceiling) × (all_below (scalar_at words.now) scalars ≡ true) }
     ensures { result ≡ all_below (good_at words.now) n }
 {
+    let mut passed = Passed::scalars();
     for i in SCALARS..n {
-        if !good_next(words, i, links, bases) {
+        if !passed.good_next(words, i) {
             return false;
         }
     }
     true
-}
-
-// Each scalar is its own innermost scalar.
-fn put_bases(bases: &mut [u8])
-    requires { length bases.old ≡ ceiling }
-    ensures { (w : List ℕ) → Based w scalars bases.new }
-{
-    for k in 0..SCALARS {
-        bases[k] = k as u8;
-    }
-}
-
-// `rest_good`, with places of its own.
-fn rest_sorted(words: &[u32], n: usize) -> bool
-    requires { (n * stride ≤ length words.now) × (scalars ≤ n) × (n ≤ ceiling) × (all_below (scalar_at words.now) scalars ≡ true) }
-    ensures { result ≡ all_below (good_at words.now) n }
-{
-    let mut free = [0u8; PLACES];
-    let links: &mut [u8] = &mut free;
-    let mut unknown = [0u8; CEILING];
-    let bases: &mut [u8] = &mut unknown;
-    put_bases(bases);
-    rest_good(words, n, links, bases)
 }
 
 // Whether the words hold a sound table of n entries.
@@ -435,7 +423,7 @@ pub fn sound(words: &[u32], n: usize) -> bool
     if n == SCALARS {
         return true;
     }
-    rest_sorted(words, n)
+    rest_good(words, n)
 }
 
 // Whether e may be taken into a table of n entries.
@@ -447,5 +435,5 @@ pub fn allowed(words: &[u32], n: usize, e: Entry) -> bool
     if k < SCALARS {
         return scalar_ok(k, e);
     }
-    made_ok(words, n, e)
+    made_ok(words, n, e, |j| base_of(words, j))
 }

@@ -8,12 +8,12 @@ use Rattle.table.proofs.SlotLaws.{scalars-good}
 use Rattle.table.proofs.rest_good.Goals as goal
 
 pub loop-i-init : goal.loop-i-init
-loop-i-init c = let p = c.requires in (omega arith, scalars-good c.args.words.now p.3, p.4, p.5)
+loop-i-init c = let w = c.args.words.now in (omega arith, scalars-good w c.requires.3, c.scalars-passed.ensures w)
 
 pub returns-then-not-good_next : goal.returns-then-not-good_next
 returns-then-not-good_next c =
     let a = c.args in
-    let e : good_at a.words.now c.loop-i.i ≡ false = sym c.good_next.ensures.0 ∙ c.if-not-good_next.true in
+    let e : good_at a.words.now c.loop-i.i ≡ false = sym c.good_next.ensures.good ∙ c.if-not-good_next.true in
     sym (all-stop (good_at a.words.now) c.loop-i.i a.n e c.loop-i-test.true)
 
 pub loop-i-preserved : goal.loop-i-preserved
@@ -21,6 +21,5 @@ loop-i-preserved c =
     let a = c.args in
     let l = c.loop-i.invariant in
     let low = l.0 in
-    let e : good_at a.words.now c.loop-i.i ≡ true = sym c.good_next.ensures.0 ∙ c.if-not-good_next.false in
-    let known = c.good_next.ensures.3 c.if-not-good_next.false in
-    (omega arith, all_more (good_at a.words.now) c.loop-i.i l.1 e, known.0, known.1)
+    let e : good_at a.words.now c.loop-i.i ≡ true = sym c.good_next.ensures.good ∙ c.if-not-good_next.false in
+    (omega arith, all_more (good_at a.words.now) c.loop-i.i l.1 e, c.good_next.ensures.passed c.if-not-good_next.false)

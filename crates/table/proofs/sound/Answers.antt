@@ -44,10 +44,10 @@ returns-then-n-eq-SCALARS c =
     sym (ap (all_below (good_at w)) c.if-n-eq-SCALARS.true ∙ scalars-good w (sym c.scalars_stand.ensures ∙ c.if-not-scalars_stand.false))
     ∙ by_entries w a.n c.if-n-lt-SCALARS.false c.if-n-gt-CEILING.false c.if-words-n.false
 
-pub rest_sorted-requires : goal.rest_sorted-requires
-rest_sorted-requires c = (c.if-words-n.false, c.if-n-lt-SCALARS.false, c.if-n-gt-CEILING.false, sym c.scalars_stand.ensures ∙ c.if-not-scalars_stand.false)
+pub rest_good-requires : goal.rest_good-requires
+rest_good-requires c = (c.if-words-n.false, c.if-n-lt-SCALARS.false, c.if-n-gt-CEILING.false, sym c.scalars_stand.ensures ∙ c.if-not-scalars_stand.false)
 
 pub returns : goal.returns
 returns c =
     let a = c.args in
-    c.rest_sorted.ensures ∙ by_entries a.words.now a.n c.if-n-lt-SCALARS.false c.if-n-gt-CEILING.false c.if-words-n.false
+    c.rest_good.ensures ∙ by_entries a.words.now a.n c.if-n-lt-SCALARS.false c.if-n-gt-CEILING.false c.if-words-n.false

@@ -69,3 +69,8 @@ Ended w i links e None = is_nothing (find_in w i e) ≡ false
 pub record Based (w : List ℕ) (n : ℕ) (bases : List ℕ) : Type 0 where
   pub long : length bases ≡ ceiling
   pub base : (k : ℕ) → k < n → get_or bases k 0 ≡ base_of w k
+
+-- what the test knows of the first n entries
+pub record Knows (w : List ℕ) (n : ℕ) (links bases : List ℕ) : Type 0 where
+  pub linked : Linked w n links
+  pub based : Based w n bases
