@@ -125,21 +125,20 @@ fn template_right(words: &[u32], n: usize, rule: u8, tplt: &[u32]) -> bool
     numeric_code(ruled::code_at(words, n, cast::word(tplt[0])))
 }
 
-// The numbers of the operands, in their order; and whether none of them is a reference.
-pub fn load(words: &[u32], n: usize, args: &[u32], codes: &mut [u8]) -> bool
-    requires { Sound words.now n × Under n (numbers args.now) × (length args.now ≤ length codes.old) }
-    ensures { Loaded (types words.now (numbers args.now)) result codes.new }
+// The numbers of the operands, in their order, where none of them is a reference.
+pub fn load<const N: usize>(words: &[u32], n: usize, args: &[u32]) -> Option<[u8; N]>
+    requires { Sound words.now n × Under n (numbers args.now) × (length args.now ≤ N) }
+    ensures { Loaded (types words.now (numbers args.now)) result }
 {
-    let mut i = 0;
-    while i < args.len() {
-        let x = ruled::code_at(words, n, held::number(args[i]).0);
+    let mut codes = [0; N];
+    for (i, v) in args.iter().enumerate() {
+        let x = ruled::code_at(words, n, held::number(*v).0);
         if x == REFERENCE {
-            return false;
+            return None;
         }
         codes[i] = x;
-        i += 1;
     }
-    true
+    Some(codes)
 }
 
 // A call on memory on loaded operands, of which the first is the pointer; or a barrier.
@@ -185,10 +184,9 @@ fn by_rule(
     if k != operands_of(rule) {
         return table::refused(Reason::Operands, place, n);
     }
-    let mut codes = [0u8; MOST];
-    if !load(words, n, args, &mut codes) {
+    let Some(codes) = load::<MOST>(words, n, args) else {
         return table::refused(Reason::Reference, place, n);
-    }
+    };
     if any_clashes(words, n, args) {
         return table::refused(Reason::RunningAbstract, place, n);
     }

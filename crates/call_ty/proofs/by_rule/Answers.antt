@@ -5,7 +5,6 @@ use mathlib.Core.Bool.{false}
 use mathlib.Core.List.{List}
 use native.Mathlib.Omega.{arith}
 use lib.ListN.{length, length-map}
-use borrow.Author.Tests.{not-true, not-false}
 use Rattle.held.specs.Held.{number_of}
 use Rattle.names.specs.inner.Table.{numbered}
 use Rattle.answer.specs.Answer.{accept}
@@ -40,16 +39,16 @@ load-requires c =
     let k = c.if-k-operands_of.false in
     let q = c.operands_of.ensures in
     let m = at_most c.args.rule in
-    (c.requires.0, c.requires.2, omega arith)
+    (omega arith, (c.requires.0, c.requires.2, omega arith))
 
-pub returns-then-not-load : goal.returns-then-not-load
-returns-then-not-load c =
+pub returns-in_default : goal.returns-in_default
+returns-in_default c =
     let a = c.args in
     let w = a.words.now in
     gave-as
     (by-reference a.place.0 w a.n (numbered a.rule) false (types w a.tplt.now) (types w (numbers a.args.now)) (marks_of a.args.now) (sym c.template_right.ensures ∙ c.if-not-template_right.false)
-    (counted a.args.now w ∙ c.if-k-operands_of.false ∙ c.operands_of.ensures) (not-false _ (sym c.load.ensures.reply ∙ c.if-not-load.true)))
-    (gave-refused _ _ w a.n c.refused-then-not-load.ensures)
+    (counted a.args.now w ∙ c.if-k-operands_of.false ∙ c.operands_of.ensures) c.in_default.ensures)
+    (gave-refused _ _ w a.n c.refused-in_default.ensures)
 
 pub any_clashes-requires : goal.any_clashes-requires
 any_clashes-requires c = (c.requires.0, c.requires.2)
@@ -60,7 +59,7 @@ returns-then-any_clashes c =
     let w = a.words.now in
     gave-as
     (by-clash a.place.0 w a.n (numbered a.rule) false (types w a.tplt.now) (types w (numbers a.args.now)) (marks_of a.args.now) (sym c.template_right.ensures ∙ c.if-not-template_right.false)
-    (counted a.args.now w ∙ c.if-k-operands_of.false ∙ c.operands_of.ensures) (not-true _ (sym c.load.ensures.reply ∙ c.if-not-load.false)) (sym c.any_clashes.ensures ∙ c.if-any_clashes.true))
+    (counted a.args.now w ∙ c.if-k-operands_of.false ∙ c.operands_of.ensures) c.in-Some.ensures.0 (sym c.any_clashes.ensures ∙ c.if-any_clashes.true))
     (gave-refused _ _ w a.n c.refused-then-any_clashes.ensures)
 
 pub slice_bounds-judge_codes-end : goal.slice_bounds-judge_codes-end
@@ -74,13 +73,12 @@ pub returns-then-rule-lt-RULE_BITCAST : goal.returns-then-rule-lt-RULE_BITCAST
 returns-then-rule-lt-RULE_BITCAST c =
     let a = c.args in
     let w = a.words.now in
-    let r = c.if-not-load.false in
     let d = sym c.any_clashes.ensures ∙ c.if-any_clashes.false in
     gave-as
     (rule-row a.place.0 w a.n c.requires.0 a.rule a.tplt.now (numbers a.args.now) (marks_of a.args.now) c.if-rule-lt-RULE_BITCAST.true (types w (numbers a.args.now)) (types-formed w a.n c.requires.0 (numbers a.args.now) c.requires.2) d _ c.any_running-running.ensures _ c.wide.ensures _
-    (codes-front w a.args.now _ (c.load.ensures.numbers r))
+    (codes-front w a.args.now _ c.in-Some.ensures.1)
     ∙ by_call a.place.0 w a.n (numbered a.rule) false (types w a.tplt.now) (types w (numbers a.args.now)) (marks_of a.args.now) (sym c.template_right.ensures ∙ c.if-not-template_right.false)
-    (counted a.args.now w ∙ c.if-k-operands_of.false ∙ c.operands_of.ensures) (not-true _ (sym c.load.ensures.reply ∙ r)) d)
+    (counted a.args.now w ∙ c.if-k-operands_of.false ∙ c.operands_of.ensures) c.in-Some.ensures.0 d)
     c.judge_codes.ensures
 
 pub bounds-tplt-0 : goal.bounds-tplt-0
@@ -97,7 +95,7 @@ returns-then-rule-eq-RULE_BITCAST c =
     (ap (λ (k : ℕ). record { answer = accept k a.n; words = w }) c.word.ensures
     ∙ rule-bitcast a.place.0 w a.n c.requires.0 a.rule a.tplt.now (numbers a.args.now) (marks_of a.args.now) c.if-rule-eq-RULE_BITCAST.true c.requires.1 (template-some w a.rule a.tplt.now c.if-rule-eq-RULE_BITCAST.true t)
     ∙ by_call a.place.0 w a.n (numbered a.rule) false (types w a.tplt.now) (types w (numbers a.args.now)) (marks_of a.args.now) t
-    (counted a.args.now w ∙ c.if-k-operands_of.false ∙ c.operands_of.ensures) (not-true _ (sym c.load.ensures.reply ∙ c.if-not-load.false)) (sym c.any_clashes.ensures ∙ c.if-any_clashes.false))
+    (counted a.args.now w ∙ c.if-k-operands_of.false ∙ c.operands_of.ensures) c.in-Some.ensures.0 (sym c.any_clashes.ensures ∙ c.if-any_clashes.false))
     (gave-accepted _ w a.n c.accepted.ensures)
 
 pub memory_rule-requires : goal.memory_rule-requires
@@ -112,5 +110,5 @@ returns c =
     let w = a.words.now in
     gave-as
     (by_call a.place.0 w a.n (numbered a.rule) false (types w a.tplt.now) (types w (numbers a.args.now)) (marks_of a.args.now) (sym c.template_right.ensures ∙ c.if-not-template_right.false)
-    (counted a.args.now w ∙ c.if-k-operands_of.false ∙ c.operands_of.ensures) (not-true _ (sym c.load.ensures.reply ∙ c.if-not-load.false)) (sym c.any_clashes.ensures ∙ c.if-any_clashes.false))
+    (counted a.args.now w ∙ c.if-k-operands_of.false ∙ c.operands_of.ensures) c.in-Some.ensures.0 (sym c.any_clashes.ensures ∙ c.if-any_clashes.false))
     (c.memory_rule.ensures (types w a.tplt.now))

@@ -1,6 +1,6 @@
 -- What the code goes by: operands by their numbers, and the lists that a caller of `call_at` has checked. The promise of a call is read without it.
 -- Assumes nothing.
-use Rattle.std.specs.Prelude.{ℕ, ◌%◌, ◌<◌, ◌≡◌, Bool, true, false, ◌&&◌, not, List, map, ltb, length, get_or, take}
+use Rattle.std.specs.Prelude.{ℕ, ◌%◌, ◌<◌, ◌≡◌, Bool, true, false, ◌&&◌, List, map, ltb, length, get_or, take, Option, Some, None}
 use Rattle.conv.specs.Types.{Ty}
 use Rattle.overload.specs.inner.Code.{code_of}
 use Rattle.ruled.specs.Call.{any_reference}
@@ -18,9 +18,9 @@ abbrev pub Under : ℕ → List ℕ → Type 0
 Under n ts = (i : ℕ) → i < length ts → get_or ts i 0 < n
 
 -- the operands' numbers stand in front, where none is a reference
-pub record Loaded (us : List Ty) (r : Bool) (codes : List ℕ) : Type 0 where
-  pub reply : r ≡ not (any_reference us)
-  pub numbers : r ≡ true → take (length us) codes ≡ map code_of us
+abbrev pub Loaded : List Ty → Option (List ℕ) → Type 0
+Loaded us (Some codes) = (any_reference us ≡ false) × (take (length us) codes ≡ map code_of us)
+Loaded us None = any_reference us ≡ true
 
 -- a numeric scalar or vector, by its number
 abbrev pub numeric_code : ℕ → Bool
