@@ -1,3 +1,4 @@
 pub mod Filled
 pub mod Chars
 pub mod Lines
+pub mod Replay

@@ -1,7 +1,9 @@
 // The rows that a program replays: the lines of its input, and how many rows agreed.
-ghost use Rattle.std.specs.Prelude.{◌≡◌, ◌≤◌, ◌==◌, length, position, true};
+ghost use Rattle.std.specs.Prelude.{◌≡◌, ◌≤◌, ◌==◌, length, position, true, List, ℕ, OnOk};
 ghost use Rattle.std.specs.Iterator.{YieldsFirstRef, item_count};
 ghost use Rattle.vectors.specs.Lines.{counted_of, line_end_byte, line_length, line_end, lines_of};
+ghost use Rattle.vectors.specs.Replay.{no_counts, Replays};
+ghost use Rattle.vectors.specs.declared.rows.Counts.{Counts};
 
 use std::io;
 
@@ -78,7 +80,9 @@ impl Counts {
     }
 
     // Writes the counts after a title, and begins anew.
-    fn tell(&mut self, rt: &impl Print, title: &[u8]) -> io::Result<()> {
+    fn tell(&mut self, rt: &impl Print, title: &[u8]) -> io::Result<()>
+        ensures { OnOk result (self.new ≡ no_counts) }
+    {
         let Counts { agreed, rows } = *self;
         rt.write_all(title)?;
         println!(rt; ": {agreed} of {rows} agreed")?;
@@ -89,13 +93,19 @@ impl Counts {
 
 // A program that answers the rows of its input.
 pub trait Rows<'a> {
+    // What a line makes of the program and of the counts.
+    ghost line_gives: { Self → List ℕ → Counts → Self → Counts → Type 0 } = { λ _ _ _ _ _. Unit {0} };
+
     // A line that is no title, and what it adds to the counts.
-    fn line(&mut self, line: &'a [u8], counts: &mut Counts);
+    fn line(&mut self, line: &'a [u8], counts: &mut Counts)
+        ensures { line_gives self.old line.now counts.old self.new counts.new };
 }
 
 // Goes through the lines of an input, of which the empty ones say nothing. A title, which begins with `*`, is written with the counts since the title before;
 // any other line is the program's own.
-pub fn replay<'a>(rt: &impl Print, input: &'a [u8], rows: &mut impl Rows<'a>) -> io::Result<()> {
+pub fn replay<'a, R: Rows<'a>>(rt: &impl Print, input: &'a [u8], rows: &mut R) -> io::Result<()>
+    ensures { OnOk result (Replays R.line_gives (lines_of input.now) rows.old no_counts rows.new) }
+{
     let mut counts = Counts::default();
     for line in Lines(input) {
         match line {
