@@ -39,9 +39,7 @@ fn chosen_piece(row: usize, running: bool, xs: &[u8], out: &mut [u8], at: usize)
     ensures put { Put out.old at (chosen_line (overload_at (row_at row) (first_by (chosen_by running (row_at row) (map operand xs.now)) (overloads_of (row_at row)))).params (map operand xs.now)) result out.new }
     ensures upper_bound { result ≤ at + piece_room }
 {
-    let Some(i) = choice::chosen(row, running, xs) else {
-        return at;
-    };
+    let i = choice::chosen(row, running, xs).unwrap();
     let all = listing::params(row, i);
     reasons::chosen_line(&all[0..xs.len()], xs, out, at)
 }
@@ -81,13 +79,7 @@ fn lost_piece(
 {
     let all = listing::params(row, j);
     let ps = &all[0..xs.len()];
-    if weigh::first_miss(ps, xs).is_some() {
-        return at;
-    }
-    if !running {
-        return at;
-    }
-    if weigh::first_abstract(ps).is_none() {
+    if !running || weigh::first_miss(ps, xs).is_some() || weigh::first_abstract(ps).is_none() {
         return at;
     }
     reasons::dropped_line(args, ps, out, at)

@@ -52,9 +52,7 @@ pub fn miss_line(
     ensures put { Put out.old at (miss_line (map operand ps.now) (types_of words.now args.now)) result out.new }
     ensures upper_bound { result ≤ at + piece_room }
 {
-    let Some(k) = weigh::first_miss(ps, xs) else {
-        return at;
-    };
+    let k = weigh::first_miss(ps, xs).unwrap();
     let a = phrase::put_signature(out, at, ps);
     let b = text::put_text(out, a, b": ");
     let c = put_is(words, n, k, args[k], out, b);

@@ -1,6 +1,6 @@
 -- `pieces::lost_piece` meets its contract. Assumes nothing.
 use Prim.Native.Nat.{◌-◌}
-use mathlib.Core.Path.{sym, ◌∙◌, ap}
+use mathlib.Core.Path.{◌≡◌, sym, ◌∙◌, ap}
 use mathlib.Core.List.{List}
 use native.Mathlib.Omega.{arith}
 use lib.ListN.{length, take}
@@ -15,6 +15,7 @@ use Rattle.reasons.specs.Reasons.{dropped_line}
 use Rattle.pieces.proofs.Chosen.{lost-miss, lost-const, lost-concrete, lost-is}
 use Rattle.weigh.proofs.Weighing.{placed, not-placed}
 use Rattle.pieces.proofs.lost_piece.Goals as goal
+use Rattle.pieces.proofs.lost_piece.Goals.{then-not-running-via-then-not-running, then-not-running-via-else-not-running+then-is_some, then-not-running-via-else-not-running+else-is_some+then-is_none}
 
 pub slice_bounds-ps-end : goal.slice_bounds-ps-end
 slice_bounds-ps-end c = omega (arith, c.requires.0, count-few c.args.row, c.params-all.ensures.four)
@@ -22,17 +23,23 @@ slice_bounds-ps-end c = omega (arith, c.requires.0, count-few c.args.row, c.para
 pub first_miss-requires : goal.first_miss-requires
 first_miss-requires c = let a = c.args in let e = c.requires.0 in let q = params-part a.row a.j c.params-all.result c.params-all.ensures (length a.xs.now - 0) (omega (arith, e)) (omega (arith, e, count-few a.row)) in (q.0, omega (arith, q.1))
 
-pub returns-then-is_some : goal.returns-then-is_some
-returns-then-is_some c = let a = c.args in let e = c.requires.0 in let q = params-part a.row a.j c.params-all.result c.params-all.ensures (length a.xs.now - 0) (omega (arith, e)) (omega (arith, e, count-few a.row)) in record { put = put_as (sym (lost-miss (take (length a.xs.now - 0) c.params-all.result) a.xs.now (overload_at (row_at a.row) a.j).params q.2 (omega (arith, q.1)) a.running (dropped_line (overload_at (row_at a.row) a.j).params (marks_of a.args.now)) (placed _ _ c.first_miss.result c.first_miss.ensures (sym c.if-is_some.ensures)))) (put-nothing _ _); upper_bound = omega arith }
-
-pub returns-then-not-running : goal.returns-then-not-running
-returns-then-not-running c = let a = c.args in let e = c.requires.0 in let q = params-part a.row a.j c.params-all.result c.params-all.ensures (length a.xs.now - 0) (omega (arith, e)) (omega (arith, e, count-few a.row)) in record { put = put_as (sym (lost-const (take (length a.xs.now - 0) c.params-all.result) a.xs.now (overload_at (row_at a.row) a.j).params q.2 (omega (arith, q.1)) a.running (dropped_line (overload_at (row_at a.row) a.j).params (marks_of a.args.now)) c.if-not-running.true)) (put-nothing _ _); upper_bound = omega arith }
-
 pub first_abstract-requires : goal.first_abstract-requires
 first_abstract-requires c = let a = c.args in let e = c.requires.0 in let q = params-part a.row a.j c.params-all.result c.params-all.ensures (length a.xs.now - 0) (omega (arith, e)) (omega (arith, e, count-few a.row)) in q.0
 
-pub returns-then-is_none : goal.returns-then-is_none
-returns-then-is_none c = let a = c.args in let e = c.requires.0 in let q = params-part a.row a.j c.params-all.result c.params-all.ensures (length a.xs.now - 0) (omega (arith, e)) (omega (arith, e, count-few a.row)) in record { put = put_as (sym (lost-concrete (take (length a.xs.now - 0) c.params-all.result) a.xs.now (overload_at (row_at a.row) a.j).params q.2 (omega (arith, q.1)) a.running (dropped_line (overload_at (row_at a.row) a.j).params (marks_of a.args.now)) (omega (arith, q.1, not-placed _ _ c.first_abstract.result c.first_abstract.ensures c.if-is_none.ensures)))) (put-nothing _ _); upper_bound = omega arith }
+pub returns-then-not-running-clause-put : goal.returns-then-not-running-clause-put
+returns-then-not-running-clause-put c =
+    let a = c.args in
+    let e = c.requires.0 in
+    let q = params-part a.row a.j c.params-all.result c.params-all.ensures (length a.xs.now - 0) (omega (arith, e)) (omega (arith, e, count-few a.row)) in
+    let ps = take (length a.xs.now - 0) c.params-all.result in
+    let o = (overload_at (row_at a.row) a.j).params in
+    let line = dropped_line o (marks_of a.args.now) in
+    let l : length a.xs.now ≡ length ps = omega (arith, q.1) in
+    elim c.then-not-running.branch [
+      | then-not-running-via-then-not-running w ↦ put_as (sym (lost-const ps a.xs.now o q.2 l a.running line w.if-not-running.true)) (put-nothing _ _)
+      | then-not-running-via-else-not-running+then-is_some w ↦ put_as (sym (lost-miss ps a.xs.now o q.2 l a.running line (placed _ _ w.first_miss.result w.first_miss.ensures (sym w.if-is_some.ensures)))) (put-nothing _ _)
+      | then-not-running-via-else-not-running+else-is_some+then-is_none w ↦ put_as (sym (lost-concrete ps a.xs.now o q.2 l a.running line (omega (arith, q.1, not-placed _ _ w.first_abstract.result w.first_abstract.ensures w.if-is_none.ensures)))) (put-nothing _ _)
+    ]
 
 pub dropped_line-requires : goal.dropped_line-requires
 dropped_line-requires c = let a = c.args in let e = c.requires.0 in let q = params-part a.row a.j c.params-all.result c.params-all.ensures (length a.xs.now - 0) (omega (arith, e)) (omega (arith, e, count-few a.row)) in (q.0, omega (arith, q.1, e, count-few a.row), c.requires.1, c.requires.3)
