@@ -1,33 +1,15 @@
--- A payload of n bytes and a mark, as the code tests it: its length, then the mark. And where the version has no marks, no item is running.
--- Assumes nothing.
-use Prim.Native.Nat.{ℕ, ◌+◌, ◌-◌, ◌<◌, ◌≤◌}
-use mathlib.Core.Path.{◌≡◌, refl, ap, ◌∙◌}
-use mathlib.Core.Logic.{◌≢◌}
-use mathlib.Core.Bool.{Bool, false, cond}
+-- Where the version has no marks, no item is running. Assumes nothing.
+use Prim.Native.Nat.{ℕ, ◌+◌, ◌-◌}
+use mathlib.Core.Path.{◌≡◌, refl}
+use mathlib.Core.Bool.{false, cond}
 use mathlib.Core.List.{List}
 use lib.Dec.{ltb, leb, eqb}
 use lib.ListN.{length, get_or}
-use borrow.Author.Tests.{le-leb, lt-leb, eq-eqb, ne_eqb}
 use Rattle.frame.specs.declared.Item.{Item}
 use Rattle.frame.specs.declared.Item.TheVariants.{Unary, Binary, Call, CallTemplate, Bad}
 use Rattle.frame.specs.declared.Placed.{Placed}
-use Rattle.frame.specs.Frame.{marked, header_size, place, type_no, part, still, follows, running_mark, mark_bytes, mark_after, push_of, take_of, marking, payload_item, payload_at, item_at, is_running}
+use Rattle.frame.specs.Frame.{marked, header_size, type_no, part, still, follows, push_of, take_of, payload_item, payload_at, item_at, is_running}
 use Rattle.frame.proofs.FrameLaws.{cond-elim}
-
-module _ (at : ℕ) (p : List ℕ) (m : Bool) (n : ℕ) (i : Bool → Item) (bytes : ℕ) (b : bytes ≡ mark_bytes m) where
-  pub mark-long : length p ≢ n + bytes → still Bad at ≡ marking at p m n i
-  mark-long h = simp (ne_eqb (length p) (n + mark_bytes m) (rw b at h))
-
-  module _ (l : length p ≡ n + bytes) (mark : ℕ) (e : mark ≡ mark_after m p n) where
-    exact : length p ≡ n + mark_bytes m
-    exact = l ∙ ap (λ (k : ℕ). n + k) b
-
-    pub mark-above : running_mark < mark → still Bad at ≡ marking at p m n i
-    mark-above h = simp (eq-eqb _ _ exact, lt-leb _ _ (rw e at h))
-
-    pub mark-is : mark ≤ running_mark → (next : ℕ) → next ≡ at + 2 + length p
-        → record { item = i (eqb mark running_mark); at = place at; next = place next } ≡ marking at p m n i
-    mark-is h next f = simp (eq-eqb _ _ exact, le-leb _ _ (rw e at h), e, f)
 
 -- "version 1 means all const"
 abbrev Const : Placed → Type 0

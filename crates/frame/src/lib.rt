@@ -140,13 +140,13 @@ fn known_version(version: u8) -> bool
 pub fn header(sheet: &[u8]) -> bool
     ensures { result ≡ header_ok sheet.now }
 {
-    if sheet.len() < HEADER {
+    let [version, high, low, ..] = sheet else {
+        return false;
+    };
+    if !known_version(*version) {
         return false;
     }
-    if !known_version(sheet[0]) {
-        return false;
-    }
-    let len = wide::<usize>(sheet[1]) * 256 + wide::<usize>(sheet[2]);
+    let len = wide::<usize>(*high) * 256 + wide::<usize>(*low);
     if LONGEST < len {
         return false;
     }
@@ -408,15 +408,8 @@ pub fn item_at(sheet: &[u8], at: Place) -> Placed
 pub fn call_part(sheet: &[u8], at: Place) -> Part
     ensures { result ≡ name_part sheet.now at.0 }
 {
-    let found = item_at(sheet, at);
-    let item = found.item;
-    match item {
-        Item::Call { count: _, name } => name,
-        Item::CallTemplate {
-            template: _,
-            count: _,
-            name,
-        } => name,
+    match item_at(sheet, at).item {
+        Item::Call { name, .. } | Item::CallTemplate { name, .. } => name,
         _ => Part {
             start: Place(0),
             length: 0,

@@ -1,14 +1,14 @@
 -- The memo: a digit says the number and the mark of an operand, a slot says what it holds, what it holds stays true while the table grows, and a value that typing gave may be noted. Assumes nothing.
 use Prim.Native.Nat.{ℕ, zero, suc, ◌+◌, ◌*◌, ◌%◌, ◌<◌, ◌≤◌}
 use mathlib.Core.Path.{◌≡◌, refl, sym, ◌∙◌, ap}
-use mathlib.Core.Logic.{◌⊎◌, inl, inr, ◌≢◌}
+use mathlib.Core.Logic.{◌⊎◌, inl, inr}
 use mathlib.Core.Bool.{Bool, true, false}
 use mathlib.Core.List.{List, [], ◌∷◌}
 use native.Mathlib.Omega.{arith}
 use lib.Dec.{ltb, eqb}
-use lib.ListN.{length, get_or, set, length-set, length-map}
-use lib.Seq.{get_or-set_other, get_or-set_same, ext_get_or}
-use borrow.Author.Tests.{eqb-true, eqb-false, ltb-true, ltb-false, le-leb, lt-leb}
+use lib.ListN.{length, get_or, length-map}
+use lib.Seq.{ext_get_or}
+use borrow.Author.Tests.{ltb-true, ltb-false, le-leb, lt-leb}
 use Rattle.conv.specs.Types.{Ty, formed}
 use Rattle.overload.specs.Overload.{Judged}
 use Rattle.overload.specs.Overload.Judged.{gives, none_fits}
@@ -154,9 +154,6 @@ module _ (w : List ℕ) (n : ℕ) (v : List ℕ) (m : ℕ) (g : Grew w n v m) wh
 
 -- a hint keeps what the slots say
 
-pub hinted : (memo : List ℕ) (k x : ℕ) → slots ≤ k → Hinted memo (set memo k x)
-hinted memo k x h = record { size = length-set memo k x; each = λ i l. get_or-set_other memo k i x 0 (λ e. omega arith) }
-
 pub unhinted : (memo : List ℕ) → Hinted memo memo
 unhinted memo = record { size = refl; each = λ i l. refl }
 
@@ -170,22 +167,6 @@ recalls-noted memo w n key t after r h d = record { size = d.size ∙ r.size; ho
     go : (i : ℕ) → (get_or after i 0 ≡ slot_of key t) ⊎ ((j : ℕ) × (j < slots) × (get_or after i 0 ≡ get_or memo j 0)) → Holds w n (get_or after i 0)
     go i (inl e) = rw e h
     go i (inr z) = rw z.2 (r.holds z.0 z.1)
-
--- a note in the first of two slots, with what that had in the second
-pub noted-first : (memo : List ℕ) (k key t x : ℕ) → x ≡ slot_of key t → length memo ≡ room → k + 1 < slots → Noted memo key t (set (set memo (k + 1) (get_or memo k 0)) k x)
-noted-first memo k key t x e l h =
-    let moved = set memo (k + 1) (get_or memo k 0) in
-    let m : length moved ≡ length memo = length-set memo (k + 1) (get_or memo k 0) in
-    record {
-      size = length-set moved k x ∙ m;
-      each = λ i b.
-          split (eqb i k)
-          (λ q. let z : i ≡ k = eqb-true i k q in inl (rw z (get_or-set_same moved k x 0 (omega (arith, m, l)) ∙ e)))
-          (λ q. let z : i ≢ k = eqb-false i k q in
-          split (eqb i (k + 1))
-          (λ p. let y : i ≡ k + 1 = eqb-true i (k + 1) p in inr (k, omega arith, get_or-set_other moved k i x 0 z ∙ rw y (get_or-set_same memo (k + 1) (get_or memo k 0) 0 (omega (arith, l)))))
-          (λ p. let y : i ≢ k + 1 = eqb-false i (k + 1) p in inr (i, b, get_or-set_other moved k i x 0 z ∙ get_or-set_other memo (k + 1) i (get_or memo k 0) 0 y)));
-    }
 
 -- a memo of empty slots, which a test finds
 pub recalls-none : (memo w : List ℕ) (n : ℕ) → length memo ≡ room → zeros memo ≡ true → Recalls memo w n

@@ -105,6 +105,7 @@ fn hint_of(name: &[u8]) -> usize
 }
 
 // What a run has met: types that were given, each in a slot that says for what, and behind them hints.
+// Stays: a slot is a number, as `slot_of` and `Holds` have it, and no Option of a key and a type: 0 is no key's, and one read and one comparison find it.
 // Stays: one array and no second one for the hints, since the edit `hint_over_a_value` is that a hint falls on a slot.
 #[derive(Drop)]
 pub struct Memo {
