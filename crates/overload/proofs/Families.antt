@@ -33,7 +33,7 @@ shape-eq a b h =
     let r = eqb→eq (rows_of a) (rows_of b) (both_right (eqb (columns_of a) (columns_of b)) _ h₂) in
     sym (remade a) ∙ (λ i. remake_shape (f i) (c i) (r i)) ∙ remade b
 
-size-eq : (a b : Size) → T (same_size a b) → a ≡ b
+pub size-eq : (a b : Size) → T (same_size a b) → a ≡ b
 unfolding same_size
 size-eq a b h =
     let k = eqb→eq a.inner b.inner (both_left _ _ h) in

@@ -1,11 +1,13 @@
 -- The lines of the tables: what a number has as its entries, by tests that antt computes. Assumes nothing.
-use Rattle.std.proofs.Common.{◌≡◌, ℕ, ◌+◌, ◌*◌, ◌<◌, ◌≤◌, T, eqb, ltb, List, [], length, get_or, sym, ap, ◌∙◌, subst, not-suc-le-zero, eqb→eq, ltb→lt, lt→ltb}
+use Rattle.std.proofs.Common.{◌≡◌, ℕ, ◌+◌, ◌*◌, ◌<◌, ◌≤◌, Bool, true, false, T, eqb, ltb, List, [], ◌∷◌, length, get_or, sym, refl, ap, ◌∙◌, subst, not-suc-le-zero, eqb→eq, ltb→lt, lt→ltb}
+use borrow.Author.Tests.{ltb-true, ltb-false}
 use lib.ListN.{get_or-eq_default}
 use Rattle.conv.specs.Rank.{both}
 use Rattle.conv.proofs.Finite.{both_left, both_right, implies, modus, same, same-eq, all, below, below₂}
 use Rattle.overload.specs.Rows.{Size, Family, Row, rows, row_at, no_row, operand_count}
-use Rattle.overload.specs.inner.Code.{no_family, family_of, families, start_of, place_of, stop_of, encode, asked_of, entry, bit, has, member, sets, set_of, size_lists, sizes_of, mem_size, size_of_no, slot_t, RowLine, Word, Starts, Sizes, Scalars, Reached}
+use Rattle.overload.specs.inner.Code.{no_family, family_of, families, start_of, place_of, stop_of, encode, asked_of, entry, bit, has, member, sets, set_of, size_lists, sizes_of, same_size, mem_size, size_of_no, slot_t, RowLine, Word, Starts, Sizes, Scalars, Reached}
 use Rattle.overload.proofs.Listing.{row-family}
+use Rattle.overload.proofs.Families.{size-eq}
 
 -- a line whose entries pass the test has them
 pub line : (b n : ℕ) (g : ℕ → ℕ) (w : ℕ) → T (all n (λ i. eqb (entry b w i) (g i))) → (i : ℕ) → i < n → entry b w i ≡ g i
@@ -84,3 +86,70 @@ no-set-line t h = set-of [] t (get_or-eq_default sets [] h)
 pub reached-line : (k : ℕ) {w of : ℕ} → T (all 7 (λ s. all 7 (λ t. same (has (entry 8 w s) t) (slot_t k s t)))) → of ≡ k → Reached of w
 reached-line k {w} t e =
     subst (λ (of : ℕ). Reached of w) (sym e) (record { within = λ s u hs hu. same-eq _ _ (below₂ 7 7 (λ s u. same (has (entry 8 w s) u) (slot_t k s u)) t s u hs hu) })
+
+-- A TABLE: what holds of each of its lines, and past the last of what stands there, holds at every number of what is read
+
+pub read : (P : ℕ → ℕ → Type 0) (xs : List ℕ) (d : ℕ) → ((k : ℕ) → k < length xs → P k (get_or xs k d)) → ((k : ℕ) → length xs ≤ k → P k d) → (k r : ℕ) → r ≡ get_or xs k d → P k r
+read P xs d here past k r e = go (ltb k (length xs)) refl
+  where
+    go : (b : Bool) → ltb k (length xs) ≡ b → P k r
+    go true q = subst (P k) (sym e) (here k (ltb-true k (length xs) q))
+    go false q =
+        let l = ltb-false k (length xs) q in
+        subst (P k) (sym (e ∙ get_or-eq_default xs d l)) (past k l)
+
+-- all lines of a table at once, by one test that antt computes
+
+unfoldable pub row_test : ℕ → ℕ → Bool
+row_test k w =
+    both (all 9 (λ i. eqb (entry 4 w i) (place_of i (row_at k).families 0)))
+    (both (eqb (entry 4 w 9) (stop_of (row_at k).families)) (both (eqb (entry 8 w 5) (start_of k)) (eqb (entry 4 w 12) (operand_count (row_at k)))))
+
+pub row-lines : (n : ℕ) (g : ℕ → ℕ) → T (all n (λ k. row_test k (g k))) → (k : ℕ) → k < n → RowLine k (g k)
+unfolding row_test
+row-lines n g t k h =
+    let w = g k in
+    let a = below n (λ k. row_test k (g k)) t k h in
+    let b = both_right (all 9 (λ i. eqb (entry 4 w i) (place_of i (row_at k).families 0))) _ a in
+    let c = both_right (eqb (entry 4 w 9) (stop_of (row_at k).families)) _ b in
+    row_line k (both_left _ _ a) (eqb→eq _ _ (both_left _ _ b)) (eqb→eq _ _ (both_left _ _ c)) (eqb→eq _ _ (both_right (eqb (entry 8 w 5) (start_of k)) _ c)) refl
+
+-- two lists by a test of their items
+unfoldable pub same_lists : {A : Type 0} → (A → A → Bool) → List A → List A → Bool
+same_lists g [] [] = true
+same_lists g [] (y ∷ ys) = false
+same_lists g (x ∷ xs) [] = false
+same_lists g (x ∷ xs) (y ∷ ys) = both (g x y) (same_lists g xs ys)
+
+same-lists : {A : Type 0} (g : A → A → Bool) → ((a b : A) → T (g a b) → a ≡ b) → (xs ys : List A) → T (same_lists g xs ys) → xs ≡ ys
+unfolding same_lists
+same-lists g e [] [] t = refl
+same-lists g e [] (y ∷ ys) t = absurd t
+same-lists g e (x ∷ xs) [] t = absurd t
+same-lists g e (x ∷ xs) (y ∷ ys) t = let p = e x y (both_left _ _ t) in let q = same-lists g e xs ys (both_right (g x y) _ t) in λ i. p i ∷ q i
+
+unfoldable pub word_test : ℕ → ℕ → Bool
+word_test k w =
+    both (all 13 (λ i. eqb (entry 4 w i) (get_or (encode (family_of k)) i 0)))
+    (both (same_lists same_size (sizes_of (entry 4 w 13)) (family_of k).sizes) (both (same_lists eqb (set_of (entry 4 w 14)) (family_of k).set) (same_lists eqb (set_of (entry 4 w 15)) (family_of k).second)))
+
+pub word-lines : (n : ℕ) (g : ℕ → ℕ) → T (all n (λ k. word_test k (g k))) → (k : ℕ) → k < n → Word k (g k)
+unfolding word_test
+word-lines n g t k h =
+    let w = g k in
+    let a = below n (λ k. word_test k (g k)) t k h in
+    let b = both_right (all 13 (λ i. eqb (entry 4 w i) (get_or (encode (family_of k)) i 0))) _ a in
+    let c = both_right (same_lists same_size (sizes_of (entry 4 w 13)) (family_of k).sizes) _ b in
+    word_line k (both_left _ _ a) (same-lists same_size size-eq _ _ (both_left _ _ b)) (same-lists eqb eqb→eq _ _ (both_left _ _ c)) (same-lists eqb eqb→eq _ _ (both_right (same_lists eqb (set_of (entry 4 w 14)) (family_of k).set) _ c)) refl
+
+pub starts-lines : (n : ℕ) (g : ℕ → ℕ) → T (all n (λ k. all 7 (λ i. implies (ltb (asked_of i k) 13) (eqb (entry 8 (g k) i) (7 * asked_of i k))))) → (k : ℕ) → k < n → Starts k (g k)
+starts-lines n g t k h = starts-line k (below n (λ k. all 7 (λ i. implies (ltb (asked_of i k) 13) (eqb (entry 8 (g k) i) (7 * asked_of i k)))) t k h) refl
+
+pub sizes-lines : (n : ℕ) (g : ℕ → ℕ) → T (all n (λ k. all 41 (λ m. same (bit (g k) m) (mem_size (size_of_no m) (sizes_of k))))) → (k : ℕ) → k < n → Sizes k (g k)
+sizes-lines n g t k h = sizes-line k (below n (λ k. all 41 (λ m. same (bit (g k) m) (mem_size (size_of_no m) (sizes_of k)))) t k h) refl
+
+pub set-lines : (n : ℕ) (g : ℕ → ℕ) → T (all n (λ k. both (ltb (g k) 128) (all 7 (λ s. same (has (g k) s) (member s (set_of k)))))) → (k : ℕ) → k < n → Scalars k (g k)
+set-lines n g t k h = set_line k (below n (λ k. both (ltb (g k) 128) (all 7 (λ s. same (has (g k) s) (member s (set_of k))))) t k h) refl
+
+pub reached-lines : (n : ℕ) (g : ℕ → ℕ) → T (all n (λ k. all 7 (λ s. all 7 (λ t. same (has (entry 8 (g k) s) t) (slot_t k s t))))) → (k : ℕ) → k < n → Reached k (g k)
+reached-lines n g t k h = reached-line k (below n (λ k. all 7 (λ s. all 7 (λ t. same (has (entry 8 (g k) s) t) (slot_t k s t)))) t k h) refl
