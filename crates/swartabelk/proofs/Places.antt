@@ -20,6 +20,7 @@ use Rattle.table.specs.Enter.{free, entered, entry_answer, enter_type_reply}
 use Rattle.table.specs.Placing.{Outcome, placed, entering, enter_type}
 use Rattle.table.specs.declared.Entry.{Entry}
 use Rattle.std.specs.Prelude.{Result, Ok, Err}
+use Rattle.answer.specs.declared.Reason.{Reason}
 use Rattle.table.specs.declared.Entered.{Entered}
 use Rattle.table.specs.declared.Lacks.{Lacks}
 use Rattle.answer.specs.declared.Answer.{Answer}
@@ -32,7 +33,6 @@ use Rattle.tplt.specs.Heads.{head_of}
 use Rattle.tplt.specs.Params.{params_of, types_known, arguments_of}
 use Rattle.tplt.specs.Templates.{parsed_of, type_of, outcome_of, template_outcome}
 use Rattle.tplt.specs.declared.Parsed.{Parsed}
-use Rattle.tplt.specs.declared.Parsed.TheVariants.{OfVec, OfMat, OfAtomic, OfArray, Wrong}
 
 -- an answer is no refusal, or one at this place with this count
 abbrev pub At : ℕ → ℕ → Answer → Type 0
@@ -126,13 +126,10 @@ module _ (w : List ℕ) (n : ℕ) where
       (refl, refl))
       (refl, refl)
 
-  parsed-at : (p : Parsed) → At 0 n (outcome_of w n p).answer
+  parsed-at : (x : Result Parsed Reason) → At 0 n (outcome_of w n x).answer
   unfolding outcome_of
-  parsed-at (OfVec x) = entering-at 0 w n (type_of w (OfVec x))
-  parsed-at (OfMat x) = entering-at 0 w n (type_of w (OfMat x))
-  parsed-at (OfAtomic x) = entering-at 0 w n (type_of w (OfAtomic x))
-  parsed-at (OfArray x) = entering-at 0 w n (type_of w (OfArray x))
-  parsed-at (Wrong r) = (refl, refl)
+  parsed-at (Ok p) = entering-at 0 w n (type_of w p)
+  parsed-at (Err r) = (refl, refl)
 
   pub type-template-at : (head : List ℕ) (args : List ℤ) → At 0 n (template_outcome w n head args).answer
   unfolding template_outcome
