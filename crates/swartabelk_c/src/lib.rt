@@ -1,4 +1,5 @@
 // What C calls, under the names that include/swartabelk.h declares: each function is the one of the library `swartabelk` with its name, and promises what that does.
+// Stays: a twin of each function of `swartabelk`: C's names are fixed, and a crate is a library, which Rust calls, or a static library, which C does.
 #![tactic(auto)]
 
 ghost use Rattle.std.specs.Prelude.{◌≡◌, false};

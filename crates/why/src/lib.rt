@@ -85,13 +85,16 @@ fn binary_rule(op: usize) -> u8
 fn has_ruling(rule: u8) -> bool
     ensures { result ≡ has_ruling (numbered rule) }
 {
-    (rule < names::RULE_BITCAST)
-        | (rule == names::RULE_ARRAY_LENGTH)
-        | (rule == names::RULE_ATOMIC_LOAD)
-        | (rule == names::RULE_ATOMIC_UPDATE)
-        | (rule == names::RULE_ATOMIC_STORE)
-        | (rule == names::RULE_ATOMIC_COMPARE)
-        | (rule == names::RULE_UNIFORM_LOAD)
+    matches!(
+        rule,
+        0..names::RULE_BITCAST
+            | names::RULE_ARRAY_LENGTH
+            | names::RULE_ATOMIC_LOAD
+            | names::RULE_ATOMIC_UPDATE
+            | names::RULE_ATOMIC_STORE
+            | names::RULE_ATOMIC_COMPARE
+            | names::RULE_UNIFORM_LOAD
+    )
 }
 
 // What there is to tell of a unary operator on the operand a.
@@ -186,8 +189,7 @@ fn put_fitting(
     ensures written { Written n (together (asked_pieces words.now args.now asked)) out.old result out.new }
     ensures short { Short result }
 {
-    let none = 0;
-    let len = put_all(words, n, asked, args, &mut out[..none]);
+    let len = put_all(words, n, asked, args, &mut []);
     if out.len() < len {
         return Err(Refusal {
             reason: Reason::TooLong,
