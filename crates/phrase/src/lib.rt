@@ -61,11 +61,9 @@ fn put_params(out: &mut [u8], at: usize, ps: &[u8]) -> usize
     ensures upper_bound { result ≤ at + length ps.now * 100 }
 {
     let mut a = at;
-    let mut i = 0;
-    while i < ps.len() {
+    for (i, p) in ps.iter().enumerate() {
         let b = put_gap(out, a, i, b", ");
-        a = put_shaped(out, b, ps[i]);
-        i += 1;
+        a = put_shaped(out, b, *p);
     }
     a
 }
@@ -92,35 +90,33 @@ pub fn put_operand(out: &mut [u8], at: usize, k: usize) -> usize
 }
 
 // The ranks of operands at their parameters, with a blank between two.
+// Stays: a loop like that of `put_params`. One function over a closure would say `Put` and a room of each call, and each closure its own: more than the loop.
 fn put_numbers(out: &mut [u8], at: usize, ps: &[u8], xs: &[u8]) -> usize
     requires { (at + length ps.now * 30 ≤ far) × Shaped ps.now × (length xs.now ≡ length ps.now) }
     ensures put { Put out.old at (apart (ascii " ") (map decimal (ranks_of (map operand ps.now) (map operand xs.now)))) result out.new }
     ensures upper_bound { result ≤ at + length ps.now * 30 }
 {
     let mut a = at;
-    let mut i = 0;
-    while i < ps.len() {
+    for (i, p) in ps.iter().enumerate() {
         let b = put_gap(out, a, i, b" ");
-        let rank = weigh::cost(xs[i], ps[i]);
+        let rank = weigh::cost(xs[i], *p);
         a = text::put_number(out, b, wide(rank));
-        i += 1;
     }
     a
 }
 
 // The word for so many ranks.
+#[tactic(auto, unfolding(crate::specs::Phrase::ranks_word, text::specs::Text::ascii))]
 fn put_word(out: &mut [u8], at: usize, k: usize) -> usize
     requires { at < far }
     ensures put { Put out.old at (ranks_word k) result out.new }
     ensures upper_bound { result ≤ at + 8 }
 {
-    if k == 0 {
-        return at;
+    match k {
+        0 => at,
+        1 => text::put_text(out, at, b", rank "),
+        _ => text::put_text(out, at, b", ranks "),
     }
-    if k == 1 {
-        return text::put_text(out, at, b", rank ");
-    }
-    text::put_text(out, at, b", ranks ")
 }
 
 // The ranks of operands at their parameters, with the word for them.

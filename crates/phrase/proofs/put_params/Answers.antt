@@ -14,22 +14,22 @@ use Rattle.phrase.proofs.put_params.Goals as goal
 
 pub loop-i-init : goal.loop-i-init
 unfolding apart
-loop-i-init c = (omega arith, put-nothing _ _, omega arith)
+loop-i-init c = (put-nothing _ _, omega arith)
 
 pub put_gap-b-requires : goal.put_gap-b-requires
 unfolding ascii
-put_gap-b-requires c = omega (arith, c.loop-i.invariant.2)
+put_gap-b-requires c = omega (arith, c.loop-i.invariant.1)
 
 pub put_shaped-a-requires : goal.put_shaped-a-requires
 unfolding ascii
-put_shaped-a-requires c = (omega (arith, c.put_gap-b.ensures.place, gap-long c.loop-i.i (ascii ", "), c.loop-i.invariant.2, c.requires.0), c.requires.1 c.loop-i.i c.loop-i-test.true)
+put_shaped-a-requires c = (omega (arith, c.put_gap-b.ensures.place, gap-long c.loop-i.i (ascii ", "), c.loop-i.invariant.1, c.requires.0), c.requires.1 c.loop-i.i c.loop-i-test.true)
 
 pub loop-i-preserved : goal.loop-i-preserved
 unfolding ascii
-loop-i-preserved c = let a = c.args in let l = c.loop-i in (omega arith, put_as (ap (λ (t : List ℕ). apart (ascii ", ") (take l.i (spelled a.ps.now)) ++ gap_at l.i (ascii ", ") ++ t) (sym (spelled_at a.ps.now l.i c.loop-i-test.true)) ∙ sym (apart_next (ascii ", ") (spelled a.ps.now) l.i (omega (arith, spelled-long a.ps.now)))) (put-put (put-put l.invariant.1 c.put_gap-b.ensures) c.put_shaped-a.ensures.put), omega (arith, c.put_gap-b.ensures.place, gap-long l.i (ascii ", "), c.put_shaped-a.ensures.upper_bound, l.invariant.2))
+loop-i-preserved c = let a = c.args in let l = c.loop-i in (put_as (ap (λ (t : List ℕ). apart (ascii ", ") (take l.i (spelled a.ps.now)) ++ gap_at l.i (ascii ", ") ++ t) (sym (spelled_at a.ps.now l.i c.loop-i-test.true)) ∙ sym (apart_next (ascii ", ") (spelled a.ps.now) l.i (omega (arith, spelled-long a.ps.now)))) (put-put (put-put l.invariant.0 c.put_gap-b.ensures) c.put_shaped-a.ensures.put), omega (arith, c.put_gap-b.ensures.place, gap-long l.i (ascii ", "), c.put_shaped-a.ensures.upper_bound, l.invariant.1))
 
 pub shape_of-out : goal.shape_of-out
-shape_of-out c = put-long c.loop-i.invariant.1
+shape_of-out c = put-long c.loop-i.invariant.0
 
 pub returns : goal.returns
-returns c = let a = c.args in let l = c.loop-i in record { put = put_as (ap (apart (ascii ", ")) (take_all l.i (spelled a.ps.now) (omega (arith, spelled-long a.ps.now)))) l.invariant.1; upper_bound = omega (arith, l.invariant.2, l.invariant.0) }
+returns c = let a = c.args in let l = c.loop-i in record { put = put_as (ap (apart (ascii ", ")) (take_all l.i (spelled a.ps.now) (omega (arith, spelled-long a.ps.now)))) l.invariant.0; upper_bound = omega (arith, l.invariant.1, c.loop-i.auto.i-end) }
