@@ -7,43 +7,9 @@ ghost use Rattle.table.specs.Denote.{type_at};
 ghost use Rattle.text.specs.Text.{decimal, far, Put};
 ghost use Rattle.spell.specs.Spell.{spelling};
 ghost use Rattle.spell.specs.Reply.{refuse_spelling, SpellDone};
-ghost use Rattle.spell.specs.inner.Parts.{text_count, text_width, blank, text_of, head_text, opening, last_of, closing, args_of, fract_text, fract_part, half, span};
+ghost use Rattle.spell.specs.inner.Parts.{text_of, head_text, opening, last_of, closing, args_of, fract_text, fract_part, half, span};
 
 use table::{Entry, Place, Reason, Refusal, TypeNo};
-
-// The texts that spellings are made of, each padded with spaces: by kind, the scalars and the heads; then the spaces, the accesses,
-// and what a result type's name calls AbstractFloat.
-const TEXT_COUNT: usize = 27;
-
-const TEXT_WIDTH: usize = 32;
-
-const TEXTS: [u8; 864] = *b"bool                            \
-    AbstractInt                     \
-    AbstractFloat                   \
-    i32                             \
-    u32                             \
-    f32                             \
-    f16                             \
-    vec                             \
-    mat                             \
-    array                           \
-    array                           \
-    atomic                          \
-    ptr                             \
-    ref                             \
-    __frexp_result_                 \
-    __modf_result_                  \
-    __atomic_compare_exchange_result\
-    function                        \
-    private                         \
-    workgroup                       \
-    uniform                         \
-    storage                         \
-    handle                          \
-    read                            \
-    write                           \
-    read_write                      \
-    abstract                        ";
 
 const TEXT_SPACES: usize = 17;
 
@@ -51,12 +17,41 @@ const TEXT_ACCESSES: usize = 23;
 
 const TEXT_ABSTRACT: usize = 26;
 
-// Byte j of text k, or a space past its end. The table is read here and nowhere else.
-fn text_byte(k: usize, j: usize) -> u8
-    requires { (k < text_count) × (j < text_width) }
-    ensures { result ≡ get_or (text_of k) j blank }
+// The texts that spellings are made of: by kind, the scalars and the heads; then the spaces, the accesses, and what a result type's
+// name calls AbstractFloat. Any other is empty.
+fn text_at(k: usize) -> &'static [u8]
+    ensures { result.now ≡ text_of k }
 {
-    TEXTS[k * TEXT_WIDTH + j]
+    match k {
+        0 => b"bool",
+        1 => b"AbstractInt",
+        2 => b"AbstractFloat",
+        3 => b"i32",
+        4 => b"u32",
+        5 => b"f32",
+        6 => b"f16",
+        7 => b"vec",
+        8 => b"mat",
+        9 => b"array",
+        10 => b"array",
+        11 => b"atomic",
+        12 => b"ptr",
+        13 => b"ref",
+        14 => b"__frexp_result_",
+        15 => b"__modf_result_",
+        16 => b"__atomic_compare_exchange_result",
+        17 => b"function",
+        18 => b"private",
+        19 => b"workgroup",
+        20 => b"uniform",
+        21 => b"storage",
+        22 => b"handle",
+        23 => b"read",
+        24 => b"write",
+        25 => b"read_write",
+        26 => b"abstract",
+        _ => b"",
+    }
 }
 
 // Text k from a place on.
@@ -64,19 +59,7 @@ pub fn put_text(out: &mut [u8], at: usize, k: usize) -> usize
     requires { at < far * 2 }
     ensures { Put out.old at (text_of k) result out.new }
 {
-    if TEXT_COUNT <= k {
-        return at;
-    }
-    let mut j = 0;
-    while j < TEXT_WIDTH {
-        let b = text_byte(k, j);
-        if b == b' ' {
-            return at + j;
-        }
-        text::put_byte(out, at + j, b);
-        j += 1;
-    }
-    at + j
+    text::put_text(out, at, text_at(k))
 }
 
 // A word of an entry in decimal.

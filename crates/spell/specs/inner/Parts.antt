@@ -19,16 +19,6 @@ texts = scalar_names ++ head_names ++ space_names ++ access_names ++ ("abstract"
 unfoldable pub text_of : ℕ → List ℕ
 text_of k = named texts k
 
--- how many texts there are, and how long a row of them is, padded with spaces
-abbrev pub text_count : ℕ
-text_count = 27
-
-abbrev pub text_width : ℕ
-text_width = 32
-
-abbrev pub blank : ℕ
-blank = 32
-
 -- where the spaces and the accesses begin among the texts, and where `abstract` stands
 abbrev pub text_spaces : ℕ
 text_spaces = 17
