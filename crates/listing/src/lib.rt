@@ -10,10 +10,8 @@ ghost use Rattle.listing.specs.inner.Places.{count_of, t_at, n_at, i_at, size_in
 
 use cast::wide;
 use conv::{ABSTRACT_FLOAT, ABSTRACT_INT, I32};
-use overload::tables::{Family, Row, Size};
+use overload::tables::{Family, Row, Size, line};
 
-// How many rows there are.
-const ROWS: usize = 54;
 // By row, as specs/Rows.antt of `overload` numbers them: how many overloads it has.
 const COUNTS: [u8; 54] = [
     4, 20, 12, 1, 87, 249, 60, 28, 24, 16, 12, 12, 12, 12, 12, 21, 24, 24, 24, 8, 8, 8, 12, 12, 18,
@@ -27,63 +25,47 @@ const OF_EXP: u8 = 8;
 const OF_T: u8 = 9;
 
 // By set of scalars: how many it has, and each of them, by number. An octal digit each, from the right.
+// Stays: `overload` has the same sets as bits in the order of preference, by which its engine goes. To count those and to pick one by its number would take a loop.
+const SETS: [u64; 11] = [
+    0o0_1, // 0 only bool
+    0o65321_5, // 1 signed
+    0o431_3, // 2 integer
+    0o654321_6, // 3 numeric
+    0o652_3, // 4 float
+    0o6543210_7, // 5 bool ∷ numeric
+    0o43_2, // 6 bits
+    0o5_1, // 7 only f32
+    0o3_1, // 8 only i32
+    0o4_1, // 9 only u32
+    0o6543_4, // 10 concrete
+];
+
+// The line of a set.
 fn set_line(k: u8) -> u64
     ensures { SetLine k result }
 {
-    match k {
-        // only bool
-        0 => 0o0_1,
-        // signed
-        1 => 0o65321_5,
-        // integer
-        2 => 0o431_3,
-        // numeric
-        3 => 0o654321_6,
-        // float
-        4 => 0o652_3,
-        // bool ∷ numeric
-        5 => 0o6543210_7,
-        // bits
-        6 => 0o43_2,
-        // only f32
-        7 => 0o5_1,
-        // only i32
-        8 => 0o3_1,
-        // only u32
-        9 => 0o4_1,
-        // concrete
-        10 => 0o6543_4,
-        _ => 0,
-    }
+    line(&SETS, k as usize, 0)
 }
 
 // By list of sizes: how many it has, the first, and how far it is to the next and to the third after it. Two hexadecimal digits each, from the right.
+const SIZES: [u64; 10] = [
+    0x00_00_00_01, // 0 scalars
+    0x00_00_01_01, // 1 width 2
+    0x00_00_02_01, // 2 width 3
+    0x00_00_03_01, // 3 width 4
+    0x03_01_01_03, // 4 vectors
+    0x03_01_00_04, // 5 wides
+    0x03_01_04_09, // 6 matrices
+    0x01_03_04_09, // 7 matrices_by_rows
+    0x0c_04_04_03, // 8 squares
+    0x03_01_0e_1b, // 9 products
+];
+
+// The line of a list of sizes.
 fn sizes_line(k: u8) -> u64
     ensures { SizesLine k result }
 {
-    match k {
-        // scalars
-        0 => 0x00_00_00_01,
-        // width 2
-        1 => 0x00_00_01_01,
-        // width 3
-        2 => 0x00_00_02_01,
-        // width 4
-        3 => 0x00_00_03_01,
-        // vectors
-        4 => 0x03_01_01_03,
-        // wides
-        5 => 0x03_01_00_04,
-        // matrices
-        6 => 0x03_01_04_09,
-        // matrices_by_rows
-        7 => 0x01_03_04_09,
-        // squares
-        8 => 0x0c_04_04_03,
-        // products
-        9 => 0x03_01_0e_1b,
-        _ => 0,
-    }
+    line(&SIZES, k as usize, 0)
 }
 
 // The scalar at a place of a set, by the set's line.
@@ -185,22 +167,11 @@ fn in_family(f: Family, j: u64) -> [u8; 4]
     [a, b, c, d]
 }
 
-// The count of a row that there is.
-fn count_byte(row: usize) -> u8
-    requires { row < 54 }
-    ensures { result ≡ length (overloads_of (row_at row)) }
-{
-    COUNTS[row]
-}
-
 // How many overloads a row has.
 pub fn count(row: usize) -> usize
     ensures { (result ≡ length (overloads_of (row_at row))) × (result < 256) }
 {
-    if ROWS <= row {
-        return 0;
-    }
-    wide(count_byte(row))
+    wide(line(&COUNTS, row, 0))
 }
 
 // The parameters of the overload at place j of a row, as operands' numbers.

@@ -5,7 +5,7 @@ ghost use Rattle.overload.specs.Rows.{row_at, operand_count};
 ghost use Rattle.overload.specs.inner.Code.{digit_of, asked_of, entry, place_of, placed, stop_of, slot_t, RowLine, Word, Starts, Sizes, Scalars, Reached, has, member, set_of, mem_size, size_of_no, family_of, sizes_of};
 
 // The line of a table at a number, or what stands past its last.
-fn line(lines: &[u64], k: usize, past: u64) -> u64
+pub fn line<T: Copy + Drop>(lines: &[T], k: usize, past: T) -> T
     ensures { result ≡ slice_index_or lines.now k past }
 {
     lines.get(k).copied().unwrap_or(past)
@@ -72,6 +72,7 @@ const ROWS: [u64; 54] = [
 // What stands past the last.
 const NO_ROW: u64 = 0x0_00_0_fffffffff;
 
+// The line of a row.
 fn row_line(row: usize) -> u64
     ensures { RowLine row result }
 {
@@ -154,6 +155,7 @@ const FAMILIES: [u64; 69] = [
 // What stands past the last.
 const NO_FAMILY: u64 = 0xf_f_f_0_0_90_90_90_90_90_0;
 
+// The line of a family.
 fn family_word(f: u64) -> u64
     ensures { Word f result }
 {
@@ -205,6 +207,7 @@ const STARTS: [u64; 41] = [
     0x54_54_54_15_15_00_54, // 40
 ];
 
+// The line of a size.
 fn starts_at(n: u8) -> u64
     requires { n < 41 }
     ensures { Starts n result }
@@ -232,6 +235,7 @@ const SIZES: [u64; 16] = [
     0, // 15
 ];
 
+// The line of a list of sizes.
 pub fn sizes_line(k: u8) -> u64
     ensures { Sizes k result }
 {
@@ -258,6 +262,7 @@ const SETS: [u64; 16] = [
     0, // 15
 ];
 
+// The line of a set.
 pub fn set_line(k: u8) -> u64
     ensures { Scalars k result }
 {
@@ -277,6 +282,7 @@ const REACHED: [u64; 9] = [
     0x00_00_00_6d_00_7f_00, // 8 AbstractInt at an abstract T, else i32
 ];
 
+// The line of a component other than T.
 fn reached_at(of: u8) -> u64
     requires { of < 9 }
     ensures { Reached of result }
