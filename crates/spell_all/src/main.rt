@@ -2,19 +2,15 @@
 // asks for one spelling with an output of just its length, one byte short, and empty; and for numbers and tables that are refused.
 #![tactic(auto)]
 
-ghost use Rattle.std.specs.Prelude.{◌<◌};
-
 use std::io;
 use table::{
     ACCESS_READ, ACCESS_READ_WRITE, ACCESS_WRITE, Answer, Entry, KIND_ARRAY, KIND_ATOMIC,
-    KIND_EXCHANGE, KIND_FREXP, KIND_MAT, KIND_MODF, KIND_PTR, KIND_REF, KIND_RUNTIME, KIND_VEC, Refusal,
-    SPACE_FUNCTION, SPACE_HANDLE, SPACE_PRIVATE, SPACE_STORAGE, SPACE_UNIFORM, SPACE_WORKGROUP,
-    TypeNo,
+    KIND_EXCHANGE, KIND_FREXP, KIND_MAT, KIND_MODF, KIND_PTR, KIND_REF, KIND_RUNTIME, KIND_VEC,
+    Refusal, SPACE_FUNCTION, SPACE_HANDLE, SPACE_PRIVATE, SPACE_STORAGE, SPACE_UNIFORM,
+    SPACE_WORKGROUP, TypeNo,
 };
 
 // The words kind, p, q and elem of the entries from number 7 on.
-const COUNT: usize = 69;
-
 const ENTRIES: [[u32; 4]; 69] = [
     [KIND_VEC, 2, 0, 0], // 7
     [KIND_VEC, 3, 0, 1],
@@ -87,21 +83,14 @@ const ENTRIES: [[u32; 4]; 69] = [
     [KIND_PTR, SPACE_FUNCTION, ACCESS_READ_WRITE, 72], // 75
 ];
 
-// Word j of row k.
-fn word(k: usize, j: usize) -> u32
-    requires { (k < 69) × (j < 4) }
-{
-    ENTRIES[k][j]
-}
-
 // The used count after entering one entry.
-fn enter(rt: &impl Print, words: &mut [u32], n: usize, e: Entry) -> io::Result<usize> {
-    let r = entering::enter_type(words, n, e);
-    match r {
+fn enter(rt: &impl Print, words: &mut [u32], n: usize, row: [u32; 4]) -> io::Result<usize> {
+    let [kind, p, q, elem] = row;
+    match entering::enter_type(words, n, Entry { kind, p, q, elem }) {
         Answer::Value(_, m) => Ok(m),
         Answer::NoValue(m) => Ok(m),
         Answer::Refused(_) => {
-            rt.write_all(b"not entered\n")?;
+            println!(rt; "not entered")?;
             Ok(n)
         }
     }
@@ -109,62 +98,35 @@ fn enter(rt: &impl Print, words: &mut [u32], n: usize, e: Entry) -> io::Result<u
 
 fn fill(rt: &impl Print, words: &mut [u32], n: usize) -> io::Result<usize> {
     let mut used = n;
-    for k in 0..COUNT {
-        used = enter(
-            rt,
-            words,
-            used,
-            Entry {
-                kind: word(k, 0),
-                p: word(k, 1),
-                q: word(k, 2),
-                elem: word(k, 3),
-            },
-        )?;
+    for row in ENTRIES {
+        used = enter(rt, words, used, row)?;
     }
     Ok(used)
 }
 
 // The first k bytes, and the end of the line.
 fn write_line(rt: &impl Print, out: &[u8], k: usize) -> io::Result<()> {
-    if k <= out.len() {
-        rt.write_all(&out[0..k])?;
+    if let Some(text) = out.get(..k) {
+        rt.write_all(text)?;
     }
-    rt.write_all(b"\n")
-}
-
-fn write_digit(rt: &impl Print, d: usize) -> io::Result<()> {
-    let b = [(48 + d % 10) as u8];
-    rt.write_all(&b)
-}
-
-// A number below a thousand.
-fn write_number(rt: &impl Print, x: usize) -> io::Result<()> {
-    if 100 <= x {
-        write_digit(rt, x / 100)?;
-    }
-    if 10 <= x {
-        write_digit(rt, x / 10)?;
-    }
-    write_digit(rt, x)
+    println!(rt)
 }
 
 // The numbers of a reply: the length, or the refusal's number, its place and the used count.
 fn write_reply(rt: &impl Print, r: Result<usize, Refusal>) -> io::Result<()> {
     match r {
-        Ok(k) => {
-            rt.write_all(b"length ")?;
-            write_number(rt, k)
-        }
+        Ok(k) => print!(rt; "length {k}"),
         Err(f) => {
-            let why = f.reason;
-            let place = f.place;
-            rt.write_all(b"refused ")?;
-            write_number(rt, table::reason_no(why) as usize)?;
-            rt.write_all(b" at ")?;
-            write_number(rt, place.0)?;
-            rt.write_all(b" used ")?;
-            write_number(rt, f.used)
+            let Refusal {
+                reason,
+                place,
+                used,
+            } = f;
+            print!(rt;
+                "refused {} at {} used {used}",
+                table::reason_no(reason),
+                place.0
+            )
         }
     }
 }
@@ -172,12 +134,11 @@ fn write_reply(rt: &impl Print, r: Result<usize, Refusal>) -> io::Result<()> {
 // The spelling of entry i on a line of its own.
 fn show(rt: &impl Print, words: &[u32], n: usize, i: usize) -> io::Result<()> {
     let mut out = [b'.'; 80];
-    let r = spell::spell(words, n, TypeNo(i), &mut out);
-    match r {
+    match spell::spell(words, n, TypeNo(i), &mut out) {
         Ok(k) => write_line(rt, &out, k),
-        Err(_) => {
-            write_reply(rt, r)?;
-            write_line(rt, &out, 0)
+        Err(f) => {
+            write_reply(rt, Err(f))?;
+            println!(rt)
         }
     }
 }
@@ -189,20 +150,12 @@ fn show_all(rt: &impl Print, words: &[u32], n: usize) -> io::Result<()> {
     Ok(())
 }
 
-// Spells entry i into the first `room` bytes of an output, or into all of it where it has no more.
-fn spell_part(words: &[u32], n: usize, i: usize, out: &mut [u8], room: usize) -> Result<usize, Refusal> {
-    if out.len() < room {
-        return spell::spell(words, n, TypeNo(i), out);
-    }
-    spell::spell(words, n, TypeNo(i), &mut out[..room])
-}
-
 // What entry i comes to in the first `room` bytes of an output of dots: the reply, and the whole output afterwards.
 fn ask(rt: &impl Print, words: &[u32], n: usize, i: usize, room: usize) -> io::Result<()> {
     let mut out = [b'.'; 24];
-    let r = spell_part(words, n, i, &mut out, room);
+    let r = spell::spell(words, n, TypeNo(i), &mut out[..room.min(24)]);
     write_reply(rt, r)?;
-    rt.write_all(b" ")?;
+    print!(rt; " ")?;
     write_line(rt, &out, 24)
 }
 
