@@ -1,28 +1,28 @@
 -- The ways out of a call of a builtin, each as the outcome that its definition gives. Assumes nothing.
-use Prim.Native.Nat.{ℕ, suc, ◌≤◌, ◌<◌}
+use Prim.Native.Nat.{ℕ, ◌≤◌, ◌<◌}
 use mathlib.Core.Path.{◌≡◌, refl, sym, ◌∙◌, ap, subst}
-use mathlib.Core.Logic.{◌≢◌}
+use mathlib.Core.Logic.{◌≢◌, ◌⊎◌, inl, inr}
 use mathlib.Core.Bool.{Bool, true, false, ◌||◌}
 use mathlib.Core.List.{List, [], ◌∷◌, map}
 use native.Mathlib.Omega.{arith}
-use lib.Dec.{eqb, ltb, leb}
+use lib.Dec.{eqb}
 use lib.ListN.{length, get_or, length-map}
-use borrow.Author.Tests.{eq-eqb, ne_eqb, eqb-true, eqb-false, ltb-true, ltb-false, leb-true, leb-false}
+use borrow.Author.Tests.{eq-eqb, ne_eqb, eqb-true}
 use Rattle.conv.specs.Types.{Ty}
 use Rattle.conv.specs.Types.Ty.{scalar, exchange}
 use Rattle.overload.specs.Overload.{Judged, or}
 use Rattle.overload.specs.Marks.{any_running, running_abstract}
-use Rattle.overload.specs.Rows.{row_at, operand_count, judge_atomic, judge_load, judge_length, alone, judge_by}
+use Rattle.overload.specs.Rows.{row_at, judge_atomic, judge_load, judge_length, alone, judge_by}
 use Rattle.overload.proofs.Marks.{judge-kept}
-use Rattle.overload.specs.Rows.Ruling.{array_length}
+use Rattle.overload.specs.Rows.Ruling.{by_row, array_length}
 use Rattle.overload.proofs.Counts.{count-few}
 use Rattle.overload.specs.inner.Code.{operand, code_of, judge_kept}
 use Rattle.overload.proofs.Operands.{and_left, all_formed, codes_of, judge-types}
 use Rattle.names.specs.Names.{Rule, loading, updating, exchanging, uniform_loading}
 use Rattle.names.specs.Names.Rule.{ruling, storing, bitcast, barrier}
 use Rattle.names.specs.Names.Named.{rule, unknown}
-use Rattle.names.specs.inner.Table.{numbered}
-use Rattle.names.proofs.Rules.{numbered-row, numbered-bitcast, numbered-length, numbered-load, numbered-update, numbered-store, numbered-compare, numbered-uniform, numbered-barrier}
+use Rattle.names.specs.inner.Table.{meant}
+use Rattle.names.specs.declared.Rule.TheVariants as code
 use Rattle.answer.specs.Answer.{accept, refuse, marked_by, Accepted, WithoutValue}
 use Rattle.answer.specs.declared.Reason.{Reason}
 use Rattle.answer.specs.declared.Typed.{Typed}
@@ -32,7 +32,6 @@ use Rattle.table.specs.Placing.{Outcome, Gave, GaveMarked, turned_down}
 use Rattle.answer.specs.declared.Answer.{Answer}
 use Rattle.answer.specs.declared.TypeNo.{TypeNo}
 use Rattle.answer.specs.declared.Reason.TheVariants.{Unsound, NoSuchType, Reference, Unknown, Template, Operands, RunningAbstract}
-use Rattle.table.proofs.KindLaws.{split}
 use Rattle.table.proofs.FormedLaws.{formed-at}
 use Rattle.table.proofs.PlacingLaws.{standing-outcome}
 use Rattle.table.proofs.Giving.{gave, gave-marked}
@@ -60,188 +59,124 @@ gave-as-marked {m = m} {r = r} {v = v} e g = subst (λ (x : Outcome). GaveMarked
 
 -- THE TEMPLATE LIST
 
--- a rule by its number is none but `bitcast`, or wants no list
-no-list : (k : ℕ) (ts : List Ty) → k ≢ 100 → template_right (numbered k) ts ≡ eqb (length ts) 0
-unfolding template_right numbered
-no-list k ts h =
-    split (ltb k 100) (λ a. rw a) (λ a.
-    split (eqb k 101) (λ b. rw (a, ne_eqb k 100 h, b)) (λ b.
-    split (eqb k 104) (λ e. rw (a, ne_eqb k 100 h, b, e)) (λ e.
-    split (eqb k 105) (λ f. rw (a, ne_eqb k 100 h, b, e, f)) (λ f.
-    split (eqb k 106) (λ g. rw (a, ne_eqb k 100 h, b, e, f, g)) (λ g.
-    split (eqb k 107) (λ i. rw (a, ne_eqb k 100 h, b, e, f, g, i)) (λ i.
-    split (eqb k 108) (λ j. rw (a, ne_eqb k 100 h, b, e, f, g, i, j)) (λ j. rw (a, ne_eqb k 100 h, b, e, f, g, i, j))))))))
+-- no rule but `bitcast` wants a list
+no-list : (r : code.the_data) (ts : List Ty) → (r ≡ code.Bitcast → ⊥) → template_right (meant r) ts ≡ eqb (length ts) 0
+unfolding template_right meant
+no-list (code.Row k) ts h = refl
+no-list code.Bitcast ts h = absurd (h refl)
+no-list code.ArrayLength ts h = refl
+no-list code.Barrier ts h = refl
+no-list code.AtomicLoad ts h = refl
+no-list code.AtomicUpdate ts h = refl
+no-list code.AtomicStore ts h = refl
+no-list code.AtomicCompare ts h = refl
+no-list code.UniformLoad ts h = refl
 
-module _ (w : List ℕ) (k : ℕ) (ts : List ℕ) where
-  pub template-none : k ≢ 100 → eqb (length ts) 0 ≡ template_right (numbered k) (types w ts)
-  template-none h = sym (no-list k (types w ts) h ∙ ap (λ (l : ℕ). eqb l 0) (length-map ts (type_at w)))
+module _ (w : List ℕ) (ts : List ℕ) where
+  pub template-none : (r : code.the_data) → (r ≡ code.Bitcast → ⊥) → eqb (length ts) 0 ≡ template_right (meant r) (types w ts)
+  template-none r h = sym (no-list r (types w ts) h ∙ ap (λ (l : ℕ). eqb l 0) (length-map ts (type_at w)))
 
-  module _ (h : k ≡ 100) where
-    pub template-count : length ts ≢ 1 → false ≡ template_right (numbered k) (types w ts)
-    unfolding template_right
-    template-count l = sym (rw (numbered-bitcast k h, ne_eqb (length (types w ts)) 1 (λ e. l (sym (length-map ts (type_at w)) ∙ e))))
+  pub template-count : length ts ≢ 1 → false ≡ template_right bitcast (types w ts)
+  unfolding template_right
+  template-count l = sym (rw (ne_eqb (length (types w ts)) 1 (λ e. l (sym (length-map ts (type_at w)) ∙ e))))
 
-    pub template-one : (n : ℕ) → Sound w n → Under n ts → length ts ≡ 1 → (x : ℕ) → x ≡ code_of (type_at w (get_or ts 0 0)) → numeric_code x ≡ template_right (numbered k) (types w ts)
-    unfolding template_right
-    template-one n s u o x e =
-        let l : 0 < length ts = omega arith in
-        ap numeric_code e
-        ∙ sym (numeric-by (type_at w (get_or ts 0 0)) (formed-at w n s (get_or ts 0 0) (u 0 l)))
-        ∙ sym (ap wide_numeric (type-in w ts 0 l))
-        ∙ sym (rw (numbered-bitcast k h, eq-eqb (length (types w ts)) 1 (length-map ts (type_at w) ∙ o)))
+  pub template-one : (n : ℕ) → Sound w n → Under n ts → length ts ≡ 1 → (x : ℕ) → x ≡ code_of (type_at w (get_or ts 0 0)) → numeric_code x ≡ template_right bitcast (types w ts)
+  unfolding template_right
+  template-one n s u o x e =
+      let l : 0 < length ts = omega arith in
+      ap numeric_code e
+      ∙ sym (numeric-by (type_at w (get_or ts 0 0)) (formed-at w n s (get_or ts 0 0) (u 0 l)))
+      ∙ sym (ap wide_numeric (type-in w ts 0 l))
+      ∙ sym (rw (eq-eqb (length (types w ts)) 1 (length-map ts (type_at w) ∙ o)))
 
-    pub template-some : template_right (numbered k) (types w ts) ≡ true → length ts ≡ 1
-    unfolding template_right
-    template-some o =
-        sym (length-map ts (type_at w))
-        ∙ eqb-true (length (types w ts)) 1 (and_left (eqb (length (types w ts)) 1) (wide_numeric (first_in (types w ts))) (rw (numbered-bitcast k h) at o))
+  pub template-some : template_right bitcast (types w ts) ≡ true → length ts ≡ 1
+  unfolding template_right
+  template-some o =
+      sym (length-map ts (type_at w))
+      ∙ eqb-true (length (types w ts)) 1 (and_left (eqb (length (types w ts)) 1) (wide_numeric (first_in (types w ts))) o)
 
 -- A RULED NAME, AND `bitcast`
 
 module _ (place : ℕ) (w : List ℕ) (n : ℕ) (s : Sound w n) where
-  module _ (k : ℕ) (tplt args : List ℕ) (ms : List Bool) where
-    -- a ruled name, by the numbers of its operands
-    pub rule-row : k < 100 → (us : List Ty) → all_formed us ≡ true → running_abstract us ms ≡ false → (running : Bool) → running ≡ any_running ms → (row : ℕ) → row ≡ k → (codes : List ℕ) → codes ≡ codes_of us
-        → judged_outcome place w n (judge_kept running (row_at row) (map operand codes)) ≡ given_outcome place w n (given_by (numbered k) (types w tplt) us ms)
-    unfolding given_outcome given_by judge_by
-    rule-row h us f c running a row q codes e =
-        (λ i. judged_outcome place w n (judge_kept (a i) (row_at (q i)) (map operand (e i))))
-        ∙ ap (judged_outcome place w n) (judge-types us f k (any_running ms) ∙ judge-kept k us ms c)
-        ∙ ap (λ (r : Rule). given_outcome place w n (given_by r (types w tplt) us ms)) (sym (numbered-row k h))
+  -- a ruled name, by the numbers of its operands
+  pub rule-row : (k : ℕ) (ts us : List Ty) (ms : List Bool) → all_formed us ≡ true → running_abstract us ms ≡ false → (running : Bool) → running ≡ any_running ms → (row : ℕ) → row ≡ k → (codes : List ℕ) → codes ≡ codes_of us
+      → judged_outcome place w n (judge_kept running (row_at row) (map operand codes)) ≡ given_outcome place w n (given_by (ruling (by_row (row_at k))) ts us ms)
+  unfolding given_outcome given_by judge_by
+  rule-row k ts us ms f c running a row q codes e =
+      (λ i. judged_outcome place w n (judge_kept (a i) (row_at (q i)) (map operand (e i))))
+      ∙ ap (judged_outcome place w n) (judge-types us f k (any_running ms) ∙ judge-kept k us ms c)
 
-    given-as : (r : Rule) → numbered k ≡ r → given_outcome place w n (given_by r (types w tplt) (types w args) ms) ≡ given_outcome place w n (given_by (numbered k) (types w tplt) (types w args) ms)
-    given-as r e = ap (λ (r : Rule). given_outcome place w n (given_by r (types w tplt) (types w args) ms)) (sym e)
-
-    pub rule-bitcast : k ≡ 100 → Under n tplt → length tplt ≡ 1
-        → record { answer = accept (get_or tplt 0 0) n; words = w } ≡ given_outcome place w n (given_by (numbered k) (types w tplt) (types w args) ms)
-    unfolding given_outcome given_by judged_outcome
-    rule-bitcast h u o =
-        let l : 0 < length tplt = omega arith in
-        sym (standing-outcome place w n s (get_or tplt 0 0) (first_in (types w tplt)) (u 0 l) (sym (type-in w tplt 0 l))) ∙ given-as bitcast (numbered-bitcast k h)
+  pub rule-bitcast : (tplt : List ℕ) (us : List Ty) (ms : List Bool) → Under n tplt → length tplt ≡ 1
+      → record { answer = accept (get_or tplt 0 0) n; words = w } ≡ given_outcome place w n (given_by bitcast (types w tplt) us ms)
+  unfolding given_outcome given_by judged_outcome
+  rule-bitcast tplt us ms u o =
+      let l : 0 < length tplt = omega arith in
+      sym (standing-outcome place w n s (get_or tplt 0 0) (first_in (types w tplt)) (u 0 l) (sym (type-in w tplt 0 l)))
 
 -- CALLS ON MEMORY, by the first operand a and the others, vs
 
-module _ (place : ℕ) (w : List ℕ) (n : ℕ) (k : ℕ) (ts us : List Ty) (ms : List Bool) where
-  as-given : (r : Rule) → numbered k ≡ r → given_outcome place w n (given_by r ts us ms) ≡ given_outcome place w n (given_by (numbered k) ts us ms)
-  as-given r e = ap (λ (r : Rule). given_outcome place w n (given_by r ts us ms)) (sym e)
-
-  pub rule-barrier : numbered k ≡ barrier → without_value w n ≡ given_outcome place w n (given_by (numbered k) ts us ms)
+module _ (place : ℕ) (w : List ℕ) (n : ℕ) (ts us : List Ty) (ms : List Bool) where
+  pub rule-barrier : without_value w n ≡ given_outcome place w n (given_by barrier ts us ms)
   unfolding given_outcome given_by
-  rule-barrier e = as-given barrier e
+  rule-barrier = refl
 
   module _ (a : Ty) (vs : List Ty) (is : a ∷ vs ≡ us) where
     -- of one operand
     module _ (e : vs ≡ []) where
-      rule-alone : (j : Ty → Judged) (r : Rule) → given_by r ts us ms ≡ judgment (alone j us) → numbered k ≡ r → judged_outcome place w n (j a) ≡ given_outcome place w n (given_by (numbered k) ts us ms)
+      rule-alone : (j : Ty → Judged) (r : Rule) → given_by r ts us ms ≡ judgment (alone j us) → judged_outcome place w n (j a) ≡ given_outcome place w n (given_by r ts us ms)
       unfolding given_outcome alone
-      rule-alone j r g h =
-          ap (λ (l : List Ty). judged_outcome place w n (alone j l)) ((λ i. a ∷ sym e i) ∙ is) ∙ ap (given_outcome place w n) (sym g) ∙ as-given r h
+      rule-alone j r g = ap (λ (l : List Ty). judged_outcome place w n (alone j l)) ((λ i. a ∷ sym e i) ∙ is) ∙ ap (given_outcome place w n) (sym g)
 
-      pub rule-uniform : k ≡ 108 → judged_outcome place w n (judge_load a) ≡ given_outcome place w n (given_by (numbered k) ts us ms)
+      pub rule-uniform : judged_outcome place w n (judge_load a) ≡ given_outcome place w n (given_by uniform_loading ts us ms)
       unfolding given_by judge_by
-      rule-uniform h = rule-alone judge_load uniform_loading refl (numbered-uniform k h)
+      rule-uniform = rule-alone judge_load uniform_loading refl
 
-      pub rule-length : k ≡ 101 → judged_outcome place w n (judge_length a) ≡ given_outcome place w n (given_by (numbered k) ts us ms)
+      pub rule-length : judged_outcome place w n (judge_length a) ≡ given_outcome place w n (given_by (ruling array_length) ts us ms)
       unfolding given_by judge_by
-      rule-length h = rule-alone judge_length (ruling array_length) refl (numbered-length k h)
+      rule-length = rule-alone judge_length (ruling array_length) refl
 
     module _ (j : ℕ) where
-      pub rule-compare : j ≡ 2 → k ≡ 107 → judged_outcome place w n (judge_atomic j exchange (a ∷ vs)) ≡ given_outcome place w n (given_by (numbered k) ts us ms)
+      pub rule-compare : j ≡ 2 → judged_outcome place w n (judge_atomic j exchange (a ∷ vs)) ≡ given_outcome place w n (given_by exchanging ts us ms)
       unfolding given_outcome given_by judge_by
-      rule-compare e h = (λ i. judged_outcome place w n (judge_atomic (e i) exchange (is i))) ∙ as-given exchanging (numbered-compare k h)
+      rule-compare e = λ i. judged_outcome place w n (judge_atomic (e i) exchange (is i))
 
-      pub rule-store : j ≡ 1 → k ≡ 106 → silent_outcome place w n (judge_atomic j scalar (a ∷ vs)) ≡ given_outcome place w n (given_by (numbered k) ts us ms)
+      pub rule-store : j ≡ 1 → silent_outcome place w n (judge_atomic j scalar (a ∷ vs)) ≡ given_outcome place w n (given_by storing ts us ms)
       unfolding given_outcome given_by judge_by
-      rule-store e h = (λ i. silent_outcome place w n (judge_atomic (e i) scalar (is i))) ∙ as-given storing (numbered-store k h)
+      rule-store e = λ i. silent_outcome place w n (judge_atomic (e i) scalar (is i))
 
-      rule-update : j ≡ 1 → k ≡ 105 → judged_outcome place w n (judge_atomic j scalar (a ∷ vs)) ≡ given_outcome place w n (given_by (numbered k) ts us ms)
+      pub rule-update : j ≡ 1 → judged_outcome place w n (judge_atomic j scalar (a ∷ vs)) ≡ given_outcome place w n (given_by updating ts us ms)
       unfolding given_outcome given_by judge_by
-      rule-update e h = (λ i. judged_outcome place w n (judge_atomic (e i) scalar (is i))) ∙ as-given updating (numbered-update k h)
+      rule-update e = λ i. judged_outcome place w n (judge_atomic (e i) scalar (is i))
 
-      rule-load : j ≡ 0 → k ≡ 104 → judged_outcome place w n (judge_atomic j scalar (a ∷ vs)) ≡ given_outcome place w n (given_by (numbered k) ts us ms)
+      pub rule-load : j ≡ 0 → judged_outcome place w n (judge_atomic j scalar (a ∷ vs)) ≡ given_outcome place w n (given_by loading ts us ms)
       unfolding given_outcome given_by judge_by
-      rule-load e h = (λ i. judged_outcome place w n (judge_atomic (e i) scalar (is i))) ∙ as-given loading (numbered-load k h)
+      rule-load e = λ i. judged_outcome place w n (judge_atomic (e i) scalar (is i))
 
-      -- as many values as the rule wants, of the two that are left
-      pub rule-atomic : suc j ≡ operands_of (numbered k) → 104 ≤ k → k ≤ 105 → judged_outcome place w n (judge_atomic j scalar (a ∷ vs)) ≡ given_outcome place w n (given_by (numbered k) ts us ms)
-      unfolding operands_of operands_by
-      rule-atomic c l h =
-          split (eqb k 104)
-          (λ b. let e = eqb-true k 104 b in let q : suc j ≡ 1 = c ∙ ap operands_of (numbered-load k e) in rule-load (omega arith) e)
-          (λ b. let d = eqb-false k 104 b in let e : k ≡ 105 = omega arith in let q : suc j ≡ 2 = c ∙ ap operands_of (numbered-update k e) in rule-update (omega arith) e)
+-- HOW MANY OPERANDS: four at most
+pub at_most : (r : code.the_data) → operands_of (meant r) ≤ 4
+unfolding operands_of operands_by meant
+at_most (code.Row k) = count-few k
+at_most code.Bitcast = omega arith
+at_most code.ArrayLength = omega arith
+at_most code.Barrier = omega arith
+at_most code.AtomicLoad = omega arith
+at_most code.AtomicUpdate = omega arith
+at_most code.AtomicStore = omega arith
+at_most code.AtomicCompare = omega arith
+at_most code.UniformLoad = omega arith
 
--- HOW MANY OPERANDS
+-- as many operands as a rule wants
+pub wants : (k : ℕ) (r s : code.the_data) → k ≡ operands_of (meant r) → r ≡ s → k ≡ operands_of (meant s)
+wants k r s q e = q ∙ ap (λ (x : code.the_data). operands_of (meant x)) e
 
-module _ (k : ℕ) where
-  pub count-row : k < 100 → operand_count (row_at k) ≡ operands_of (numbered k)
-  unfolding operands_of operands_by
-  count-row h = ap operands_of (sym (numbered-row k h))
+pub atomic-some : (k : ℕ) (r : code.the_data) → k ≡ operands_of (meant r) → (r ≡ code.AtomicLoad) ⊎ (r ≡ code.AtomicUpdate) → 1 ≤ k
+unfolding operands_of operands_by meant
+atomic-some k r q (inl e) = let m : k ≡ 1 = wants k r code.AtomicLoad q e in omega arith
+atomic-some k r q (inr e) = let m : k ≡ 2 = wants k r code.AtomicUpdate q e in omega arith
 
-  pub count-one : 100 ≤ k → k ≤ 101 → 1 ≡ operands_of (numbered k)
-  unfolding operands_of operands_by
-  count-one l h =
-      split (eqb k 100) (λ e. ap operands_of (sym (numbered-bitcast k (eqb-true k 100 e)))) (λ e. let q = eqb-false k 100 e in ap operands_of (sym (numbered-length k (omega arith))))
-
-  pub count-load : k ≡ 104 → 1 ≡ operands_of (numbered k)
-  unfolding operands_of operands_by
-  count-load h = ap operands_of (sym (numbered-load k h))
-
-  pub count-update : k ≡ 105 → 2 ≡ operands_of (numbered k)
-  unfolding operands_of operands_by
-  count-update h = ap operands_of (sym (numbered-update k h))
-
-  pub count-store : k ≡ 106 → 2 ≡ operands_of (numbered k)
-  unfolding operands_of operands_by
-  count-store h = ap operands_of (sym (numbered-store k h))
-
-  pub count-compare : k ≡ 107 → 3 ≡ operands_of (numbered k)
-  unfolding operands_of operands_by
-  count-compare h = ap operands_of (sym (numbered-compare k h))
-
-  pub count-uniform : k ≡ 108 → 1 ≡ operands_of (numbered k)
-  unfolding operands_of operands_by
-  count-uniform h = ap operands_of (sym (numbered-uniform k h))
-
-  pub count_none : 102 ≤ k → k ≢ 104 → k ≢ 105 → k ≢ 106 → k ≢ 107 → k ≢ 108 → 0 ≡ operands_of (numbered k)
-  unfolding operands_of
-  count_none l a b c d e = ap operands_of (sym (numbered-barrier k (omega arith) (λ q. omega arith) (λ q. omega arith) a b c d e))
-
-  -- a barrier, or above the last
-  pub barrier-by : 102 ≤ k → (leb k 103 || ltb 108 k) ≡ true → numbered k ≡ barrier
-  barrier-by l h =
-      split (leb k 103)
-      (λ b. let e = leb-true k 103 b in numbered-barrier k (omega arith) (λ q. omega arith) (λ q. omega arith) (λ q. omega arith) (λ q. omega arith) (λ q. omega arith) (λ q. omega arith) (λ q. omega arith))
-      (λ b. let e = ltb-true 108 k (sym (ap (λ (x : Bool). x || ltb 108 k) b) ∙ h) in numbered-barrier k (omega arith) (λ q. omega arith) (λ q. omega arith) (λ q. omega arith) (λ q. omega arith) (λ q. omega arith) (λ q. omega arith) (λ q. omega arith))
-
-  -- neither
-  pub memory-by : (leb k 103 || ltb 108 k) ≡ false → (104 ≤ k) × (k ≤ 108)
-  memory-by h =
-      split (leb k 103) (λ b. absurd (let z : true ≡ false = sym (ap (λ (x : Bool). x || ltb 108 k) b) ∙ h in let q : ◌≡◌ {A = ℕ} 0 1 = cc in omega arith))
-      (λ b. let d = leb-false k 103 b in let e = ltb-false 108 k (sym (ap (λ (x : Bool). x || ltb 108 k) b) ∙ h) in (omega arith, omega arith))
-
-  -- one at least
-  pub memory-counted : 104 ≤ k → k ≤ 108 → 1 ≤ operands_of (numbered k)
-  memory-counted l h =
-      split (eqb k 104) (λ b. let e = count-load (eqb-true k 104 b) in omega (arith, e)) (λ b.
-      split (eqb k 105) (λ c. let e = count-update (eqb-true k 105 c) in omega (arith, e)) (λ c.
-      split (eqb k 106) (λ d. let e = count-store (eqb-true k 106 d) in omega (arith, e)) (λ d.
-      split (eqb k 107) (λ f. let e = count-compare (eqb-true k 107 f) in omega (arith, e)) (λ f.
-      let p = eqb-false k 104 b in let q = eqb-false k 105 c in let r = eqb-false k 106 d in let s = eqb-false k 107 f in
-      let e = count-uniform (omega arith) in omega (arith, e)))))
-
-  -- four at most
-  pub at_most : operands_of (numbered k) ≤ 4
-  at_most =
-      split (ltb k 100) (λ a. let e = count-row (ltb-true k 100 a) in let f = count-few k in omega (arith, e, f)) (λ a.
-      let l = ltb-false k 100 a in
-      split (leb k 101) (λ b. let e = count-one l (leb-true k 101 b) in omega (arith, e)) (λ b.
-      split (eqb k 104) (λ f. let e = count-load (eqb-true k 104 f) in omega (arith, e)) (λ f.
-      split (eqb k 105) (λ g. let e = count-update (eqb-true k 105 g) in omega (arith, e)) (λ g.
-      split (eqb k 106) (λ h. let e = count-store (eqb-true k 106 h) in omega (arith, e)) (λ h.
-      split (eqb k 107) (λ i. let e = count-compare (eqb-true k 107 i) in omega (arith, e)) (λ i.
-      split (eqb k 108) (λ j. let e = count-uniform (eqb-true k 108 j) in omega (arith, e)) (λ j.
-      let m = leb-false k 101 b in
-      let e = count_none (omega arith) (eqb-false k 104 f) (eqb-false k 105 g) (eqb-false k 106 h) (eqb-false k 107 i) (eqb-false k 108 j) in omega (arith, e))))))))
+-- what a rule gives, by what it means
+pub given-as : (place : ℕ) (w : List ℕ) (n : ℕ) (ts us : List Ty) (ms : List Bool) (r s : code.the_data) → r ≡ s → given_outcome place w n (given_by (meant s) ts us ms) ≡ given_outcome place w n (given_by (meant r) ts us ms)
+given-as place w n ts us ms r s e = ap (λ (x : code.the_data). given_outcome place w n (given_by (meant x) ts us ms)) (sym e)
 
 -- A CALL BY ITS RULE
 

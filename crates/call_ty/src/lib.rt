@@ -1,19 +1,20 @@
 // The result types of builtins, as wgsl-types' `call_ty.rs` has them, by the standard and by the crate's rules.
 #![tactic(auto)]
 
-ghost use Rattle.std.specs.Prelude.{◌≡◌, true, false, cond, List, ◌<◌, ◌≤◌, length};
-ghost use Rattle.names.specs.inner.Table.{numbered};
-ghost use Rattle.conv.specs.Types.{Ty, is_float};
+ghost use Rattle.std.specs.Prelude.{◌≡◌, true, false, ◌≤◌, length, map};
+ghost use Rattle.names.specs.inner.Table.{meant};
+ghost use Rattle.conv.specs.Types.{is_float};
 ghost use Rattle.table.specs.Table.{Sound};
 ghost use Rattle.table.specs.Placing.{Gave, GaveMarked};
 ghost use Rattle.answer.specs.Answer.{refuse, marked_by};
 ghost use Rattle.held.specs.Held.{number_of};
+ghost use Rattle.overload.specs.inner.Code.{code_of};
 ghost use Rattle.overload.specs.Marks.{any_running, running_abstract};
 ghost use Rattle.call_ty.specs.Calls.{template_right, operands_of, given_by, given_outcome, call_outcome, all_under, numbers, marks_of, types, type_builtin_fn, builtin_runs};
-ghost use Rattle.call_ty.specs.inner.Codes.{by_number, Under, Loaded, numeric_code};
+ghost use Rattle.call_ty.specs.inner.Codes.{by_meant, Under, Loaded, numeric_code};
 
 use conv::{PLAINS, SCALARS};
-use names::{NamedRule, Names};
+use names::{NamedRule, Names, Rule};
 use ruled::REFERENCE;
 use table::{Answer, Place, Reason, TypeNo, Typed};
 
@@ -46,40 +47,17 @@ fn numeric_code(x: u8) -> bool
     (x < PLAINS) & (is_float(s) | (s == ABSTRACT_INT) | (s == I32) | (s == U32))
 }
 
-// How many operands a call on memory wants; a barrier wants none.
-fn memory_operands(rule: u8) -> usize
-    requires { 102 ≤ rule }
-    ensures { result ≡ operands_of (numbered rule) }
-{
-    if rule == names::RULE_ATOMIC_LOAD {
-        return 1;
-    }
-    if rule == names::RULE_ATOMIC_UPDATE {
-        return 2;
-    }
-    if rule == names::RULE_ATOMIC_STORE {
-        return 2;
-    }
-    if rule == names::RULE_ATOMIC_COMPARE {
-        return 3;
-    }
-    if rule == names::RULE_UNIFORM_LOAD {
-        return 1;
-    }
-    0
-}
-
 // How many operands a rule wants.
-fn operands_of(rule: u8) -> usize
-    ensures { result ≡ operands_of (numbered rule) }
+fn operands_of(rule: Rule) -> usize
+    ensures { result ≡ operands_of (meant rule) }
 {
-    if rule < names::RULE_BITCAST {
-        return overload::operand_count(cast::wide(rule));
+    match rule {
+        Rule::Row(row) => overload::operand_count(cast::wide(row)),
+        Rule::Barrier => 0,
+        Rule::Bitcast | Rule::ArrayLength | Rule::AtomicLoad | Rule::UniformLoad => 1,
+        Rule::AtomicUpdate | Rule::AtomicStore => 2,
+        Rule::AtomicCompare => 3,
     }
-    if rule <= names::RULE_ARRAY_LENGTH {
-        return 1;
-    }
-    memory_operands(rule)
 }
 
 // Whether an operand is running.
@@ -112,17 +90,15 @@ fn all_operands(n: usize, args: &[u32]) -> bool
 }
 
 // The template list is as the rule wants it: one numeric scalar or vector for `bitcast`, none for every other.
-fn template_right(words: &[u32], n: usize, rule: u8, tplt: &[u32]) -> bool
+fn template_right(words: &[u32], n: usize, rule: Rule, tplt: &[u32]) -> bool
     requires { Sound words.now n × Under n tplt.now }
-    ensures { result ≡ template_right (numbered rule) (types words.now tplt.now) }
+    ensures { result ≡ template_right (meant rule) (types words.now tplt.now) }
 {
-    if rule != names::RULE_BITCAST {
-        return tplt.len() == 0;
+    match (rule, tplt) {
+        (Rule::Bitcast, [t]) => numeric_code(ruled::code_at(words, n, cast::word(*t))),
+        (Rule::Bitcast, _) => false,
+        _ => tplt.is_empty(),
     }
-    if tplt.len() != 1 {
-        return false;
-    }
-    numeric_code(ruled::code_at(words, n, cast::word(tplt[0])))
 }
 
 // The numbers of the operands, in their order, where none of them is a reference.
@@ -141,28 +117,38 @@ pub fn load<const N: usize>(words: &[u32], n: usize, args: &[u32]) -> Option<[u8
     Some(codes)
 }
 
-// A call on memory on loaded operands, of which the first is the pointer; or a barrier.
-fn memory_rule(words: &mut [u32], n: usize, place: Place, rule: u8, args: &[u32]) -> Answer
-    requires { Sound words.old n × Under n (numbers args.now) × (101 ≤ rule) × (length args.now ≡ operands_of (numbered rule)) }
-    ensures { (ts : List Ty) → Gave (given_outcome place.0 words.old n (given_by (numbered rule) ts (types words.old (numbers args.now)) (marks_of args.now))) result words.new }
+// What a rule gives on as many operands as it wants, of which none is a reference: a ruled name, by their numbers; a call on memory, of which the first is the pointer.
+fn given(
+    words: &mut [u32],
+    n: usize,
+    place: Place,
+    rule: Rule,
+    tplt: &[u32],
+    args: &[u32],
+    codes: &[u8],
+) -> Answer
+    requires { Sound words.old n × Under n tplt.now × Under n (numbers args.now) × (template_right (meant rule) (types words.old tplt.now) ≡ true) × (length args.now ≡ operands_of (meant rule)) × (codes.now ≡ map code_of (types words.old (numbers args.now))) × (running_abstract (types words.old (numbers args.now)) (marks_of args.now) ≡ false) }
+    ensures { Gave (given_outcome place.0 words.old n (given_by (meant rule) (types words.old tplt.now) (types words.old (numbers args.now)) (marks_of args.now))) result words.new }
 {
-    if rule == names::RULE_ARRAY_LENGTH {
-        return memory::array_length(words, n, place, args[0]);
+    match rule {
+        Rule::Row(row) => ruled::judge_codes(
+            words,
+            n,
+            place,
+            cast::wide(row),
+            any_running(args),
+            codes,
+        ),
+        Rule::Bitcast => table::accepted(TypeNo(cast::word(tplt[0])), n),
+        Rule::Barrier => table::no_value(n),
+        Rule::ArrayLength => memory::array_length(words, n, place, args[0]),
+        Rule::UniformLoad => memory::uniform_load(words, n, place, args[0]),
+        Rule::AtomicCompare => memory::comparing(words, n, place, args[0], &args[1..]),
+        Rule::AtomicStore => memory::storing(words, n, place, args[0], &args[1..]),
+        Rule::AtomicLoad | Rule::AtomicUpdate => {
+            memory::on_atomic(words, n, place, args[0], &args[1..])
+        }
     }
-    if (rule <= names::RULE_BARRIER) | (names::RULE_UNIFORM_LOAD < rule) {
-        return table::no_value(n);
-    }
-    let a = args[0];
-    if rule == names::RULE_UNIFORM_LOAD {
-        return memory::uniform_load(words, n, place, a);
-    }
-    if rule == names::RULE_ATOMIC_COMPARE {
-        return memory::comparing(words, n, place, a, &args[1..]);
-    }
-    if rule == names::RULE_ATOMIC_STORE {
-        return memory::storing(words, n, place, a, &args[1..]);
-    }
-    memory::on_atomic(words, n, place, a, &args[1..])
 }
 
 // A call of a builtin by its rule: 5, 7, 3, 14, then the rule itself.
@@ -170,12 +156,12 @@ fn by_rule(
     words: &mut [u32],
     n: usize,
     place: Place,
-    rule: u8,
+    rule: Rule,
     tplt: &[u32],
     args: &[u32],
 ) -> Answer
     requires { Sound words.old n × Under n tplt.now × Under n (numbers args.now) }
-    ensures { Gave (by_number place.0 words.old n rule (types words.old tplt.now) (types words.old (numbers args.now)) (marks_of args.now)) result words.new }
+    ensures { Gave (by_meant place.0 words.old n rule (types words.old tplt.now) (types words.old (numbers args.now)) (marks_of args.now)) result words.new }
 {
     if !template_right(words, n, rule, tplt) {
         return table::refused(Reason::Template, place, n);
@@ -190,14 +176,7 @@ fn by_rule(
     if any_clashes(words, n, args) {
         return table::refused(Reason::RunningAbstract, place, n);
     }
-    if rule < names::RULE_BITCAST {
-        let running = any_running(args);
-        return ruled::judge_codes(words, n, place, cast::wide(rule), running, &codes[0..k]);
-    }
-    if rule == names::RULE_BITCAST {
-        return table::accepted(TypeNo(cast::word(tplt[0])), n);
-    }
-    memory_rule(words, n, place, rule, args)
+    given(words, n, place, rule, tplt, args, &codes[..k])
 }
 
 // A refusal at a place, which has no mark.
@@ -223,7 +202,7 @@ pub fn call_at(
 {
     match names.rule_of(profile, name) {
         Some(NamedRule { rule, running }) => {
-            let r = by_rule(words, n, place, rule, tplt, args);
+            let r = by_rule(words, n, place, Rule::from(rule), tplt, args);
             table::marked(r, running | any_running(args))
         }
         None => unmarked(Reason::Unknown, place, n),

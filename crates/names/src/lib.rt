@@ -5,7 +5,7 @@ mod tables;
 
 ghost use Rattle.std.specs.Prelude.{◌≡◌, false, ◌<◌, ◌≤◌, length};
 ghost use Rattle.names.specs.Names.{count, name_at, rule_of};
-ghost use Rattle.names.specs.inner.Table.{name_table, ends_blank, Ordered, StandsAt, has_name, rule_at, replied};
+ghost use Rattle.names.specs.inner.Table.{numbered, meant, name_table, ends_blank, Ordered, StandsAt, has_name, rule_at, replied};
 
 use std::cmp::Ordering;
 use tables::{COUNT, LINE_WIDTH, NAME_WIDTH, NAMES};
@@ -41,6 +41,39 @@ const PROFILE_AT: usize = NAME_WIDTH + 1;
 const MARK_AT: usize = NAME_WIDTH + 2;
 
 const MARK_RUNNING: u8 = 1;
+
+// The rule of a name: a row of overloads, a crate rule, or what a call on memory does.
+#[derive(Clone, Copy, PartialEq, Eq, Debug)]
+pub enum Rule {
+    Row(u8),
+    Bitcast,
+    ArrayLength,
+    Barrier,
+    AtomicLoad,
+    AtomicUpdate,
+    AtomicStore,
+    AtomicCompare,
+    UniformLoad,
+}
+
+// By its number.
+impl From<u8> for Rule {
+    ghost from_gives = { λ number rule. meant rule ≡ numbered number };
+
+    fn from(number: u8) -> Self {
+        match number {
+            RULE_BITCAST => Rule::Bitcast,
+            RULE_ARRAY_LENGTH => Rule::ArrayLength,
+            RULE_ATOMIC_LOAD => Rule::AtomicLoad,
+            RULE_ATOMIC_UPDATE => Rule::AtomicUpdate,
+            RULE_ATOMIC_STORE => Rule::AtomicStore,
+            RULE_ATOMIC_COMPARE => Rule::AtomicCompare,
+            RULE_UNIFORM_LOAD => Rule::UniformLoad,
+            row if row < RULE_BITCAST => Rule::Row(row),
+            _ => Rule::Barrier,
+        }
+    }
+}
 
 // The number of a name's rule, and whether its result is running even where all operands are const.
 #[derive(Clone, Copy, PartialEq, Eq, Debug)]

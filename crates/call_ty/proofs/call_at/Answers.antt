@@ -1,8 +1,9 @@
 -- `call_ty::call_at` meets its contract: the name's rule, or none. Assumes nothing.
 use mathlib.Core.Path.{sym, ◌∙◌, ap}
-use mathlib.Core.Bool.{Bool, ◌||◌}
+use mathlib.Core.Bool.{Bool, false, ◌||◌}
 use Rattle.answer.specs.Answer.{marked_by}
-use Rattle.names.specs.Names.{Named}
+use Rattle.names.specs.Names.{Rule, Named}
+use Rattle.names.specs.Names.Named.{rule}
 use Rattle.names.specs.inner.Table.{numbered}
 use Rattle.names.proofs.Rules.{said-rule, said-unknown}
 use Rattle.table.proofs.Giving.{gave-marked}
@@ -18,7 +19,8 @@ returns-in-Some c =
     let e = said-rule a.profile a.name.now _ (sym c.rule_of.ensures ∙ c.in-Some.is) in
     gave-marked
     (gave-as
-    (by_runs a.place.0 w a.n (numbered c.in-Some.field-0.rule) _ _ (types w a.tplt.now) (types w (numbers a.args.now)) (marks_of a.args.now)
+    (ap (λ (r : Rule). by_rule a.place.0 w a.n (rule r false) (types w a.tplt.now) (types w (numbers a.args.now)) (marks_of a.args.now)) c.from.ensures
+    ∙ by_runs a.place.0 w a.n (numbered c.in-Some.field-0.rule) _ _ (types w a.tplt.now) (types w (numbers a.args.now)) (marks_of a.args.now)
     ∙ ap (λ (k : Named). by_rule a.place.0 w a.n k (types w a.tplt.now) (types w (numbers a.args.now)) (marks_of a.args.now)) (sym e))
     c.by_rule-r.ensures)
     (c.marked.ensures

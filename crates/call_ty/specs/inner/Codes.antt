@@ -5,13 +5,18 @@ use Rattle.conv.specs.Types.{Ty}
 use Rattle.overload.specs.inner.Code.{code_of}
 use Rattle.ruled.specs.Call.{any_reference}
 use Rattle.names.specs.Names.Named.{rule}
-use Rattle.names.specs.inner.Table.{numbered}
+use Rattle.names.specs.inner.Table.{numbered, meant}
+use Rattle.names.specs.declared.Rule.TheVariants as code
 use Rattle.table.specs.Placing.{Outcome}
 use Rattle.call_ty.specs.Calls.{is_numeric, by_rule}
 
 -- a call by the number of its rule
 abbrev pub by_number : ℕ → List ℕ → ℕ → ℕ → List Ty → List Ty → List Bool → Outcome
 by_number place w n k ts us ms = by_rule place w n (rule (numbered k) false) ts us ms
+
+-- and by the rule that the code's enum means
+abbrev pub by_meant : ℕ → List ℕ → ℕ → code.the_data → List Ty → List Ty → List Bool → Outcome
+by_meant place w n r ts us ms = by_rule place w n (rule (meant r) false) ts us ms
 
 -- every number of the list is below n
 abbrev pub Under : ℕ → List ℕ → Type 0

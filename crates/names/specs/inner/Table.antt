@@ -8,6 +8,7 @@ use Rattle.names.specs.Names.Named.{rule, unknown}
 use Rattle.std.specs.declared.cmp.Ordering.{Ordering}
 use Rattle.std.specs.declared.cmp.Ordering.TheVariants.{Less, Equal, Greater}
 use Rattle.names.specs.declared.NamedRule.{NamedRule}
+use Rattle.names.specs.declared.Rule.TheVariants as code
 
 -- THE NUMBER OF A RULE, a byte, which a name put in later does not move: of a row its own, below 100. No name has the rulings of unary `&` and `*`, or one on atomics with more than one value
 
@@ -39,6 +40,18 @@ numbered k =
     (cond (eqb k 106) storing
     (cond (eqb k 107) exchanging
     (cond (eqb k 108) uniform_loading barrier)))))))
+
+-- the rule that the code's enum means
+unfoldable pub meant : code.the_data → Rule
+meant (code.Row k) = ruling (by_row (row_at k))
+meant code.Bitcast = bitcast
+meant code.ArrayLength = ruling array_length
+meant code.Barrier = barrier
+meant code.AtomicLoad = loading
+meant code.AtomicUpdate = updating
+meant code.AtomicStore = storing
+meant code.AtomicCompare = exchanging
+meant code.UniformLoad = uniform_loading
 
 -- a reply: the number of the rule that a name has, and whether its result is running even so
 unfoldable pub replied : Named → Option NamedRule
