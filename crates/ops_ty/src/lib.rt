@@ -14,14 +14,14 @@ use ruled::REFERENCE;
 use table::{Answer, Entry, Place, Reason, Typed};
 
 // Unary operators: `!` `-` `~` are rows 0 to 2 of the overloads, then `&` and `*`.
+// Stays: a host gives the number in C (`swartabelk_unary`) and a sheet in a byte, any number there is, and `unary_ruling` of specs/Ops.antt reads it as it is.
 const UNARY_OPS: usize = 5;
 
 const ADDRESS_OF: usize = 3;
 
 const INDIRECTION: usize = 4;
-// Binary operators: `||` `&&` `+` `-` `*` `/` `%` `==` `!=` `<` `<=` `>` `>=` `|` `&` `^` `<<` `>>`, and the row of each.
-const BINARY_OPS: usize = 18;
 
+// The row of each binary operator: `||` `&&` `+` `-` `*` `/` `%` `==` `!=` `<` `<=` `>` `>=` `|` `&` `^` `<<` `>>`.
 const BINARY_ROW: [u8; 18] = [3, 3, 4, 4, 5, 6, 6, 7, 7, 8, 8, 8, 8, 9, 9, 10, 11, 11];
 
 // The row of a binary operator.
@@ -30,13 +30,6 @@ pub fn row_byte(op: usize) -> u8
     ensures { result ≡ (binary_row op).number }
 {
     BINARY_ROW[op]
-}
-
-fn binary_row(op: usize) -> usize
-    requires { op < 18 }
-    ensures { result ≡ (binary_row op).number }
-{
-    row_byte(op) as usize
 }
 
 // `op_ref` and `op_deref`: from a type of the one kind that of the other. No reference in space handle has a pointer; no pointer is in that space.
@@ -51,16 +44,7 @@ fn type_turned(words: &mut [u32], n: usize, place: Place, a: usize, from: u32, t
     if e.p == table::SPACE_HANDLE {
         return table::refused(Reason::NoOverload, place, n);
     }
-    let r = entering::enter(
-        words,
-        n,
-        Entry {
-            kind: to,
-            p: e.p,
-            q: e.q,
-            elem: e.elem,
-        },
-    );
+    let r = entering::enter(words, n, Entry { kind: to, ..e });
     entering::answer_of(place, n, r)
 }
 
@@ -93,8 +77,7 @@ pub fn unary_at(words: &mut [u32], n: usize, place: Place, op: usize, a: u32) ->
     if op == INDIRECTION {
         return type_turned(words, n, place, t, table::KIND_PTR, table::KIND_REF);
     }
-    let codes = [x];
-    ruled::judge_codes(words, n, place, op, held::running(a), &codes)
+    ruled::judge_codes(words, n, place, op, held::running(a), &[x])
 }
 
 // A binary operator on loaded operands, at a place.
@@ -102,9 +85,9 @@ pub fn binary_at(words: &mut [u32], n: usize, place: Place, op: usize, a: u32, b
     requires { Sound words.old n × (number_of a < n) × (number_of b < n) }
     ensures { Gave (binary_outcome place.0 words.old n op (operand_ty words.old a) (operand_ty words.old b) (mark_of a) (mark_of b)) result words.new }
 {
-    if BINARY_OPS <= op {
+    let Some(row) = BINARY_ROW.get(op) else {
         return table::refused(Reason::Unknown, place, n);
-    }
+    };
     let x = ruled::code_at(words, n, held::number(a).0);
     if x == REFERENCE {
         return table::refused(Reason::Reference, place, n);
@@ -117,8 +100,7 @@ pub fn binary_at(words: &mut [u32], n: usize, place: Place, op: usize, a: u32, b
         return table::refused(Reason::RunningAbstract, place, n);
     }
     let running = held::running(a) | held::running(b);
-    let codes = [x, y];
-    ruled::judge_codes(words, n, place, binary_row(op), running, &codes)
+    ruled::judge_codes(words, n, place, *row as usize, running, &[x, y])
 }
 
 // The answer of a unary operator on an operand that is any number.
