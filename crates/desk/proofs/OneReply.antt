@@ -8,12 +8,11 @@ use Rattle.text.specs.Text.{Put}
 use Rattle.text.proofs.OneReply.{one-put}
 use Rattle.desk.specs.declared.Query.{Query}
 use Rattle.desk.specs.Desk.{desk_pieces}
-use Rattle.desk.specs.inner.Code.{pieces_of, all_pieces, Queries, Counted}
+use Rattle.desk.specs.inner.Code.{pieces_of, Queries, Counted}
 use Rattle.std.proofs.Common.{Some, None}
 
 module _ (profile : ℕ) (s : List ℕ) {q : Query} {vals words : List ℕ} (t : Queries (desk_pieces profile s) (Some q) vals words) where
   unfolded : pieces_of q vals words ≡ desk_pieces profile s
-  unfolding all_pieces
   unfolded = t.pieces
 
   pub told-count : {r : ℕ} → Counted q r → r ≡ length (desk_pieces profile s)
@@ -24,7 +23,6 @@ module _ (profile : ℕ) (s : List ℕ) {q : Query} {vals words : List ℕ} (t :
 
 -- where nothing is asked, nothing is told
 pub told-none : (profile : ℕ) (s : List ℕ) {vals words : List ℕ} → Queries (desk_pieces profile s) None vals words → desk_pieces profile s ≡ []
-unfolding all_pieces
 told-none profile s t = sym t.pieces
 
 -- so with two queries

@@ -17,7 +17,7 @@ use Rattle.why.specs.inner.Asks.{Asked, Asks}
 use Rattle.why.specs.Why.{unary_pieces, binary_pieces, call_pieces}
 use Rattle.desk.specs.declared.Query.{Query}
 use Rattle.desk.specs.Desk.{unary_lines, binary_lines, call_lines, template_lines}
-use Rattle.desk.specs.inner.Code.{AllAsking, all_pieces, Queries}
+use Rattle.desk.specs.inner.Code.{Queries}
 use Rattle.std.proofs.Common.{Option, Some, None}
 
 module _ (count : ℕ) (vals : List ℕ) (used : ℕ) (w : List ℕ) (ready : Ready count vals used w) where
@@ -35,7 +35,6 @@ module _ (count : ℕ) (vals : List ℕ) (used : ℕ) (w : List ℕ) (ready : Re
   enough k h = le-leb k (height st) (omega (arith, sized count vals fits))
 
   pub none : Queries [] None vals w
-  unfolding AllAsking all_pieces
   none = record { asking = tt; pieces = refl }
 
   pub unary-short : (op : ℕ) → count < 1 → Queries (unary_lines st op) None vals w
@@ -68,7 +67,6 @@ module _ (count : ℕ) (vals : List ℕ) (used : ℕ) (w : List ℕ) (ready : Re
     args = operands-lent count vals fits k h
 
     asking : (pieces : List (List ℕ)) (a : Answer) {x : Asked} → Asks w used lent pieces a x → Queries pieces (Some (record { asked = x; used = used; first = count - k; end = count })) vals w
-    unfolding AllAsking all_pieces
     asking pieces a {x} g = record { asking = record { tells = g.tells; order = omega arith; fits = fits }; pieces = g.pieces }
 
     pub call-asked : (profile : ℕ) (name tplt : List ℕ) (a : Answer) {x : Asked} → Asks w used lent (call_pieces profile w used name tplt lent) a x → Queries (call_lines st profile name tplt k) (Some (record { asked = x; used = used; first = count - k; end = count })) vals w

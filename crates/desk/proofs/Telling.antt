@@ -14,14 +14,14 @@ use Rattle.std.proofs.Common.{Option, Some, None}
 use Rattle.desk.specs.declared.Stand.{Stand}
 use Rattle.desk.specs.Told.{Told, told_of}
 use Rattle.desk.specs.Desk.{item_lines, lines_of, desk_pieces}
-use Rattle.desk.specs.inner.Code.{told_by, Standing, Finds, AllAsking, all_pieces, Queries}
+use Rattle.desk.specs.inner.Code.{told_by, Standing, Finds, Queries}
 
 module _ (profile : ℕ) (s vals w : List ℕ) where
   abbrev told : Told
   told = told_of profile start scalars s (outcome profile s).answer
 
   pub tell-nothing : Finds s told None vals w → Queries (desk_pieces profile s) None vals w
-  unfolding desk_pieces lines_of told_by AllAsking all_pieces
+  unfolding desk_pieces lines_of told_by
   tell-nothing f = subst (λ (t : Told). Queries (lines_of profile s t) None vals w) f.told (record { asking = tt; pieces = refl })
 
   module _ (r : Stand) (f : Finds s told (Some r) vals w) where

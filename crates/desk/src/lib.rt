@@ -2,19 +2,21 @@
 // and the table stand as they did before it. Both are lent.
 #![tactic(auto)]
 
+mod before;
+
 ghost use Rattle.std.specs.Prelude.{◌≡◌, [], ◌+◌, ◌/◌, ◌<◌, ◌≤◌, length, get_or};
 ghost use Rattle.table.specs.Table.{Sound};
 ghost use Rattle.frame.specs.Frame.{is_item, name_of, Within};
 ghost use Rattle.frame.specs.inner.Items.{sheet_in};
 ghost use Rattle.text.specs.Text.{Put, far};
 ghost use Rattle.table.specs.Table.{scalars};
-ghost use Rattle.step.specs.inner.Code.{state_of, Ready};
 ghost use Rattle.lines.specs.Lines.{start, outcome};
 ghost use Rattle.reasons.specs.inner.Told.{piece_room};
 ghost use Rattle.desk.specs.Told.{is_told, told_of};
 ghost use Rattle.desk.specs.Desk.{unary_lines, binary_lines, call_lines, template_lines, item_lines, desk_pieces};
-ghost use Rattle.desk.specs.inner.Code.{Finds, pieces_of, Asking, Queries, Counted};
+ghost use Rattle.desk.specs.inner.Code.{Finds, state_at, pieces_of, Asking, Queries, QueriesAt, Counted};
 
+use before::Before;
 use cast::wide;
 use frame::{HEADER, Item, Items, Placed};
 use names::Names;
@@ -130,111 +132,80 @@ fn stand_in(profile: u32, sheet: &[u8], words: &mut [u32], stack: &mut [u32]) ->
         version: sheet[0],
         bytes: &sheet[HEADER..],
     };
-    find(
-        items,
-        &Names::new(),
-        profile,
-        a,
-        words,
-        SCALARS,
-        stack,
-    )
+    find(items, &Names::new(), profile, a, words, SCALARS, stack)
 }
 
 // What a unary operator asks, on the last of the values.
-fn unary_query(op: u8, words: &[u32], used: usize, stack: &[u32], count: usize) -> Option<Query>
-    requires { Ready count stack.now used words.now }
-    ensures { Queries (unary_lines (state_of count stack.now used words.now) op) result stack.now words.now }
+fn unary_query(op: u8, before: Before) -> Option<Query>
+    ensures { QueriesAt (unary_lines (state_at before.entry) op) result before.entry }
 {
-    let first = count.checked_sub(UNARY)?;
-    let asked = why::ask_unary(words, used, wide(op), stack[first]);
+    let first = before.count.checked_sub(UNARY)?;
+    let asked = why::ask_unary(before.words, before.used, wide(op), before.stack[first]);
     Some(Query {
         asked,
-        used,
+        used: before.used,
         first,
-        end: count,
+        end: before.count,
     })
 }
 
 // What a binary operator asks, on the last two.
-fn binary_query(op: u8, words: &[u32], used: usize, stack: &[u32], count: usize) -> Option<Query>
-    requires { Ready count stack.now used words.now }
-    ensures { Queries (binary_lines (state_of count stack.now used words.now) op) result stack.now words.now }
+fn binary_query(op: u8, before: Before) -> Option<Query>
+    ensures { QueriesAt (binary_lines (state_at before.entry) op) result before.entry }
 {
-    let first = count.checked_sub(BINARY)?;
-    let asked = why::ask_binary(words, used, wide(op), stack[first], stack[first + 1]);
+    let first = before.count.checked_sub(BINARY)?;
+    let asked = why::ask_binary(
+        before.words,
+        before.used,
+        wide(op),
+        before.stack[first],
+        before.stack[first + 1],
+    );
     Some(Query {
         asked,
-        used,
+        used: before.used,
         first,
-        end: count,
+        end: before.count,
     })
 }
 
 // What a call asks, on the last k, with its template list.
-fn call_query(
-    profile: u32,
-    name: &[u8],
-    tplt: &[u32],
-    k: u8,
-    words: &[u32],
-    used: usize,
-    stack: &[u32],
-    count: usize,
-) -> Option<Query>
-    requires { Ready count stack.now used words.now }
-    ensures { Queries (call_lines (state_of count stack.now used words.now) profile name.now tplt.now k) result stack.now words.now }
+fn call_query(profile: u32, name: &[u8], tplt: &[u32], k: u8, before: Before) -> Option<Query>
+    ensures { QueriesAt (call_lines (state_at before.entry) profile name.now tplt.now k) result before.entry }
 {
     let k = wide(k);
-    let first = count.checked_sub(k)?;
-    let asked = why::ask_call(words, used, profile, name, tplt, &stack[first..count]);
+    let first = before.count.checked_sub(k)?;
+    let args = &before.stack[first..before.count];
+    let asked = why::ask_call(before.words, before.used, profile, name, tplt, args);
     Some(Query {
         asked,
-        used,
+        used: before.used,
         first,
-        end: count,
+        end: before.count,
     })
 }
 
 // What a call with a template asks.
-fn template_query(
-    profile: u32,
-    name: &[u8],
-    t: usize,
-    k: u8,
-    words: &[u32],
-    used: usize,
-    stack: &[u32],
-    count: usize,
-) -> Option<Query>
-    requires { Ready count stack.now used words.now }
-    ensures { Queries (template_lines (state_of count stack.now used words.now) profile name.now t k) result stack.now words.now }
+fn template_query(profile: u32, name: &[u8], t: usize, k: u8, before: Before) -> Option<Query>
+    ensures { QueriesAt (template_lines (state_at before.entry) profile name.now t k) result before.entry }
 {
-    if used <= t {
+    if before.used <= t {
         return None;
     }
-    call_query(profile, name, &[t as u32], k, words, used, stack, count)
+    call_query(profile, name, &[t as u32], k, before)
 }
 
 // What an item of the sheet asks.
-fn item_query(
-    profile: u32,
-    sheet: &[u8],
-    item: Item,
-    words: &[u32],
-    used: usize,
-    stack: &[u32],
-    count: usize,
-) -> Option<Query>
-    requires { Ready count stack.now used words.now × Within (length sheet.now) (name_of item) }
-    ensures { Queries (item_lines profile sheet.now (state_of count stack.now used words.now) item) result stack.now words.now }
+fn item_query(profile: u32, sheet: &[u8], item: Item, before: Before) -> Option<Query>
+    requires { Within (length sheet.now) (name_of item) }
+    ensures { QueriesAt (item_lines profile sheet.now (state_at before.entry) item) result before.entry }
 {
     match item {
-        Item::Unary(op) => unary_query(op, words, used, stack, count),
-        Item::Binary(op) => binary_query(op, words, used, stack, count),
+        Item::Unary(op) => unary_query(op, before),
+        Item::Binary(op) => binary_query(op, before),
         Item::Call { count: k, name } => {
             let bytes = frame::part_of(sheet, name);
-            call_query(profile, bytes, &[], k, words, used, stack, count)
+            call_query(profile, bytes, &[], k, before)
         }
         Item::CallTemplate {
             template,
@@ -242,7 +213,7 @@ fn item_query(
             name,
         } => {
             let bytes = frame::part_of(sheet, name);
-            template_query(profile, bytes, template.0, k, words, used, stack, count)
+            template_query(profile, bytes, template.0, k, before)
         }
         Item::Push { .. } | Item::Take { .. } | Item::End | Item::Bad => None,
     }
@@ -254,15 +225,13 @@ pub fn tell(profile: u32, sheet: &[u8], words: &mut [u32], stack: &mut [u32]) ->
     ensures { Queries (desk_pieces profile sheet.now) result stack.new words.new }
 {
     let at = stand_in(profile, sheet, words, stack)?;
-    item_query(
-        profile,
-        sheet,
-        at.placed.item,
+    let before = Before {
         words,
-        at.used,
+        used: at.used,
         stack,
-        at.count,
-    )
+        count: at.count,
+    };
+    item_query(profile, sheet, at.placed.item, before)
 }
 
 // How many pieces were asked for.

@@ -15,9 +15,8 @@ pub const ROOM: usize = 32768;
 // The words of a table that has room for 256 entries.
 const WORDS: usize = 1024;
 
-// The lines are put into a lent output, here and below.
-// Stays: no `Display` and no `write!`: `answer_sheet` counts the bytes that the output has no room for, where a `fmt::Write` that is full ends in an error.
 // The first line of a type.
+// Stays: no `Display`, here and below: `write` promises every byte, and counts those past the output's end. What a `fmt` writes, no clause says.
 fn type_line(words: &[u32], used: usize, t: TypeNo, out: &mut [u8]) -> usize
     requires { Sound words.now used × (t.0 < used) }
     ensures put { Put out.old 0 (type_line words.now t.0) result out.new }

@@ -8,7 +8,7 @@ use Rattle.answer.specs.declared.TypeNo.{TypeNo}
 use Rattle.frame.specs.declared.Item.{Item}
 use Rattle.frame.specs.declared.Item.TheVariants.{Push, Take, End, Bad}
 use Rattle.step.specs.Effect.{State}
-use Rattle.step.specs.inner.Code.{state_of}
+use Rattle.desk.specs.inner.Code.{state_at}
 use Rattle.desk.specs.Desk.{item_lines}
 use Rattle.desk.proofs.Queried.{none}
 use Rattle.desk.proofs.item_query.Goals as goal
@@ -22,10 +22,10 @@ silent profile s st i h =
     (⊎_elim (λ (x : (kind : ℕ) × (p : ℕ) × (q : ℕ) × (elem : ℕ) × (m : Bool) × (i ≡ Take kind p q elem m)). rw x.5) (⊎_elim (λ (e : i ≡ End). rw e) (λ (e : i ≡ Bad). rw e))) h
 
 pub part_of-bytes-requires : goal.part_of-bytes-requires
-part_of-bytes-requires c = rw c.in-Call.is at c.requires.1
+part_of-bytes-requires c = rw c.in-Call.is at c.requires
 
 pub part_of-bytes-requires-in-CallTemplate : goal.part_of-bytes-requires-in-CallTemplate
-part_of-bytes-requires-in-CallTemplate c = rw c.in-CallTemplate.is at c.requires.1
+part_of-bytes-requires-in-CallTemplate c = rw c.in-CallTemplate.is at c.requires
 
 pub returns-in-Unary : goal.returns-in-Unary
 unfolding item_lines
@@ -44,4 +44,4 @@ unfolding item_lines
 returns-in-CallTemplate c = rw c.in-CallTemplate.is (rw c.part_of-bytes-in-CallTemplate.ensures.bytes at c.template_query.ensures)
 
 pub returns-in-Push : goal.returns-in-Push
-returns-in-Push c = let a = c.args in rw (silent a.profile a.sheet.now (state_of a.count a.stack.now a.used a.words.now) a.item c.in-Push.is) (none a.count a.stack.now a.used a.words.now c.requires.0)
+returns-in-Push c = let a = c.args in let b = a.before in rw (silent a.profile a.sheet.now (state_at b) a.item c.in-Push.is) (none b.count b.stack.now b.used b.words.now b.ready)

@@ -2,8 +2,8 @@
 use Rattle.desk.proofs.Queried.{template-short, template-call}
 use Rattle.desk.proofs.template_query.Goals as goal
 
-pub returns-then-used-t : goal.returns-then-used-t
-returns-then-used-t c = let a = c.args in template-short a.count a.stack.now a.used a.words.now c.requires a.profile a.name.now a.t a.k c.if-used-t.true
+pub returns-then-before-t : goal.returns-then-before-t
+returns-then-before-t c = let a = c.args in let b = a.before in template-short b.count b.stack.now b.used b.words.now b.ready a.profile a.name.now a.t a.k c.if-before-t.true
 
 pub returns : goal.returns
-returns c = let a = c.args in template-call a.count a.stack.now a.used a.words.now c.requires a.profile a.name.now a.t a.k c.if-used-t.false c.call_query.ensures
+returns c = let a = c.args in let b = a.before in template-call b.count b.stack.now b.used b.words.now b.ready a.profile a.name.now a.t a.k c.if-before-t.false c.call_query.ensures

@@ -3,7 +3,9 @@ use Rattle.std.specs.Prelude.{ℕ, ◌-◌, ◌≤◌, ◌≡◌, List, [], Opti
 use Rattle.frame.specs.Frame.{item_at}
 use Rattle.step.specs.inner.Code.{state_of, Ready}
 use Rattle.why.specs.inner.Asks.{Tells, asked_pieces}
+use Rattle.step.specs.Effect.{State}
 use Rattle.desk.specs.declared.Query.{Query}
+use Rattle.desk.specs.declared.before.Before.{Before}
 use Rattle.desk.specs.Told.{Told, nothing, before}
 use Rattle.desk.specs.declared.Stand.{Stand}
 
@@ -47,6 +49,13 @@ all_pieces (Some q) vals words = pieces_of q vals words
 pub record Queries (ps : List (List ℕ)) (q : Option Query) (vals words : List ℕ) : Type 0 where
   pub asking : AllAsking q vals words
   pub pieces : all_pieces q vals words ≡ ps
+
+-- the state before an item, and what is asked over it
+abbrev pub state_at : Before → State
+state_at b = state_of b.count b.stack.now b.used b.words.now
+
+abbrev pub QueriesAt : List (List ℕ) → Option Query → Before → Type 0
+QueriesAt ps q b = Queries ps q b.stack.now b.words.now
 
 -- how many pieces a query has, over whatever stack and table
 abbrev pub Counted : Query → ℕ → Type 0
