@@ -6,6 +6,7 @@ ghost use Rattle.std.specs.Prelude.{◌≡◌, ◌<◌};
 ghost use Rattle.conv.specs.Rank.{rank_of, plain_rank, common_of, found};
 
 // What an entry of a table holds where there is no conversion.
+// Stays: the entries of constant rows are bytes, and `found` alone reads them.
 const NONE: u8 = 255;
 // How many scalars there are, and how many plain numbers: below the first a number is a scalar, below the second a scalar or a vector.
 pub const SCALARS: u8 = 7;

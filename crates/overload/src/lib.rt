@@ -18,6 +18,7 @@ use conv::{PLAINS, SCALARS};
 use tables::{Family, Row, Size};
 
 // The digits of a family: the count of its parameters, its first parameter, its result, its wrapping, by which operands its size is found.
+// Stays: digits of constant rows, each read in one place, which says what it means: the wrapping in `out_of`, the operands of the size in `size_at`.
 const COUNT: usize = 0;
 
 const PARAM: usize = 1;
@@ -28,6 +29,7 @@ const WRAP: usize = 11;
 
 const PIVOT: usize = 12;
 // The component of a pattern that stands for the second choice, and that for T, which is the last.
+// Stays: a component is a digit of constant rows and the place of a line of `tables::reached`; an enum would be made of the digit and turned back into it at each operand.
 const OF_I: u8 = 7;
 
 const OF_T: u8 = 9;
@@ -77,6 +79,7 @@ fn shape_or_scalar(x: Option<u8>) -> u8
 }
 
 // The form of a shape: 0 scalar, 1 vector, 2 matrix.
+// Stays: the forms of two shapes together are the place of a digit in a row's line, so a form is a number from the start.
 fn form_of(shape: u8) -> u8
     requires { shape < 13 }
     ensures { (result ≡ form_of (shape_of_no shape)) × (result < 3) }

@@ -73,7 +73,7 @@ const ROWS: [u64; 54] = [
 const NO_ROW: u64 = 0x0_00_0_fffffffff;
 
 // The line of a row.
-fn row_line(row: usize) -> u64
+pub fn row_line(row: usize) -> u64
     ensures { RowLine row result }
 {
     line(&ROWS, row, NO_ROW)
@@ -156,7 +156,7 @@ const FAMILIES: [u64; 69] = [
 const NO_FAMILY: u64 = 0xf_f_f_0_0_90_90_90_90_90_0;
 
 // The line of a family.
-fn family_word(f: u64) -> u64
+pub fn family_word(f: u64) -> u64
     ensures { Word f result }
 {
     line(&FAMILIES, f as usize, NO_FAMILY)
@@ -208,7 +208,7 @@ const STARTS: [u64; 41] = [
 ];
 
 // The line of a size.
-fn starts_at(n: u8) -> u64
+pub fn starts_at(n: u8) -> u64
     requires { n < 41 }
     ensures { Starts n result }
 {
@@ -304,8 +304,8 @@ const NO_PLACE: u64 = 15;
 // A row, by its number, with its line.
 #[derive(Clone, Copy)]
 pub struct Row {
-    no: usize,
-    line: u64,
+    pub no: usize,
+    pub line: u64,
     ghost read: { RowLine no line },
 }
 
@@ -353,8 +353,8 @@ impl Row {
 // A family, by its number, with its line.
 #[derive(Clone, Copy)]
 pub struct Family {
-    no: u64,
-    line: u64,
+    pub no: u64,
+    pub line: u64,
     ghost read: { Word no line },
 }
 
@@ -399,8 +399,8 @@ impl Family {
 // A size, by its number, with its line.
 #[derive(Clone, Copy)]
 pub struct Size {
-    no: u8,
-    starts: u64,
+    pub no: u8,
+    pub starts: u64,
     ghost small: { no < 41 },
     ghost read: { Starts no starts },
 }

@@ -22,6 +22,7 @@ pub fn rank(x: u8, p: u8) -> Option<u8>
 }
 
 // What an operand costs at a parameter: the rank, and where it does not convert more than any rank.
+// Stays: a number, since `no_more` and `less` compare numbers, and an Option has None before Some.
 pub fn cost(x: u8, p: u8) -> u8
     requires { p < 91 }
     ensures { result ≡ conversion_rank (operand x) (operand p) }
