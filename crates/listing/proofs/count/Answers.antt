@@ -1,5 +1,4 @@
 -- `listing::count` meets its contract: the counts of all rows, which antt computes, and none past the last row. Assumes nothing.
-use Prim.Native.Nat.{ℕ}
 use mathlib.Core.Path.{◌≡◌, sym, ◌∙◌, ap}
 use native.Mathlib.Omega.{arith}
 use lib.ListN.{length, get_or-eq_default}

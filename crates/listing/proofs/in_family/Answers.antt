@@ -1,10 +1,9 @@
 -- `listing::in_family` meets its contract: the four parameters at the T, the size and the I of the place. Assumes nothing.
 use native.Mathlib.Omega.{arith}
 use Prim.Native.Nat.{ℕ, ◌<◌}
-use mathlib.Core.Path.{◌≡◌, sym, ◌∙◌, subst}
-use mathlib.Core.List.{[], ◌∷◌}
+use mathlib.Core.Path.{sym, ◌∙◌, subst}
 use Rattle.overload.specs.inner.Code.{family_of}
-use Rattle.listing.specs.inner.Places.{Asked, code_of_param, code_at}
+use Rattle.listing.specs.inner.Places.{Asked}
 use Rattle.listing.proofs.Places.{at_place}
 use Rattle.listing.proofs.in_family.Goals.{After-second_of-i}
 use Rattle.listing.proofs.in_family.Goals as goal
@@ -13,9 +12,6 @@ use Rattle.listing.proofs.in_family.Goals as goal
 asks : (c : After-second_of-i) (k : ℕ) → k < 4 → Asked (family_of c.args.f.no) c.at-z.result.no k
 asks c k h =
     subst (λ (n : ℕ). Asked (family_of c.args.f.no) n k) (sym (c.at-z.ensures ∙ c.size_of.ensures.0)) ((at_place c.args.f.no c.args.j c.requires).asked k h)
-
-param_is : (c : After-second_of-i) (k r : ℕ) → r ≡ code_of_param (family_of c.args.f.no) c.at-z.result.no c.t_of-t.result c.second_of-i.result k → r ≡ code_at (family_of c.args.f.no) c.args.j k
-param_is c k r e = e ∙ (λ i. code_of_param (family_of c.args.f.no) ((c.at-z.ensures ∙ c.size_of.ensures.0) i) (c.t_of-t.ensures.0 i) (c.second_of-i.ensures.0 i) k)
 
 pub param-a-requires : goal.param-a-requires
 param-a-requires c = (asks (goal.at.param-a-requires c).After-second_of-i 0 (omega arith), c.t_of-t.ensures.1, c.second_of-i.ensures.1, omega arith)
@@ -28,11 +24,3 @@ param-c-requires c = (asks (goal.at.param-c-requires c).After-second_of-i 2 (ome
 
 pub param-d-requires : goal.param-d-requires
 param-d-requires c = (asks (goal.at.param-d-requires c).After-second_of-i 3 (omega arith), c.t_of-t.ensures.1, c.second_of-i.ensures.1, omega arith)
-
-pub returns : goal.returns
-returns c =
-    let p = param_is (goal.at.returns c).After-second_of-i 0 _ c.param-a.ensures in
-    let q = param_is (goal.at.returns c).After-second_of-i 1 _ c.param-b.ensures in
-    let u = param_is (goal.at.returns c).After-second_of-i 2 _ c.param-c.ensures in
-    let v = param_is (goal.at.returns c).After-second_of-i 3 _ c.param-d.ensures in
-    λ i. p i ∷ q i ∷ u i ∷ v i ∷ []

@@ -1,18 +1,11 @@
 -- `listing::t_of` meets its contract. Assumes nothing.
 use native.Mathlib.Omega.{arith}
 use Prim.Native.Nat.{ℕ, ◌/◌, ◌%◌, ◌<◌}
-use mathlib.Core.Path.{sym, ◌∙◌, subst, transport}
-use lib.ListN.{get_or}
+use mathlib.Core.Path.{sym, subst, transport}
 use Rattle.listing.proofs.Lines.{set-count, sizes-count}
 use Rattle.listing.proofs.Places.{at_place}
 use Rattle.listing.proofs.t_of.Goals.{After-set_line-2}
 use Rattle.listing.proofs.t_of.Goals as goal
-
-pub nonzero_div-turn : goal.nonzero_div-turn
-nonzero_div-turn c = let e = set-count c.second.ensures.0 c.set_line.ensures in let l = (at_place c.args.f.no c.args.j c.requires).second in omega (arith, e, l)
-
-pub nonzero_div-turn-2 : goal.nonzero_div-turn-2
-nonzero_div-turn-2 c = let e = sizes-count c.sizes.ensures.0 c.sizes_line-sizes.ensures in let l = (at_place c.args.f.no c.args.j c.requires).size in omega (arith, e, l)
 
 -- there is a T at the place
 within : (c : After-set_line-2) → c.args.j / (c.set_line.result % 8) / (c.sizes_line-sizes.result % 256) < c.set_line-2.result % 8
@@ -28,9 +21,3 @@ scalar_in-requires c = let q = within (goal.at.scalar_in-requires c).After-set_l
   subst (λ (m : ℕ). c.args.j / (c.set_line.result % 8) / (c.sizes_line-sizes.result % 256) < m) c.set_line-2.ensures.count q,
   omega (arith, q),
 )
-
-pub returns : goal.returns
-returns c =
-    let e = set-count c.second.ensures.0 c.set_line.ensures in
-    let z = sizes-count c.sizes.ensures.0 c.sizes_line-sizes.ensures in
-    (c.scalar_in.ensures.0 ∙ (λ i. get_or (c.set-k.ensures.0 i) (c.args.j / e i / z i) 0), c.scalar_in.ensures.1)

@@ -9,12 +9,6 @@ use Rattle.overload.proofs.first_of.Goals as goal
 pub returns-then-w-eq0 : goal.returns-then-w-eq0
 returns-then-w-eq0 c = ap found (none_first c.args.w c.if-w-eq0.true)
 
-pub overflow_mul-result : goal.overflow_mul-result
-overflow_mul-result c = let l = lowest-seven c.args.w c.requires c.if-w-eq0.false in omega (arith, l)
-
-pub overflow_cast-result : goal.overflow_cast-result
-overflow_cast-result c = let l = lowest-seven c.args.w c.requires c.if-w-eq0.false in omega (arith, l)
-
 pub overflow_shr-result : goal.overflow_shr-result
 overflow_shr-result c = let l = lowest-seven c.args.w c.requires c.if-w-eq0.false in omega (arith, l)
 

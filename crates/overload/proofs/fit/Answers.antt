@@ -66,9 +66,6 @@ of-small c =
 nine : (c : After-digit-of) → 9 ≤ c.digit-of.result → digit_of c.args.f.no (2 * c.loop-k.k + 2) ≡ 9
 nine c h = let l = of-small c in sym (of_is c) ∙ omega arith
 
-pub join-requires : goal.join-requires
-join-requires c = (c.loop-k.invariant.join, let e = (it_is (goal.at.join-requires c).In_ok-s).1 in omega arith)
-
 pub returns-in_err-join : goal.returns-in_err-join
 returns-in_err-join c =
     let a = c.args in
@@ -79,12 +76,6 @@ returns-in_err-join c =
     rw c.from_residual-in_err-join.ensures
     (no_join a.f.no a.z.no a.xs.now a.z.small p.0 p.1 l.joined l.m l.v l.k l.invariant c.loop-k-test.true (omega (arith, c.type_inv.xs l.k)) q.0 (nine at.After-digit-of c.if-of-ge-OF_T.true)
     (λ t h. rw q.1 at (c.in_err-join.ensures t h)))
-
-pub reached-requires : goal.reached-requires
-reached-requires c = (c.if-of-ge-OF_T.false, let e = (it_is (goal.at.reached-requires c).In_ok-s).1 in omega arith)
-
-pub second_slot-requires : goal.second_slot-requires
-second_slot-requires c = let e = (it_is (goal.at.second_slot-requires c).In_ok-s).1 in omega arith
 
 pub loop-k-preserved : goal.loop-k-preserved
 loop-k-preserved c =
@@ -105,9 +96,6 @@ loop-k-preserved c =
           (λ t h. rw (o, q.1) at (w.reached.ensures t h))
           (λ i h. rw (o, q.1) at (w.second_slot.ensures i h)))
     ]
-
-pub allowed-requires : goal.allowed-requires
-allowed-requires c = c.loop-k.invariant.join
 
 pub returns : goal.returns
 returns c =

@@ -5,9 +5,6 @@ use Rattle.overload.specs.inner.Code.{family_of, out_of}
 use Rattle.overload.proofs.Resolving.{wrap-digit, wrapped-bare, wrapped-frexp, wrapped-modf}
 use Rattle.overload.proofs.out_of.Goals as goal
 
-pub result_of-x-requires : goal.result_of-x-requires
-result_of-x-requires c = c.requires
-
 pub returns-in-0 : goal.returns-in-0
 unfolding out_of
 returns-in-0 c =

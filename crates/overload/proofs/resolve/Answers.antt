@@ -27,13 +27,6 @@ returns-then-a-ge-SHAPES c =
     kept-is a.row a.running _ _
     (⊎_elim (λ l. first-apart a.row a.running a.xs.now (subst (λ (n : ℕ). 13 ≤ n) s l)) (λ l. last_apart a.row a.running a.xs.now (subst (λ (n : ℕ). 13 ≤ n) t l.1)) c.then-a-ge-SHAPES.either)
 
-pub try_family-requires : goal.try_family-requires
-try_family-requires c =
-    let a = c.args in
-    let s = end_is a.xs.now 0 _ _ c.shape_or_scalar-a.ensures (c.copied.ensures ∙ c.first.ensures.value) in
-    let t = end_is a.xs.now _ _ _ c.shape_or_scalar-b.ensures (c.copied-2.ensures ∙ c.last.ensures.value) in
-    (c.if-a-ge-SHAPES.false, c.if-b-ge-SHAPES.false, s, t)
-
 -- where the first family that may fit is, at the forms of the operands
 place_is : (c : After-place) → c.place.result ≡ placed (place_of (forms_of c.args.xs.now) (row_at c.args.row).families 0)
 place_is c =

@@ -5,9 +5,6 @@ use Rattle.overload.proofs.Resolving.{result-form, result-shape, result-componen
 use Rattle.overload.proofs.result_of.Goals.{After-start-start}
 use Rattle.overload.proofs.result_of.Goals as goal
 
-pub digit-requires : goal.digit-requires
-digit-requires c = omega arith
-
 pub start-start-requires : goal.start-start-requires
 start-start-requires c =
     let a = c.args in
@@ -28,9 +25,6 @@ small c =
     let e = start_is c in
     let l = result-shape a.f.no a.z.no a.z.small p.0 in
     omega arith
-
-pub digit-of-requires : goal.digit-of-requires
-digit-of-requires c = omega arith
 
 pub overflow_add-result : goal.overflow_add-result
 overflow_add-result c = let l = small (goal.at.overflow_add-result c).After-start-start in let h = c.requires.1 in omega arith

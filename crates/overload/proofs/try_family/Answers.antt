@@ -3,7 +3,6 @@ use Rattle.std.proofs.Common.{◌≡◌, ℕ, ◌<◌, Bool, T, map, length, sym
 use Rattle.conv.specs.Rank.{both}
 use Rattle.conv.proofs.Answered.{found-nothing, found-it, found-some}
 use Rattle.overload.specs.inner.Code.{operand, size_of_no, mem_size, family_of, size_at, bit, has, member, left_t}
-use Rattle.overload.proofs.Sets.{common-small}
 use Rattle.overload.proofs.Fitting.{size_of_xs}
 use Rattle.overload.proofs.Sieve.{left_set, left-member}
 use Rattle.overload.proofs.Resolving.{size_is, count-digit, not-so-many, not-that-size, nowhere, not-at-T, not-at-I, T-small, I-small, it-fits}
@@ -75,9 +74,6 @@ set_is c t h =
     ∙ ap (λ (b : Bool). both b (left_t a.running t)) (c.set_line.ensures.within t h ∙ ap (member t) c.set.ensures.0)
     ∙ sym (left-member a.running t (family_of a.f.no).set)
 
-pub first_of-requires : goal.first_of-requires
-first_of-requires c = common-small _ _ c.left_of-left.ensures.0
-
 pub returns-in_err-t : goal.returns-in_err-t
 returns-in_err-t c =
     let a = c.args in
@@ -88,9 +84,6 @@ returns-in_err-t c =
 
 second_is : (c : After-set_line-2) → (i : ℕ) → i < 7 → has c.set_line-2.result i ≡ member i (family_of c.args.f.no).second
 second_is c i h = c.set_line-2.ensures.within i h ∙ ap (member i) c.second.ensures.0
-
-pub first_of-requires-2 : goal.first_of-requires-2
-first_of-requires-2 c = common-small _ _ c.set_line-2.ensures.small
 
 pub returns-in_err-i : goal.returns-in_err-i
 returns-in_err-i c =
