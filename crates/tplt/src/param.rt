@@ -14,12 +14,6 @@ pub const TAG_I32: i64 = 2;
 
 pub const TAG_U32: i64 = 3;
 
-const U32_MAX: i64 = 4294967295;
-
-const I32_MAX: i64 = 2147483647;
-
-const I32_MIN: i64 = -2147483648;
-
 // An argument of a template list: a type of the table, a number that is no type of it, or a literal.
 #[derive(Clone, Copy)]
 pub enum TpltParam {
@@ -41,38 +35,33 @@ pub enum Arguments {
 fn type_param(n: usize, value: i64) -> TpltParam
     ensures { result ≡ type_param n value }
 {
-    if value < 0 {
-        return TpltParam::NoType;
+    match usize::try_from(value) {
+        Ok(t) => {
+            if n <= t {
+                return TpltParam::NoType;
+            }
+            TpltParam::Typed(TypeNo(t))
+        }
+        Err(_) => TpltParam::NoType,
     }
-    let t = value as usize;
-    if n <= t {
-        return TpltParam::NoType;
-    }
-    TpltParam::Typed(TypeNo(t))
 }
 
 fn i32_param(value: i64) -> TpltParam
     ensures { result ≡ i32_param value }
 {
-    if value < I32_MIN {
-        return TpltParam::Other;
+    match i32::try_from(value) {
+        Ok(n) => TpltParam::I32(n),
+        Err(_) => TpltParam::Other,
     }
-    if I32_MAX < value {
-        return TpltParam::Other;
-    }
-    TpltParam::I32(value as i32)
 }
 
 fn u32_param(value: i64) -> TpltParam
     ensures { result ≡ u32_param value }
 {
-    if value < 0 {
-        return TpltParam::Other;
+    match u32::try_from(value) {
+        Ok(n) => TpltParam::U32(n),
+        Err(_) => TpltParam::Other,
     }
-    if U32_MAX < value {
-        return TpltParam::Other;
-    }
-    TpltParam::U32(value as u32)
 }
 
 // The argument of one pair, in a table of n entries.
@@ -143,35 +132,17 @@ pub fn arguments_of(n: usize, args: &[i64]) -> Option<Arguments>
     }
 }
 
-// The sign is tested before the cast, which then loses nothing.
-fn abstract_count(count: i64) -> Result<u32, Reason>
+// The count that a number is. Its sign is tested before the cast, which then loses nothing.
+fn count_in(count: i64) -> Result<u32, Reason>
     ensures { result ≡ count_z count }
 {
     if count <= 0 {
         return Err(Reason::Count);
     }
-    if U32_MAX < count {
-        return Err(Reason::Count);
+    match u32::try_from(count) {
+        Ok(n) => Ok(n),
+        Err(_) => Err(Reason::Count),
     }
-    Ok(count as u32)
-}
-
-fn i32_count(n: i32) -> Result<u32, Reason>
-    ensures { result ≡ count_z n }
-{
-    if n <= 0 {
-        return Err(Reason::Count);
-    }
-    Ok(n as u32)
-}
-
-fn u32_count(n: u32) -> Result<u32, Reason>
-    ensures { result ≡ count_of (TpltParam.U32 n) }
-{
-    if n == 0 {
-        return Err(Reason::Count);
-    }
-    Ok(n)
 }
 
 // The count that a literal gives.
@@ -179,9 +150,9 @@ pub fn count_of(p: TpltParam) -> Result<u32, Reason>
     ensures { result ≡ count_of p }
 {
     match p {
-        TpltParam::AbstractInt(n) => abstract_count(n),
-        TpltParam::I32(n) => i32_count(n),
-        TpltParam::U32(n) => u32_count(n),
+        TpltParam::AbstractInt(n) => count_in(n),
+        TpltParam::I32(n) => count_in(i64::from(n)),
+        TpltParam::U32(n) => count_in(i64::from(n)),
         _ => Err(Reason::Count),
     }
 }
