@@ -95,13 +95,13 @@ fn param_at(n: usize, args: &[i64], at: usize) -> TpltParam
 pub fn types_known(n: usize, args: &[i64]) -> bool
     ensures { result ≡ types_known (params_of n args.now) }
 {
-    let mut at = 0;
-    while at + 1 < args.len() {
-        let p = param_at(n, args, at);
+    let mut left = args;
+    while let [tag, value, rest @ ..] = left {
+        let p = param_of(n, *tag, *value);
         if let TpltParam::NoType = p {
             return false;
         }
-        at += 2;
+        left = rest;
     }
     true
 }
