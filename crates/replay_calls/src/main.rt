@@ -129,6 +129,6 @@ impl<'a> Rows<'a> for Calls<'a> {
 
 fn main(rt: HostRuntime) -> io::Result<()> {
     let mut buffer = stdio::large_buffer();
-    let n = stdio::read_full(&mut rt.reader(), &mut buffer)?;
-    vectors::replay(&rt, &buffer[..n], &mut Calls::new())
+    let input = stdio::read_into(&mut rt.reader(), &mut buffer)?;
+    vectors::replay(&rt, input, &mut Calls::new())
 }

@@ -182,10 +182,10 @@ impl<'a> Rows<'a> for Marks<'a> {
 
 fn main(rt: HostRuntime) -> io::Result<()> {
     let mut buffer = stdio::large_buffer();
-    let n = stdio::read_full(&mut rt.reader(), &mut buffer)?;
+    let input = stdio::read_into(&mut rt.reader(), &mut buffer)?;
     let mut marks = Marks {
         types: Types::new(),
         group: Group(&[]),
     };
-    vectors::replay(&rt, &buffer[..n], &mut marks)
+    vectors::replay(&rt, input, &mut marks)
 }

@@ -154,10 +154,10 @@ impl<'a> Rows<'a> for Memory<'a> {
 
 fn main(rt: HostRuntime) -> io::Result<()> {
     let mut buffer = stdio::large_buffer();
-    let n = stdio::read_full(&mut rt.reader(), &mut buffer)?;
+    let input = stdio::read_into(&mut rt.reader(), &mut buffer)?;
     let mut memory = Memory {
         types: Types::new(),
         name: &[],
     };
-    vectors::replay(&rt, &buffer[..n], &mut memory)
+    vectors::replay(&rt, input, &mut memory)
 }

@@ -129,6 +129,6 @@ fn replay(rt: &impl Print, input: &[u8]) -> io::Result<()> {
 
 fn main(rt: HostRuntime) -> io::Result<()> {
     let mut buffer = stdio::large_buffer();
-    let n = stdio::read_full(&mut rt.reader(), &mut buffer)?;
-    replay(&rt, &buffer[..n])
+    let input = stdio::read_into(&mut rt.reader(), &mut buffer)?;
+    replay(&rt, input)
 }

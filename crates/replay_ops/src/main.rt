@@ -47,7 +47,7 @@ fn replay(input: &[u8]) -> u64 {
 
 fn main(rt: HostRuntime) -> io::Result<()> {
     let mut buffer = stdio::large_buffer();
-    let n = stdio::read_full(&mut rt.reader(), &mut buffer)?;
-    let agreed = replay(&buffer[..n]);
+    let input = stdio::read_into(&mut rt.reader(), &mut buffer)?;
+    let agreed = replay(input);
     println!(rt; "operators: {agreed} of 54615 agreed")
 }

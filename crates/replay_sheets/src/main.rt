@@ -19,8 +19,7 @@ fn read_number(reader: &mut impl Read) -> io::Result<u32> {
 fn read_part<'b>(reader: &mut impl Read, buffer: &'b mut [u8]) -> io::Result<&'b [u8]> {
     let size = read_number(reader)? as usize;
     let room = size.min(buffer.len());
-    let n = stdio::read_full(reader, &mut buffer[..room])?;
-    Ok(&buffer[..n])
+    stdio::read_into(reader, &mut buffer[..room])
 }
 
 // Whether a sheet is answered with these lines in a profile.

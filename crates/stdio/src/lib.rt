@@ -34,6 +34,15 @@ pub fn read_full<R: Read>(reader: &mut R, buffer: &mut [u8]) -> io::Result<usize
     Ok(done)
 }
 
+// The same, and gives what it read.
+pub fn read_into<'b, R: Read>(reader: &mut R, buffer: &'b mut [u8]) -> io::Result<&'b [u8]>
+    ensures bytes { IfOk result (λ s. Consumes (R.remaining reader.old) (R.remaining reader.new) s.now) }
+    ensures end { IfOk result (λ s. length s.now < length buffer.old → IsAtEnd (R.remaining reader.new)) }
+{
+    let n = read_full(reader, buffer)?;
+    Ok(&buffer[..n])
+}
+
 // How many words the program was started with, its own name the first of them.
 pub fn arg_count(rt: &impl Env) -> usize {
     (0..usize::MAX)
@@ -77,6 +86,15 @@ mod tests {
         assert_eq!(rt; read_full(&mut reader, &mut three)?, 2);
         assert_eq!(rt; three.as_slice(), b"ete".as_slice());
         assert_eq!(rt; read_full(&mut reader, &mut three)?, 0);
+        Ok(())
+    }
+
+    #[test]
+    fn gives_what_it_read(rt: HostRuntime) -> Result<(), Fail> {
+        let mut reader = b"sheet".as_slice();
+        let mut three = [0u8; 3];
+        assert_eq!(rt; read_into(&mut reader, &mut three)?, b"she".as_slice());
+        assert_eq!(rt; read_into(&mut reader, &mut three)?, b"et".as_slice());
         Ok(())
     }
 

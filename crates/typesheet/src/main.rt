@@ -8,8 +8,8 @@ use std::io;
 fn main(rt: HostRuntime) -> io::Result<()> {
     let profile = arguments::profile(&rt);
     let mut buffer = stdio::large_buffer();
-    let n = stdio::read_full(&mut rt.reader(), &mut buffer)?;
+    let input = stdio::read_into(&mut rt.reader(), &mut buffer)?;
     let mut out = [0u8; lines::ROOM];
-    let k = lines::answer_sheet(profile, &buffer[..n], &mut out);
+    let k = lines::answer_sheet(profile, input, &mut out);
     rt.write_all(&out[..k])
 }

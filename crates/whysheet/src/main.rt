@@ -31,13 +31,13 @@ fn write_pieces(
 fn main(rt: HostRuntime) -> io::Result<()> {
     let profile = arguments::profile(&rt);
     let mut buffer = stdio::large_buffer();
-    let n = stdio::read_full(&mut rt.reader(), &mut buffer)?;
+    let input = stdio::read_into(&mut rt.reader(), &mut buffer)?;
     let mut out = [0u8; lines::ROOM];
-    let k = lines::answer_sheet(profile, &buffer[..n], &mut out);
+    let k = lines::answer_sheet(profile, input, &mut out);
     rt.write_all(&out[..k])?;
     let mut words = lines::scalars();
     let mut stack = [0u32; VALUES];
-    match desk::tell(profile, &buffer[..n], &mut words, &mut stack) {
+    match desk::tell(profile, input, &mut words, &mut stack) {
         Some(q) => write_pieces(&rt, &words, &stack, q, &mut out),
         None => Ok(()),
     }
