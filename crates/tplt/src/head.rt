@@ -50,11 +50,10 @@ fn key_of(name: &[u8]) -> u64
     ensures { result ≡ key_of name.now }
 {
     let mut key: u64 = 1;
-    let mut left = name.len();
-    while 0 < left {
-        let at = left - 1;
-        key = key * 256 + cast::wide::<u64>(name[at]);
-        left = at;
+    let mut left = name;
+    while let [front @ .., b] = left {
+        key = key * 256 + cast::wide::<u64>(*b);
+        left = front;
     }
     key
 }
