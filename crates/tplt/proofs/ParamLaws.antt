@@ -17,8 +17,7 @@ use Rattle.tplt.specs.declared.param.TpltParam.{TpltParam}
 use Rattle.tplt.specs.declared.param.TpltParam.TheVariants.{Typed, NoType, AbstractInt, I32, U32, Other}
 use Rattle.tplt.specs.declared.param.Arguments.{Arguments}
 use Rattle.tplt.specs.declared.param.Arguments.TheVariants.{Two}
-use Rattle.std.specs.Prelude.{Option, Some, None, Result, Err}
-use Rattle.answer.specs.declared.Reason.{Reason}
+use Rattle.std.specs.Prelude.{Option, Some, None, Err}
 use Rattle.answer.specs.declared.Reason.TheVariants.{Count}
 use Rattle.tplt.specs.contracts.param.TpltParam.{the_type}
 

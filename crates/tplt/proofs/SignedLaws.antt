@@ -8,7 +8,7 @@ use lib.IntN.{ℤ, pos, negsuc, nat_abs}
 use lib.Signed.{le_z, mag}
 use borrow.Author.Tests.{leb-true, leb-false, le-ltb, lt-ltb, le-leb, lt-leb, ne_eqb}
 use mir.Syntax.{w32, w64}
-use mir.Val.{Fits, SFits, to_z, of_z}
+use mir.Val.{SFits, to_z, of_z}
 use mir.ValLaws.{to_z-of_z, to_z_pos}
 use Rattle.std.specs.Int.{FitsUnsignedBits}
 use Rattle.tplt.specs.Params.{type_param, i32_param, u32_param, param_of, count_z}

@@ -7,7 +7,7 @@ use Rattle.table.specs.Denote.{type_at}
 use Rattle.table.specs.Placing.{Outcome, turned_down, entering}
 use Rattle.answer.specs.declared.TypeNo.{TypeNo}
 use Rattle.answer.specs.declared.Reason.{Reason}
-use Rattle.answer.specs.declared.Reason.TheVariants.{Unsound, NoSuchType, Unknown, Template, Count}
+use Rattle.answer.specs.declared.Reason.TheVariants.{Unsound, NoSuchType, Unknown, Template}
 use Rattle.tplt.specs.declared.head.Head.{Head}
 use Rattle.tplt.specs.declared.head.Head.TheVariants.{Vector, Matrix, Atomic, Array}
 use Rattle.tplt.specs.declared.param.Arguments.{Arguments}

@@ -6,15 +6,17 @@ ghost use Rattle.tplt.specs.inner.Steps.{param_at};
 use table::{Reason, TypeNo};
 
 // The tags of an argument. Any other tag is another literal.
-pub const TAG_TYPE: i64 = 0;
+const TAG_TYPE: i64 = 0;
 
-pub const TAG_ABSTRACT_INT: i64 = 1;
+const TAG_ABSTRACT_INT: i64 = 1;
 
-pub const TAG_I32: i64 = 2;
+const TAG_I32: i64 = 2;
 
-pub const TAG_U32: i64 = 3;
+const TAG_U32: i64 = 3;
 
 // An argument of a template list: a type of the table, a number that is no type of it, or a literal.
+// Stays: `NoType` is an argument among the others, of which `is_typed` speaks, and the theorems `array-counted` and `abstract-count` take `count_of` of any
+// argument that a pair is; with an Option around it each of them would have to open it first.
 #[derive(Clone, Copy)]
 pub enum TpltParam {
     Typed(TypeNo),
@@ -68,19 +70,13 @@ fn u32_param(value: i64) -> TpltParam
 fn param_of(n: usize, tag: i64, value: i64) -> TpltParam
     ensures { result ≡ param_of n tag value }
 {
-    if tag == TAG_TYPE {
-        return type_param(n, value);
+    match tag {
+        TAG_TYPE => type_param(n, value),
+        TAG_ABSTRACT_INT => TpltParam::AbstractInt(value),
+        TAG_I32 => i32_param(value),
+        TAG_U32 => u32_param(value),
+        _ => TpltParam::Other,
     }
-    if tag == TAG_ABSTRACT_INT {
-        return TpltParam::AbstractInt(value);
-    }
-    if tag == TAG_I32 {
-        return i32_param(value);
-    }
-    if tag == TAG_U32 {
-        return u32_param(value);
-    }
-    TpltParam::Other
 }
 
 // The argument of the pair at a place.

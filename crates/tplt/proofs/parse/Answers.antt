@@ -1,5 +1,5 @@
 -- `tplt::parse` meets its contract: by the cases of the head. Assumes nothing.
-use Rattle.std.proofs.Common.{◌≡◌, sym, ap, ◌∙◌, Option, Some, None, ok_or}
+use Rattle.std.proofs.Common.{◌≡◌, sym, ap, ◌∙◌, Option, ok_or}
 use Rattle.std.proofs.lemmas.Result.{err_from_is_err_and}
 use Rattle.answer.specs.declared.Reason.TheVariants.{Unknown}
 use Rattle.tplt.specs.declared.head.Head.{Head}

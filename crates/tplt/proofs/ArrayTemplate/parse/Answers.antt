@@ -1,9 +1,8 @@
 -- `tplt::ArrayTemplate::parse` meets its contract: by the cases of the list. Assumes nothing.
-use Rattle.std.proofs.Common.{◌≡◌, sym, ap, ◌∙◌, Option, Some, None, ok_or}
+use Rattle.std.proofs.Common.{◌≡◌, sym, ap, ◌∙◌, Option, ok_or}
 use Rattle.std.proofs.lemmas.Result.{err_from_is_err_and}
 use Rattle.answer.specs.declared.Reason.TheVariants.{Template}
 use Rattle.tplt.specs.declared.param.Arguments.{Arguments}
-use Rattle.tplt.specs.declared.param.Arguments.TheVariants.{One, Two}
 use Rattle.tplt.specs.Templates.{array_parsed}
 use Rattle.tplt.proofs.ArrayTemplate.parse.Goals as goal
 
