@@ -3,7 +3,6 @@
 
 ghost use Rattle.std.specs.Prelude.{◌≡◌, true, false, ◌≤◌, length, map};
 ghost use Rattle.names.specs.inner.Table.{meant};
-ghost use Rattle.conv.specs.Types.{is_float};
 ghost use Rattle.table.specs.Table.{Sound};
 ghost use Rattle.table.specs.Placing.{Gave, GaveMarked};
 ghost use Rattle.answer.specs.Answer.{refuse, marked_by};
@@ -13,38 +12,29 @@ ghost use Rattle.overload.specs.Marks.{any_running, running_abstract};
 ghost use Rattle.call_ty.specs.Calls.{template_right, operands_of, given_by, given_outcome, call_outcome, all_under, numbers, marks_of, types, type_builtin_fn, builtin_runs};
 ghost use Rattle.call_ty.specs.inner.Codes.{by_meant, Under, Loaded, numeric_code};
 
-use conv::{PLAINS, SCALARS};
+use conv::{ABSTRACT_FLOAT, ABSTRACT_INT, I32, PLAINS, SCALARS};
 use names::{NamedRule, Names, Rule};
 use ruled::REFERENCE;
 use table::{Answer, Place, Reason, TypeNo, Typed};
 
 // The most operands of a rule.
 const MOST: usize = 4;
-// The scalars, as an operand's number has them.
-const ABSTRACT_INT: u8 = 1;
-
-const ABSTRACT_FLOAT: u8 = 2;
-
-const I32: u8 = 3;
-
+// The other numeric scalars, as an operand's number has them.
 const U32: u8 = 4;
 
 const F32: u8 = 5;
 
 const F16: u8 = 6;
 
-fn is_float(s: u8) -> bool
-    ensures { result ≡ is_float s }
-{
-    (s == ABSTRACT_FLOAT) | (s == F32) | (s == F16)
-}
-
 // The number of a numeric scalar or vector.
 fn numeric_code(x: u8) -> bool
     ensures { result ≡ numeric_code x }
 {
-    let s = x % SCALARS;
-    (x < PLAINS) & (is_float(s) | (s == ABSTRACT_INT) | (s == I32) | (s == U32))
+    x < PLAINS
+        && matches!(
+            x % SCALARS,
+            ABSTRACT_INT | ABSTRACT_FLOAT | I32 | U32 | F32 | F16
+        )
 }
 
 // How many operands a rule wants.

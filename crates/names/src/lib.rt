@@ -78,6 +78,7 @@ impl From<u8> for Rule {
 // The number of a name's rule, and whether its result is running even where all operands are const.
 #[derive(Clone, Copy, PartialEq, Eq, Debug)]
 pub struct NamedRule {
+    // Stays: the number, since the key of what a run remembers is made of it (`memo::asked_row`). `Rule::from` reads it.
     pub rule: u8,
     pub running: bool,
 }
