@@ -39,6 +39,7 @@ pub struct Refusal {
 }
 
 // What a call answers: a type or no value, each with the used count, or a refusal.
+// Stays: no Result of an Option, since all three cases are answers of document 01, each with its numbers (`numbers_of`), and none is handed on by `?`.
 #[derive(Clone, Copy, Debug, PartialEq, Eq)]
 pub enum Answer {
     Value(TypeNo, usize),
@@ -47,6 +48,7 @@ pub enum Answer {
 }
 
 // An answer, and whether its value is known only when running; false where it has no value.
+// Stays: the mark stands beside the answer, since `GaveMarked` of table/specs/Placing.antt says of each host's call the two apart.
 #[derive(Clone, Copy, Debug, PartialEq, Eq)]
 pub struct Typed {
     pub answer: Answer,

@@ -7,6 +7,7 @@ ghost use Rattle.held.specs.Held.{value_of, number_of, mark_of};
 use answer::TypeNo;
 
 // What is added to a type's number where the value is known only when running.
+// Stays: a type and its mark are one number, since C's operands and replies are (`SWARTABELK_RUNNING`), and `number_of` and `mark_of` read it.
 pub const RUNNING: u32 = 0x8000_0000;
 
 // The value of a type's number and a mark.

@@ -20,6 +20,7 @@ use overload::Out;
 use table::{Answer, Entered, Entry, Lacks, Place, Reason, TypeNo};
 
 // The number of a reference, and of any other type that is neither scalar nor vector nor matrix.
+// Stays: a number and no enum, since `overload::resolve` searches its rows by it, and `code_of` of overload/specs/inner/Code.antt gives each type's.
 pub const REFERENCE: u8 = 98;
 
 pub const OTHER: u8 = 91;

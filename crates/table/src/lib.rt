@@ -50,6 +50,7 @@ pub const F32: usize = 5;
 pub const F16: usize = 6;
 
 // The kinds above the scalars.
+// Stays: numbers, here and below, since a host writes the words of an entry in C (`swartabelk_kind`, `_space`, `_access` of include/swartabelk.h), any number there is, and `row_ok` of specs/Table.antt says which of them are wrong.
 pub const KIND_VEC: u32 = 7;
 
 pub const KIND_MAT: u32 = 8;
