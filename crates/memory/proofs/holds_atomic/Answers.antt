@@ -1,22 +1,12 @@
 -- `memory::holds_atomic` meets its contract. The loop goes from a type to its element, which holds an atomic where the type does, and its number falls. Assumes nothing.
-use mathlib.Core.Path.{refl, sym, ◌∙◌, ap}
+use mathlib.Core.Path.{sym, ◌∙◌, ap}
 use native.Mathlib.Omega.{arith}
-use borrow.Author.Rules.{rules}
 use Rattle.conv.specs.Types.{holds_atomic}
 use Rattle.table.specs.Denote.{type_at}
 use Rattle.table.specs.declared.Entry.{Entry}
 use Rattle.table.proofs.TypeLaws.{row_at}
 use Rattle.memory.proofs.Entries.{scalar-holds, here-holds, deeper-holds}
 use Rattle.memory.proofs.holds_atomic.Goals as goal
-
-pub loop-at-init : goal.loop-at-init
-loop-at-init c = (search rules, refl)
-
-pub entry_at-e-requires : goal.entry_at-e-requires
-entry_at-e-requires c =
-    let l = c.loop-at.invariant.0 in
-    let r = c.requires.0.room in
-    omega arith
 
 pub returns-then-e-eq-KIND_ATOMIC : goal.returns-then-e-eq-KIND_ATOMIC
 returns-then-e-eq-KIND_ATOMIC c =

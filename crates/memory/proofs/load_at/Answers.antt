@@ -12,9 +12,6 @@ use native.Mathlib.Omega.{arith}
 use mathlib.Core.Path.{refl, sym, ◌∙◌, ap}
 use Rattle.memory.proofs.load_at.Goals as goal
 
-pub entry_at-e-requires : goal.entry_at-e-requires
-entry_at-e-requires c = let r = c.requires.0.room in let l = c.requires.1 in omega arith
-
 pub returns-then-e : goal.returns-then-e
 returns-then-e c = let a = c.args in
     gave-as

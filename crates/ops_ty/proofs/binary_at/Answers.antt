@@ -1,6 +1,6 @@
 -- `ops_ty::binary_at` meets its contract: each way out is one of the laws of Ways. Assumes nothing.
 use Prim.Native.Nat.{ℕ, ◌<◌}
-use mathlib.Core.Path.{◌≡◌, refl, sym, ◌∙◌, ap, ap₂, subst}
+use mathlib.Core.Path.{◌≡◌, refl, sym, ◌∙◌, ap, ap₂}
 use mathlib.Core.Bool.{Bool, ◌||◌}
 use borrow.Author.Tests.{ltb-true, ltb-false}
 use Rattle.conv.specs.Types.{abstract_ty}
@@ -25,9 +25,6 @@ returns-in_default c =
     let a = c.args in
     gave-as (binary-unknown a.place.0 a.words.now a.n a.op (operand_ty a.words.now a.a) (operand_ty a.words.now a.b) (mark_of a.a) (mark_of a.b) (ltb-false a.op 18 (sym c.in_default.ensures.lookup.0))) (gave-refused _ _ a.words.now a.n c.refused.ensures)
 
-pub code_at-x-requires : goal.code_at-x-requires
-code_at-x-requires c = (c.requires.0, subst (λ (k : ℕ). k < c.args.n) (sym c.number.ensures) c.requires.1)
-
 -- the operator has a row
 under : (c : In-Some) → c.args.op < 18
 under c = ltb-true c.args.op 18 (sym c.in-Some.ensures.lookup.0)
@@ -48,9 +45,6 @@ returns-then-x-eq-REFERENCE c =
     (offered a.words.now a.n c.requires.0 (number_of a.a) c.requires.1 _ (left_is (goal.at.returns-then-x-eq-REFERENCE c).After-code_at-x) c.if-x-eq-REFERENCE.true))
     (gave-refused _ _ a.words.now a.n c.refused-then-x-eq-REFERENCE.ensures)
 
-pub code_at-y-requires : goal.code_at-y-requires
-code_at-y-requires c = (c.requires.0, subst (λ (k : ℕ). k < c.args.n) (sym c.number-2.ensures) c.requires.2)
-
 right_is : (c : After-code_at-y) → c.code_at-y.result ≡ code_of (operand_ty c.args.words.now c.args.b)
 right_is c = c.code_at-y.ensures ∙ ap (λ (t : ℕ). code_of (type_at c.args.words.now t)) c.number-2.ensures
 
@@ -62,12 +56,6 @@ returns-then-y-eq-REFERENCE c =
     (not-offered a.words.now a.n c.requires.0 (number_of a.a) c.requires.1 _ (left_is (goal.at.returns-then-y-eq-REFERENCE c).After-code_at-x) c.if-x-eq-REFERENCE.false)
     (offered a.words.now a.n c.requires.0 (number_of a.b) c.requires.2 _ (right_is (goal.at.returns-then-y-eq-REFERENCE c).After-code_at-y) c.if-y-eq-REFERENCE.true))
     (gave-refused _ _ a.words.now a.n c.refused-then-y-eq-REFERENCE.ensures)
-
-pub clashes-requires : goal.clashes-requires
-clashes-requires c = (c.requires.0, c.requires.1)
-
-pub clashes-requires-2 : goal.clashes-requires-2
-clashes-requires-2 c = (c.requires.0, c.requires.2)
 
 -- whether one of them is running and abstract
 clash : (c : After-clashes-2) → (c.clashes.result || c.clashes-2.result) ≡ (both (mark_of c.args.a) (abstract_ty (operand_ty c.args.words.now c.args.a)) || both (mark_of c.args.b) (abstract_ty (operand_ty c.args.words.now c.args.b)))
@@ -82,9 +70,6 @@ returns-then-clashes c =
     (not-offered a.words.now a.n c.requires.0 (number_of a.b) c.requires.2 _ (right_is (goal.at.returns-then-clashes c).After-code_at-y) c.if-y-eq-REFERENCE.false)
     (sym (clash (goal.at.returns-then-clashes c).After-clashes-2) ∙ c.if-clashes.true))
     (gave-refused _ _ a.words.now a.n c.refused-then-clashes.ensures)
-
-pub judge_codes-requires : goal.judge_codes-requires
-judge_codes-requires c = c.requires.0
 
 pub returns : goal.returns
 returns c =

@@ -1,12 +1,8 @@
 -- `ops_ty::type_turned` meets its contract: by the words of the operand's entry. Assumes nothing.
-use native.Mathlib.Omega.{arith}
 use mathlib.Core.Path.{refl}
 use Rattle.ruled.proofs.Outcomes.{gave-as, gave-from, gave-refused}
 use Rattle.ops_ty.proofs.Pointers.{turn-no, turn-handle, turn-enter}
 use Rattle.ops_ty.proofs.type_turned.Goals as goal
-
-pub entry_at-e-requires : goal.entry_at-e-requires
-entry_at-e-requires c = let r = c.requires.0.room in let l = c.requires.1 in omega arith
 
 pub returns-then-e-from : goal.returns-then-e-from
 returns-then-e-from c =

@@ -1,7 +1,7 @@
 -- `ops_ty::unary_at` meets its contract: each way out is one of the laws of Ways. Assumes nothing.
 use Prim.Native.Nat.{ℕ, ◌<◌}
 use mathlib.Core.Path.{◌≡◌, refl, sym, ◌∙◌, ap, subst}
-use mathlib.Core.Logic.{inl, inr}
+use mathlib.Core.Logic.{inr}
 use mathlib.Core.List.{[], ◌∷◌}
 use Rattle.overload.specs.Rows.{judge_address, judge_indirection}
 use Rattle.overload.specs.inner.Code.{code_of}
@@ -22,9 +22,6 @@ returns-then-op-ge-UNARY_OPS c =
     let a = c.args in
     gave-as (unary-unknown a.place.0 a.words.now a.n a.op (operand_ty a.words.now a.a) (mark_of a.a) c.if-op-ge-UNARY_OPS.true) (gave-refused _ _ a.words.now a.n c.refused.ensures)
 
-pub code_at-x-requires : goal.code_at-x-requires
-code_at-x-requires c = (c.requires.0, subst (λ (k : ℕ). k < c.args.n) (sym c.number-t.ensures) c.requires.1)
-
 -- the operand's number, and what it says of a reference
 code_is : (c : After-code_at-x) → c.code_at-x.result ≡ code_of (operand_ty c.args.words.now c.args.a)
 code_is c = c.code_at-x.ensures ∙ ap (λ (t : ℕ). code_of (type_at c.args.words.now t)) c.number-t.ensures
@@ -42,19 +39,12 @@ returns-then-is_offered c =
     (unary-reference a.place.0 a.words.now a.n a.op (operand_ty a.words.now a.a) (mark_of a.a) c.if-op-ge-UNARY_OPS.false (offers (goal.at.returns-then-is_offered c).After-is_offered ∙ c.if-is_offered.true))
     (gave-refused _ _ a.words.now a.n c.refused-then-is_offered.ensures)
 
-pub clashes-requires : goal.clashes-requires
-clashes-requires c = c.requires
-
 pub returns-then-clashes : goal.returns-then-clashes
 returns-then-clashes c =
     let a = c.args in
     gave-as
     (unary-clash a.place.0 a.words.now a.n a.op (operand_ty a.words.now a.a) (mark_of a.a) c.if-op-ge-UNARY_OPS.false (offers (goal.at.returns-then-clashes c).After-is_offered ∙ c.if-is_offered.false) (sym c.clashes.ensures ∙ c.if-clashes.true))
     (gave-refused _ _ a.words.now a.n c.refused-then-clashes.ensures)
-
-pub type_turned-requires : goal.type_turned-requires
-type_turned-requires c =
-    (c.requires.0, subst (λ (k : ℕ). k < c.args.n) (sym c.number-t.ensures) c.requires.1, inl (refl, refl))
 
 pub returns-then-op-eq-ADDRESS_OF : goal.returns-then-op-eq-ADDRESS_OF
 unfolding judge_from
@@ -77,9 +67,6 @@ returns-then-op-eq-INDIRECTION c =
     (ap (λ (t : ℕ). judged_outcome a.place.0 a.words.now a.n (judge_indirection (type_at a.words.now t))) c.number-t.ensures
     ∙ unary-indirection a.place.0 a.words.now a.n a.op (operand_ty a.words.now a.a) (mark_of a.a) c.if-op-ge-UNARY_OPS.false (offers (goal.at.returns-then-op-eq-INDIRECTION c).After-is_offered ∙ c.if-is_offered.false) (sym c.clashes.ensures ∙ c.if-clashes.false) c.if-op-eq-INDIRECTION.true)
     c.type_turned-then-op-eq-INDIRECTION.ensures
-
-pub judge_codes-requires : goal.judge_codes-requires
-judge_codes-requires c = c.requires.0
 
 pub returns : goal.returns
 returns c =

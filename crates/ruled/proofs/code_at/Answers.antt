@@ -6,9 +6,6 @@ use Rattle.ruled.proofs.code_at.Goals as goal
 pub returns-then-t-lt-SCALARS : goal.returns-then-t-lt-SCALARS
 returns-then-t-lt-SCALARS c = scalar-code c.args.words.now c.args.n c.requires.0 c.args.t c.requires.1 c.if-t-lt-SCALARS.true
 
-pub entry_at-e-requires : goal.entry_at-e-requires
-entry_at-e-requires c = let r = c.requires.0.room in let l = c.requires.1 in omega arith
-
 pub overflow_sub-result : goal.overflow_sub-result
 overflow_sub-result c =
     let v = vec-read c.args.words.now c.args.n c.requires.0 c.args.t c.requires.1 c.entry_at-e.result c.entry_at-e.ensures c.if-e-eq-KIND_VEC.true in

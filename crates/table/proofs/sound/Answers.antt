@@ -3,7 +3,6 @@ use Prim.Native.Nat.{ℕ, ◌≤◌, ◌*◌}
 use mathlib.Core.Path.{◌≡◌, sym, ◌∙◌, ap}
 use mathlib.Core.List.{List}
 use lib.ListN.{length}
-use native.Mathlib.Omega.{arith}
 use borrow.Author.Tests.{le-leb, lt-leb}
 use Rattle.table.specs.Tools.{all_below}
 use Rattle.table.specs.Table.{stride, scalars, ceiling, soundb, good_at}
@@ -26,9 +25,6 @@ returns-then-n-gt-CEILING c = rw (le-leb 7 _ c.if-n-lt-SCALARS.false, lt-leb _ 2
 pub returns-then-words-n : goal.returns-then-words-n
 unfolding soundb
 returns-then-words-n c = rw (le-leb 7 _ c.if-n-lt-SCALARS.false, le-leb _ 256 c.if-n-gt-CEILING.false, lt-leb _ _ c.if-words-n.true)
-
-pub scalars_stand-requires : goal.scalars_stand-requires
-scalars_stand-requires c = let low = c.if-n-lt-SCALARS.false in let room = c.if-words-n.false in omega arith
 
 pub returns-then-not-scalars_stand : goal.returns-then-not-scalars_stand
 returns-then-not-scalars_stand c =

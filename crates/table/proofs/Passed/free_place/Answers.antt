@@ -28,9 +28,6 @@ returns-then-eq c =
 pub fork_of-place-requires : goal.fork_of-place-requires
 fork_of-place-requires c = let p = c.requires in let l = p.4.linked.low c.loop-at.place in let q = c.loop-at.invariant.1 in let r = p.2 in omega arith
 
-pub bounds-self-place-in-loop-at : goal.bounds-self-place-in-loop-at
-bounds-self-place-in-loop-at c = let p = c.requires in let l = p.4.linked.low c.loop-at.place in let q = c.loop-at.invariant.1 in let wide = p.4.linked.wide in let high = p.2 in let f = c.fork_of-place.ensures in omega arith
-
 pub loop-at-smaller : goal.loop-at-smaller
 loop-at-smaller c =
     let a = c.args in
