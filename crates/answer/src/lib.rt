@@ -30,6 +30,29 @@ pub enum Reason {
     RunningAbstract,
 }
 
+// The refusal number of a reason.
+impl From<Reason> for u8 {
+    ghost from_gives = { λ r k. k ≡ reason_no r };
+
+    fn from(r: Reason) -> u8 {
+        match r {
+            Reason::Unsound => 1,
+            Reason::NoSuchType => 2,
+            Reason::Reference => 3,
+            Reason::Unknown => 4,
+            Reason::Template => 5,
+            Reason::Count => 6,
+            Reason::Operands => 7,
+            Reason::NoOverload => 8,
+            Reason::NoRoom(_) => 9,
+            Reason::Framing => 10,
+            Reason::Stack => 11,
+            Reason::TooLong => 12,
+            Reason::RunningAbstract => 14,
+        }
+    }
+}
+
 // A refusal: why, at which place, and the used count as it stands.
 #[derive(Clone, Copy, Debug, PartialEq, Eq)]
 pub struct Refusal {
@@ -75,27 +98,6 @@ pub fn refused(reason: Reason, place: Place, used: usize) -> Answer
         place,
         used,
     })
-}
-
-// The refusal number of a reason.
-pub fn reason_no(r: Reason) -> u8
-    ensures { result ≡ reason_no r }
-{
-    match r {
-        Reason::Unsound => 1,
-        Reason::NoSuchType => 2,
-        Reason::Reference => 3,
-        Reason::Unknown => 4,
-        Reason::Template => 5,
-        Reason::Count => 6,
-        Reason::Operands => 7,
-        Reason::NoOverload => 8,
-        Reason::NoRoom(_) => 9,
-        Reason::Framing => 10,
-        Reason::Stack => 11,
-        Reason::TooLong => 12,
-        Reason::RunningAbstract => 14,
-    }
 }
 
 // How many entries lack, which only the refusal for want of room tells.

@@ -33,7 +33,7 @@ fn refused_line(r: Refusal, out: &mut [u8]) -> usize
     ensures put { Put out.old 0 (refused_line r) result out.new }
     ensures result_bound { result + 64 ≤ lines_room }
 {
-    let number = answer::reason_no(r.reason);
+    let number = u8::from(r.reason);
     let a = text::put_after(out, 0, b"refused ", cast::wide(number));
     let b = text::put_after(out, a, b" at ", r.place.0);
     match r.reason {

@@ -36,7 +36,7 @@ fn write_answer(rt: &impl Print, r: Answer) -> io::Result<usize> {
                 place,
                 used,
             } = f;
-            print!(rt; " refused {} at {}", table::reason_no(reason), place.0)?;
+            print!(rt; " refused {} at {}", u8::from(reason), place.0)?;
             used
         }
     };

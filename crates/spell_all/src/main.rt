@@ -124,7 +124,7 @@ fn write_reply(rt: &impl Print, r: Result<usize, Refusal>) -> io::Result<()> {
             } = f;
             print!(rt;
                 "refused {} at {} used {used}",
-                table::reason_no(reason),
+                u8::from(reason),
                 place.0
             )
         }

@@ -103,7 +103,7 @@ fn reply_of(typed: Typed) -> Reply
             ..told
         },
         Answer::Refused(r) => Reply {
-            refusal: cast::wide(table::reason_no(r.reason)),
+            refusal: cast::wide(u8::from(r.reason)),
             place: narrow(r.place.0),
             used: narrow(r.used),
             lacking: table::lacking_of(r.reason),
@@ -133,7 +133,7 @@ fn spelled_of(n: u32, s: Result<usize, Refusal>) -> SpelledReply
             used: n,
         },
         Err(r) => SpelledReply {
-            refusal: cast::wide(table::reason_no(r.reason)),
+            refusal: cast::wide(u8::from(r.reason)),
             length: 0,
             place: narrow(r.place.0),
             used: narrow(r.used),

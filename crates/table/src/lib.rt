@@ -9,8 +9,7 @@ ghost use Rattle.table.specs.Tools.{all_below};
 ghost use Rattle.table.specs.inner.Slots.{scalar_at, places, word_end, mixed, folded, entry_slot, turns_of, fork, Knows, Ended};
 
 pub use answer::{
-    Answer, Place, Reason, Refusal, TypeNo, Typed, accepted, lacking_of, marked, no_value,
-    reason_no, refused,
+    Answer, Place, Reason, Refusal, TypeNo, Typed, accepted, lacking_of, marked, no_value, refused,
 };
 
 // How many words an entry has, and the most entries of a table.

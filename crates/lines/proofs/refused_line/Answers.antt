@@ -19,8 +19,8 @@ put_after-requires c = let a = c.args in
 
 pub returns-in-NoRoom : goal.returns-in-NoRoom
 unfolding ascii
-returns-in-NoRoom c = let a = c.args in record { put = refused-lacking a.r (ap reason_no c.in-NoRoom.is) (c.word.ensures ∙ sym (ap lacking_of c.in-NoRoom.is)) (put-put (rw (c.wide.ensures, c.reason_no-number.ensures) at c.put_after-a.ensures) c.put_after-b.ensures) c.put_after.ensures; result_bound = omega (arith, after-near (ascii "refused ") c.wide.result (omega (arith, c.wide.ensures)) c.put_after-a.ensures, after-near (ascii " at ") a.r.place.0 (omega arith) c.put_after-b.ensures, after-near (ascii " lacking ") c.word.result (omega (arith, c.word.ensures)) c.put_after.ensures) }
+returns-in-NoRoom c = let a = c.args in record { put = refused-lacking a.r (ap reason_no c.in-NoRoom.is) (c.word.ensures ∙ sym (ap lacking_of c.in-NoRoom.is)) (put-put (rw (c.wide.ensures, c.from-number.ensures) at c.put_after-a.ensures) c.put_after-b.ensures) c.put_after.ensures; result_bound = omega (arith, after-near (ascii "refused ") c.wide.result (omega (arith, c.wide.ensures)) c.put_after-a.ensures, after-near (ascii " at ") a.r.place.0 (omega arith) c.put_after-b.ensures, after-near (ascii " lacking ") c.word.result (omega (arith, c.word.ensures)) c.put_after.ensures) }
 
 pub returns-in_default : goal.returns-in_default
 unfolding ascii
-returns-in_default c = let a = c.args in let d = c.in_default in record { put = refused-short a.r (not-nine a.r.reason d.not-NoRoom) (put-put (rw (c.wide.ensures, c.reason_no-number.ensures) at c.put_after-a.ensures) c.put_after-b.ensures); result_bound = omega (arith, after-near (ascii "refused ") c.wide.result (omega (arith, c.wide.ensures)) c.put_after-a.ensures, after-near (ascii " at ") a.r.place.0 (omega arith) c.put_after-b.ensures) }
+returns-in_default c = let a = c.args in let d = c.in_default in record { put = refused-short a.r (not-nine a.r.reason d.not-NoRoom) (put-put (rw (c.wide.ensures, c.from-number.ensures) at c.put_after-a.ensures) c.put_after-b.ensures); result_bound = omega (arith, after-near (ascii "refused ") c.wide.result (omega (arith, c.wide.ensures)) c.put_after-a.ensures, after-near (ascii " at ") a.r.place.0 (omega arith) c.put_after-b.ensures) }

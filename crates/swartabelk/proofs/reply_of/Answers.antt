@@ -25,4 +25,4 @@ pub returns-in-NoValue : goal.returns-in-NoValue
 returns-in-NoValue c = none_told c.args.typed _ c.mark_bit.ensures c.in-NoValue.n _ c.in-NoValue.is c.narrow-in-NoValue.ensures
 
 pub returns-in-Refused : goal.returns-in-Refused
-returns-in-Refused c = refused-told c.args.typed _ c.mark_bit.ensures c.in-Refused.r _ _ _ _ c.in-Refused.is (c.wide.ensures ∙ c.reason_no.ensures) c.lacking_of.ensures c.narrow-in-Refused.ensures c.narrow-in-Refused-2.ensures
+returns-in-Refused c = refused-told c.args.typed _ c.mark_bit.ensures c.in-Refused.r _ _ _ _ c.in-Refused.is (c.wide.ensures ∙ c.from.ensures) c.lacking_of.ensures c.narrow-in-Refused.ensures c.narrow-in-Refused-2.ensures

@@ -16,4 +16,4 @@ pub returns-in-Ok : goal.returns-in-Ok
 returns-in-Ok c = length-told c.args.n c.args.s _ 0 0 c.in-Ok.k c.in-Ok.is c.narrow.ensures
 
 pub returns-in-Err : goal.returns-in-Err
-returns-in-Err c = long-told c.args.n c.args.s _ _ _ c.in-Err.r c.in-Err.is (c.wide.ensures ∙ c.reason_no.ensures) c.narrow-in-Err.ensures c.narrow-in-Err-2.ensures
+returns-in-Err c = long-told c.args.n c.args.s _ _ _ c.in-Err.r c.in-Err.is (c.wide.ensures ∙ c.from.ensures) c.narrow-in-Err.ensures c.narrow-in-Err-2.ensures
