@@ -4,7 +4,9 @@
 
 mod before;
 
-ghost use Rattle.std.specs.Prelude.{◌≡◌, [], ◌+◌, ◌/◌, ◌<◌, ◌≤◌, length, get_or};
+ghost use Rattle.std.specs.Prelude.{◌≡◌, [], Some, None, ◌+◌, ◌/◌, ◌<◌, ◌≤◌, length, get_or};
+ghost use Rattle.std.specs.Fn.{FnOnceReturnsAt};
+ghost use Rattle.why.specs.inner.Asks.{Asked};
 ghost use Rattle.table.specs.Table.{Sound};
 ghost use Rattle.frame.specs.Frame.{is_item, name_of, Within};
 ghost use Rattle.frame.specs.inner.Items.{sheet_in};
@@ -14,7 +16,7 @@ ghost use Rattle.lines.specs.Lines.{start, outcome};
 ghost use Rattle.reasons.specs.inner.Told.{piece_room};
 ghost use Rattle.desk.specs.Told.{is_told, told_of};
 ghost use Rattle.desk.specs.Desk.{unary_lines, binary_lines, call_lines, template_lines, item_lines, desk_pieces};
-ghost use Rattle.desk.specs.inner.Code.{Finds, state_at, pieces_of, Asking, Queries, QueriesAt, Counted};
+ghost use Rattle.desk.specs.inner.Code.{Finds, last_of, asking, state_at, pieces_of, Asking, Queries, QueriesAt, Counted};
 
 use before::Before;
 use cast::wide;
@@ -135,54 +137,53 @@ fn stand_in(profile: u32, sheet: &[u8], words: &mut [u32], stack: &mut [u32]) ->
     find(items, &Names::new(), profile, a, words, SCALARS, stack)
 }
 
-// What a unary operator asks, on the last of the values.
-fn unary_query(op: u8, before: Before) -> Option<Query>
-    ensures { QueriesAt (unary_lines (state_at before.entry) op) result before.entry }
+// What a call on the last k of the values asks; nothing where there are not as many.
+fn on_last<F: FnOnce(&[u32]) -> Asked>(before: Before, k: usize, ask: F) -> Option<Query>
+    requires { (x : _) → length x.now ≡ k → F.pre ask x }
+    ensures short { before.entry.count < k → result ≡ None }
+    ensures asked { k ≤ before.entry.count → (a : Asked) × FnOnceReturnsAt F.FnOnce ask (last_of k before.entry) a × (result ≡ Some (asking a k before.entry)) }
 {
-    let first = before.count.checked_sub(UNARY)?;
-    let asked = why::ask_unary(before.words, before.used, wide(op), before.stack[first]);
+    let first = before.count.checked_sub(k)?;
+    let asked = ask(&before.stack[first..before.count]);
     Some(Query {
         asked,
         used: before.used,
         first,
         end: before.count,
     })
+}
+
+// What a unary operator asks, on the last of the values.
+fn unary_query(op: u8, before: Before) -> Option<Query>
+    ensures { QueriesAt (unary_lines (state_at before.entry) op) result before.entry }
+{
+    on_last(
+        before,
+        UNARY,
+        |x| why::ask_unary(before.words, before.used, wide(op), x[0]),
+    )
 }
 
 // What a binary operator asks, on the last two.
 fn binary_query(op: u8, before: Before) -> Option<Query>
     ensures { QueriesAt (binary_lines (state_at before.entry) op) result before.entry }
 {
-    let first = before.count.checked_sub(BINARY)?;
-    let asked = why::ask_binary(
-        before.words,
-        before.used,
-        wide(op),
-        before.stack[first],
-        before.stack[first + 1],
-    );
-    Some(Query {
-        asked,
-        used: before.used,
-        first,
-        end: before.count,
-    })
+    on_last(
+        before,
+        BINARY,
+        |x| why::ask_binary(before.words, before.used, wide(op), x[0], x[1]),
+    )
 }
 
 // What a call asks, on the last k, with its template list.
 fn call_query(profile: u32, name: &[u8], tplt: &[u32], k: u8, before: Before) -> Option<Query>
     ensures { QueriesAt (call_lines (state_at before.entry) profile name.now tplt.now k) result before.entry }
 {
-    let k = wide(k);
-    let first = before.count.checked_sub(k)?;
-    let args = &before.stack[first..before.count];
-    let asked = why::ask_call(before.words, before.used, profile, name, tplt, args);
-    Some(Query {
-        asked,
-        used: before.used,
-        first,
-        end: before.count,
-    })
+    on_last(
+        before,
+        wide(k),
+        |x| why::ask_call(before.words, before.used, profile, name, tplt, x),
+    )
 }
 
 // What a call with a template asks.

@@ -1,10 +1,21 @@
--- `desk::binary_query` meets its contract: nothing where values lack, else the operator on the last two. Assumes nothing.
-use native.Mathlib.Omega.{arith}
-use Rattle.desk.proofs.Queried.{binary-short, binary-asked}
+-- `desk::binary_query` meets its contract: nothing where values lack, else the operator on the last of them. Assumes nothing.
+use Prim.Native.Nat.{◌≤◌}
+use mathlib.Core.List.{[], ◌∷◌}
+use lib.ListN.{get_or}
+use Rattle.std.proofs.Common.{rules}
+use Rattle.ops_ty.specs.Ops.{type_binary_op}
+use Rattle.why.specs.Why.{binary_pieces}
+use Rattle.why.specs.inner.Asks.{Asks}
+use Rattle.desk.specs.inner.Code.{last_of}
+use Rattle.desk.proofs.Queried.{binary-on}
 use Rattle.desk.proofs.binary_query.Goals as goal
 
-pub returns-in_err-first : goal.returns-in_err-first
-returns-in_err-first c = let a = c.args in let b = a.before in rw c.from_residual.ensures (binary-short b.count b.stack.now b.used b.words.now b.ready a.op (omega (arith, c.in_err-first.ensures)))
-
 pub returns : goal.returns
-returns c = let a = c.args in let b = a.before in let e = c.in_ok-first.ensures in rw e.1 (binary-asked b.count b.stack.now b.used b.words.now b.ready a.op e.0 _ (rw (c.wide.ensures, e.1) at c.ask_binary-asked.ensures))
+returns c = let a = c.args in
+    let b = a.before in
+    binary-on b.count b.stack.now b.used b.words.now b.ready a.op c.on_last.ensures.short
+    (λ (k : 2 ≤ b.count). let h = c.on_last.ensures.asked k in
+    let v = get_or (last_of 2 b) 0 0 in
+    let u = get_or (last_of 2 b) 1 0 in
+    let w : Asks b.words.now b.used (v ∷ u ∷ []) (binary_pieces b.words.now b.used a.op v u) (type_binary_op b.words.now b.used a.op v u).answer h.0 = search rules in
+    (h.0, w, h.2))

@@ -2,7 +2,7 @@
 use Rattle.std.specs.Prelude.{ℕ, ◌-◌, ◌≤◌, ◌≡◌, List, [], Option, Some, None, length, take, drop}
 use Rattle.frame.specs.Frame.{item_at}
 use Rattle.step.specs.inner.Code.{state_of, Ready}
-use Rattle.why.specs.inner.Asks.{Tells, asked_pieces}
+use Rattle.why.specs.inner.Asks.{Asked, Tells, asked_pieces}
 use Rattle.step.specs.Effect.{State}
 use Rattle.desk.specs.declared.Query.{Query}
 use Rattle.desk.specs.declared.before.Before.{Before}
@@ -49,6 +49,13 @@ all_pieces (Some q) vals words = pieces_of q vals words
 pub record Queries (ps : List (List ℕ)) (q : Option Query) (vals words : List ℕ) : Type 0 where
   pub asking : AllAsking q vals words
   pub pieces : all_pieces q vals words ≡ ps
+
+-- the last k of the values before an item, and what is asked on them
+abbrev pub last_of : ℕ → Before → List ℕ
+last_of k b = take (b.count - (b.count - k)) (drop (b.count - k) b.stack.now)
+
+abbrev pub asking : Asked → ℕ → Before → Query
+asking a k b = record { asked = a; used = b.used; first = b.count - k; end = b.count }
 
 -- the state before an item, and what is asked over it
 abbrev pub state_at : Before → State
