@@ -60,6 +60,7 @@ pub fn miss_line(
 }
 
 // The line of a fitting overload that is dropped.
+// Stays: where no parameter is abstract or no operand running, the place is how many there are, as `first_by` counts: the contract asks for neither.
 pub fn dropped_line(args: &[u32], ps: &[u8], out: &mut [u8], at: usize) -> usize
     requires { Shaped ps.now × (length ps.now ≤ 4) × (length args.now ≤ 4) × (at < far / 4) }
     ensures put { Put out.old at (dropped_line (map operand ps.now) (marks_of args.now)) result out.new }
