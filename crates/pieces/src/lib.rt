@@ -24,6 +24,7 @@ use cast::wide;
 const MOST: usize = 4;
 
 // The operands' numbers, in front of codes.
+// Stays: `call_ty::load` gives nothing where an operand is a reference, which `Told`, all that `put_piece` requires, doesn't rule out.
 fn load(words: &[u32], n: usize, args: &[u32], codes: &mut [u8])
     requires { Sound words.now n × Under n (numbers args.now) × (length args.now ≤ length codes.old) }
     ensures { take (length args.now) codes.new ≡ map code_of (types_of words.now args.now) }
