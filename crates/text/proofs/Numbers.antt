@@ -10,7 +10,7 @@ use lib.ListN.{length, get_or, drop, drop_of_length-le}
 use lib.Seq.{drop-cons}
 use borrow.Author.Tests.{lt-ltb, le-ltb}
 use Rattle.text.specs.Text.{is_digit, all_digits, value_after, value_of, number_in}
-use Rattle.std.specs.Prelude.{Option, Some, None}
+use Rattle.std.specs.Prelude.{Some, None}
 
 -- the digits before place i make n, which is small enough so far; the rest decides
 pub record Read (s : List ℕ) (i n : ℕ) : Type 0 where

@@ -1,8 +1,8 @@
 -- `text::number_in` meets its contract. The loop's invariant: the digits before `b` are read and make `n`, which has 32 bits. Where a byte is no digit, or
 -- the digits make more, the text is no number whatever follows. Assumes nothing.
-use Rattle.std.proofs.Common.{◌≡◌, ◌≤◌, ◌+◌, ◌*◌, ◌-◌, ◌<◌, ◌^◌, ◌∙◌, sym, get_or, length, arith, subst, ap}
+use Rattle.std.proofs.Common.{◌≡◌, ◌+◌, ◌*◌, ◌-◌, ◌∙◌, sym, get_or, arith, ap}
 use borrow.Author.Tests.{eqb-true, eqb-false}
-use Rattle.text.proofs.Numbers.{Read, nothing, none_read, all_read, no_digit, too_large, digit-read}
+use Rattle.text.proofs.Numbers.{nothing, none_read, all_read, no_digit, too_large, digit-read}
 use Rattle.text.proofs.number_in.Goals as goal
 
 pub returns-then-is_empty : goal.returns-then-is_empty
