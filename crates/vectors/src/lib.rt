@@ -67,6 +67,7 @@ fn float_no(k: u32) -> u32
 }
 
 // The entry of a vector or matrix by its number.
+// Stays: apart from `ruled::vec_entry` and `ruled::mat_entry`, since `ruled` numbers each shape of a matrix over all seven scalars (`overload` `code_of`), and this table over three floats.
 fn entry_of(i: u32) -> Entry
     ensures { result ≡ entry_of i }
 {
