@@ -1,6 +1,6 @@
 // The rows as numbers, and the functions that read them. A line of a table is one number, whose entries are digits of it, the first on the right.
 // `tools/rows` writes the lines from specs/Rows.antt.
-ghost use Rattle.std.specs.Prelude.{◌≡◌, ℕ, ◌+◌, ◌*◌, ◌/◌, ◌<◌, slice_index_or};
+ghost use Rattle.std.specs.Prelude.{◌≡◌, ℕ, ◌+◌, ◌*◌, ◌/◌, ◌<◌, slice_index_or, MatchOption, ⊤};
 ghost use Rattle.overload.specs.Rows.{row_at, operand_count};
 ghost use Rattle.overload.specs.inner.Code.{digit_of, asked_of, entry, place_of, placed, stop_of, slot_t, RowLine, Word, Starts, Sizes, Scalars, Reached, has, member, set_of, mem_size, size_of_no, family_of, sizes_of};
 
@@ -343,7 +343,8 @@ impl Row {
     // The place of its first family for the forms of the first and last operand.
     pub fn place(self, forms: u8) -> Option<u64>
         requires { forms < 9 }
-        ensures { result ≡ placed (place_of forms (row_at self.no).families 0) }
+        ensures value { result ≡ placed (place_of forms (row_at self.no).families 0) }
+        ensures small { MatchOption result ⊤ (λ k. k < 16) }
     {
         let k = (self.line >> (4 * forms)) % 16;
         if k == NO_PLACE { None } else { Some(k) }

@@ -33,7 +33,7 @@ place_is c =
     let xs = c.args.xs.now in
     let s = c.form_of.ensures.0 ∙ ap (λ (k : ℕ). form_of (shape_of_no k)) (end_is xs 0 _ _ c.shape_or_scalar-a.ensures (c.copied.ensures ∙ c.first.ensures.value)) in
     let t = c.form_of-2.ensures.0 ∙ ap (λ (k : ℕ). form_of (shape_of_no k)) (end_is xs _ _ _ c.shape_or_scalar-b.ensures (c.copied-2.ensures ∙ c.last.ensures.value)) in
-    c.place.ensures ∙ (λ i. placed (place_of (3 * s i + t i) (row_at (c.at-r.ensures i)).families 0))
+    c.place.ensures.value ∙ (λ i. placed (place_of (3 * s i + t i) (row_at (c.at-r.ensures i)).families 0))
 
 pub returns-in_err-k : goal.returns-in_err-k
 returns-in_err-k c =
