@@ -124,6 +124,14 @@ pub fn entry_at(words: &[u32], i: usize) -> Entry
     }
 }
 
+// Two entries have one key, where they mostly differ in p.
+// Stays: the derived equality begins with the kind, which those on one way share; with it alone `sound` of 190 arrays takes 1.23 of the time.
+fn alike(a: Entry, b: Entry) -> bool
+    ensures { result ≡ sameb a b }
+{
+    a.p == b.p && a == b
+}
+
 fn is_width(x: u32) -> bool
     ensures { result ≡ is_width x }
 {
@@ -361,7 +369,7 @@ impl Passed {
         let mut turns = turns_of(e);
         let mut at = cast::wide(self.links[place]);
         while 0 < at {
-            if entry_at(words, at) == e {
+            if alike(entry_at(words, at), e) {
                 return None;
             }
             place = fork_of(at, turns);

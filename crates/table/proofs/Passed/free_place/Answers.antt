@@ -2,7 +2,6 @@
 use native.Mathlib.Omega.{arith}
 use mathlib.Core.Bool.{true, false}
 use mathlib.Core.Path.{◌≡◌, sym, ◌∙◌, ap}
-use Rattle.table.proofs.SoundLaws.{same-words}
 use Rattle.table.proofs.SlotLaws.{slot-below, walk_start, walk-hit, walk-rise, walk_step, walk_end}
 use Rattle.table.specs.declared.Entry.{Entry}
 use Rattle.table.specs.Table.{sameb, entry_at}
@@ -17,12 +16,12 @@ loop-at-init c = let a = c.args in let p = c.requires in (walk_start a.words.now
 pub entry_at-requires : goal.entry_at-requires
 entry_at-requires c = let p = c.requires in let l = p.4.linked.low c.loop-at.place in let q = c.loop-at.invariant.1 in let r = p.0 in omega arith
 
-pub returns-then-eq : goal.returns-then-eq
-returns-then-eq c =
+pub returns-then-alike : goal.returns-then-alike
+returns-then-alike c =
     let a = c.args in
     let p = c.requires in
     let l = c.loop-at in
-    let s : sameb (entry_at a.words.now l.at) a.e ≡ true = ap (λ (x : Entry). sameb x a.e) (sym c.entry_at.ensures) ∙ sym (same-words c.entry_at.result a.e) ∙ sym c.eq.ensures ∙ c.if-eq.true in
+    let s : sameb (entry_at a.words.now l.at) a.e ≡ true = ap (λ (x : Entry). sameb x a.e) (sym c.entry_at.ensures) ∙ sym c.alike.ensures ∙ c.if-alike.true in
     sym (walk-hit a.words.now a.i a.self.now.links a.e p.1 p.2 p.4.linked l.place l.turns l.invariant.0 l.at l.invariant.1 s)
 
 pub fork_of-place-requires : goal.fork_of-place-requires
@@ -44,7 +43,7 @@ loop-at-preserved c =
     let a = c.args in
     let p = c.requires in
     let l = c.loop-at in
-    let s : sameb (entry_at a.words.now l.at) a.e ≡ false = ap (λ (x : Entry). sameb x a.e) (sym c.entry_at.ensures) ∙ sym (same-words c.entry_at.result a.e) ∙ sym c.eq.ensures ∙ c.if-eq.false in
+    let s : sameb (entry_at a.words.now l.at) a.e ≡ false = ap (λ (x : Entry). sameb x a.e) (sym c.entry_at.ensures) ∙ sym c.alike.ensures ∙ c.if-alike.false in
     (rw c.fork_of-place.ensures (walk_step a.words.now a.i a.self.now.links a.e p.1 p.2 p.4.linked l.place l.turns l.invariant.0 l.at l.invariant.1 c.loop-at-test.true s), c.wide-at-in-loop-at.ensures)
 
 pub returns : goal.returns
