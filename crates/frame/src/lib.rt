@@ -106,10 +106,7 @@ pub struct Placed {
 // A push or an operator.
 #[derive(Clone, Copy)]
 pub enum ShortItem {
-    Push {
-        ty: TypeNo,
-        running: bool,
-    },
+    Push { ty: TypeNo, running: bool },
     Unary(u8),
     Binary(u8),
 }

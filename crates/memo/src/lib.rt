@@ -117,9 +117,7 @@ impl Memo {
     pub fn new() -> Memo
         ensures { (w : List ℕ) (n : ℕ) → Recalls result.slots w n }
     {
-        Memo {
-            slots: [0; SLOTS],
-        }
+        Memo { slots: [0; SLOTS] }
     }
 
     // The type that it has for a key.
@@ -471,9 +469,7 @@ pub fn noted_step(
     ensures { Does (effect_of profile at.0 (state_of count stack.old used table.old) (sheet_in items.entry) item) result stack.new table.new × AfterStep result memo.new.slots table.new }
 {
     let Some(key) = item_key(items, names, profile, item, stack, count, memo) else {
-        return step::step(
-            items, names, profile, item, at, stack, count, table, used,
-        );
+        return step::step(items, names, profile, item, at, stack, count, table, used);
     };
     if let Some(t) = memo.recall(key) {
         stack[key.base] = held::value(t, key.running);
@@ -482,9 +478,7 @@ pub fn noted_step(
             used,
         };
     }
-    let d = step::step(
-        items, names, profile, item, at, stack, count, table, used,
-    );
+    let d = step::step(items, names, profile, item, at, stack, count, table, used);
     memo.note_did(key, d, stack);
     d
 }

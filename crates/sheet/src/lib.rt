@@ -17,8 +17,8 @@ ghost use Rattle.sheet.specs.inner.Code.{TurnsBy, Turns, AfterTurn, Rushes, Rush
 use frame::{HEADER, Items};
 use memo::Memo;
 use names::Names;
-use step::{Did, VALUES};
 use std::ops::ControlFlow;
+use step::{Did, VALUES};
 use table::{Answer, Place, Reason, Typed};
 
 // A call's name, as that part of the lent sheet.
@@ -65,13 +65,7 @@ fn leave(size: usize, at: Place, next: Place, count: usize, used: usize) -> Answ
 }
 
 // The turn after what an item at a place did, in a sheet of `size` bytes: the run goes on, or the sheet is answered.
-fn turn_by(
-    d: Did,
-    size: usize,
-    at: Place,
-    next: Place,
-    stack: &[u32],
-) -> ControlFlow<Typed, Here>
+fn turn_by(d: Did, size: usize, at: Place, next: Place, stack: &[u32]) -> ControlFlow<Typed, Here>
     requires { (length stack.now ≡ 64) × Counted d }
     ensures { TurnsBy size at.0 next.0 d stack.now result }
 {
@@ -106,13 +100,7 @@ fn one_turn(
     let d = memo::noted_step(
         items, names, profile, found.item, here.at, stack, here.count, table, here.used, memo,
     );
-    turn_by(
-        d,
-        HEADER + items.bytes.len(),
-        here.at,
-        found.next,
-        stack,
-    )
+    turn_by(d, HEADER + items.bytes.len(), here.at, found.next, stack)
 }
 
 // From a place on, as long as the items are quick.

@@ -122,11 +122,7 @@ fn write_reply(rt: &impl Print, r: Result<usize, Refusal>) -> io::Result<()> {
                 place,
                 used,
             } = f;
-            print!(rt;
-                "refused {} at {} used {used}",
-                u8::from(reason),
-                place.0
-            )
+            print!(rt; "refused {} at {} used {used}", u8::from(reason), place.0)
         }
     }
 }

@@ -13,6 +13,7 @@ pub returns : goal.returns
 unfolding item_of
 returns c = let a = c.args in
     let asks : AsksEver (item_of a.x) (Some c.match-x.ask) = elim c.match-x.branch [
-        in-Unary+in_ok-ask-in-Unary w ↦ rw (w.in-Unary.is, w.ask-is) w.in_ok-ask-in-Unary.ensures
-      | in-Binary+in_ok-ask-in-Binary w ↦ rw (w.in-Binary.is, w.ask-is) w.in_ok-ask-in-Binary.ensures ] in
+      | in-Unary+in_ok-ask-in-Unary w ↦ rw (w.in-Unary.is, w.ask-is) w.in_ok-ask-in-Unary.ensures
+      | in-Binary+in_ok-ask-in-Binary w ↦ rw (w.in-Binary.is, w.ask-is) w.in_ok-ask-in-Binary.ensures
+    ] in
     quick-answered a.keeps c.match-x.ask a.count a.stack.now a.used a.table.now c.recalled.result _ a.x asks c.recalled.ensures
