@@ -19,7 +19,7 @@ pub const HEADER: usize = 3;
 pub const LONGEST: usize = 60000;
 
 // The kinds of items.
-// Stays: numbers, since they are the bytes of a sheet (document 01); each is read in one `match` on them.
+// Stays: numbers, since they are the bytes of a sheet (document 01), any byte there is: `payload_item` of specs/Frame.antt answers each. `ShortItem` and `Item` say what was read.
 pub const ITEM_PUSH: u8 = 1;
 
 pub const ITEM_UNARY: u8 = 2;

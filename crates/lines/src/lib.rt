@@ -16,7 +16,7 @@ pub const ROOM: usize = 32768;
 const WORDS: usize = 1024;
 
 // The first line of a type.
-// Stays: no `Display`, here and below: `write` promises every byte, and counts those past the output's end. What a `fmt` writes, no clause says.
+// Stays: no `Display`, here and below: `write` says in one equation what stands at each place of the lent output, and where the text ends, past it too (`Put`). By a `fmt` that would be said of a writer of our own besides.
 fn type_line(words: &[u32], used: usize, t: TypeNo, out: &mut [u8]) -> usize
     requires { Sound words.now used × (t.0 < used) }
     ensures put { Put out.old 0 (type_line words.now t.0) result out.new }

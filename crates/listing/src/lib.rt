@@ -25,7 +25,7 @@ const OF_EXP: u8 = 8;
 const OF_T: u8 = 9;
 
 // By set of scalars: how many it has, and each of them, by number. An octal digit each, from the right.
-// Stays: `overload` has the same sets as bits in the order of preference, by which its engine goes. To count those and to pick one by its number would take a loop.
+// Stays: `overload` has the same sets as bits in the order of preference, by which its engine goes. To pick one of those by its number would take a loop.
 const SETS: [u64; 11] = [
     0o0_1, // 0 only bool
     0o65321_5, // 1 signed

@@ -19,6 +19,7 @@ use frame::Part;
 use table::{Answer, Entry, Place, Reason, Refusal, TypeNo, Typed};
 
 // The type of a reply that has no value, or is a refusal.
+// Stays: a number, here and in the replies below, since C has no Option: include/swartabelk.h names it (`SWARTABELK_NO_VALUE`).
 pub const NO_VALUE: u32 = 0xFFFF_FFFF;
 
 // A reply in numbers: the refusal, 0 for none; the type, or NO_VALUE; the mark of the value, 0 or RUNNING, so that the type with it is an operand; the place of a
