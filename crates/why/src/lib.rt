@@ -113,7 +113,8 @@ pub fn ask_binary(words: &[u32], n: usize, op: usize, a: u32, b: u32) -> Asked
     told_by(answer, Some(binary_rule(op)))
 }
 
-// What there is to tell of a call of a builtin.
+// What there is to tell of a call of a builtin. Its names and its copy of the table are off the stack before the text is put.
+#[inline(never)]
 pub fn ask_call(
     words: &[u32],
     n: usize,
