@@ -4,11 +4,6 @@
 ghost use Rattle.std.specs.Prelude.{◌≡◌};
 ghost use Rattle.arguments.specs.Profile.{profile_of};
 
-use std::env::Env;
-
-// Linux starts no program with an argument as long as this.
-const ROOM: usize = 131072;
-
 // The profile that an argument stands for that is no number. No profile has it.
 const NO_PROFILE: u32 = u32::MAX;
 
@@ -20,11 +15,4 @@ pub fn profile_of(words: usize, argument: &[u8]) -> u32
         return 0;
     }
     text::number_in(argument).unwrap_or(NO_PROFILE)
-}
-
-// The profile that the program was started with. An argument that the buffer does not hold counts as an empty one, which is no number.
-pub fn profile(rt: &impl Env) -> u32 {
-    let mut argument = [0u8; ROOM];
-    let n = stdio::arg(rt, 1, &mut argument);
-    profile_of(stdio::arg_count(rt), &argument[..n])
 }
