@@ -125,11 +125,11 @@ pub fn entry_at(words: &[u32], i: usize) -> Entry
 }
 
 // Two entries have one key, where they mostly differ in p.
-// Stays: the derived equality begins with the kind, which those on one way share; with it alone `sound` of 190 arrays takes 1.23 of the time.
+// Stays: with the derived equality, `a.p == b.p && a == b`, the compiler makes one test of all four words, for which each entry is put together once more: `sound` took a tenth more instructions, and a quarter more time over 190 arrays.
 fn alike(a: Entry, b: Entry) -> bool
     ensures { result ≡ sameb a b }
 {
-    a.p == b.p && a == b
+    a.p == b.p && a.elem == b.elem && (a.kind == b.kind) & (a.q == b.q)
 }
 
 fn is_width(x: u32) -> bool
