@@ -55,6 +55,8 @@ fn text_at(k: usize) -> &'static [u8]
 }
 
 // Text k from a place on.
+// Apart: what it holds would else stand in the frame of each of a type's levels, of which there are up to 249.
+#[inline(never)]
 pub fn put_text(out: &mut [u8], at: usize, k: usize) -> usize
     requires { at < far * 2 }
     ensures { Put out.old at (text_of k) result out.new }
