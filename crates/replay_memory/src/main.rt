@@ -115,16 +115,17 @@ impl<'a> Memory<'a> {
 
     // Whether a row agrees in a profile, where its pointers have a mark and its answer that character.
     fn agrees_in(&mut self, profile: u32, operands: &[u8], running: bool, c: u8) -> bool {
+        let count = (1 + operands.len()) / WIDTH;
+        if MOST < count {
+            return false;
+        }
         let mut args = [NO_TYPE; MOST];
         let mut used = self.types.used;
         let (chars, _) = operands.as_chunks::<WIDTH>();
         for (arg, operand) in args.iter_mut().zip(chars) {
             (*arg, used) = self.operand(used, *operand, running);
         }
-        match args.get(..(1 + operands.len()) / WIDTH) {
-            Some(given) => self.is_answer(used, profile, given, c),
-            None => false,
-        }
+        self.is_answer(used, profile, &args[..count], c)
     }
 
     // Whether a row agrees, where its pointers have a mark: in both profiles, and its name is unknown where the profile is.
