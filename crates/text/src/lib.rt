@@ -3,7 +3,7 @@
 #![tactic(auto)]
 
 ghost use Rattle.std.specs.Prelude.{◌≡◌, [], ◌∷◌, ◌++◌, ◌+◌, ◌*◌, ◌<◌, length};
-ghost use Rattle.text.specs.Text.{decimal, number_in, Put, far};
+ghost use Rattle.text.specs.Text.{decimal, is_digit, number_in, Put, far};
 
 // A byte at a place, or nothing past the end of the output; the place after it.
 pub fn put_byte(out: &mut [u8], at: usize, b: u8) -> usize
@@ -50,20 +50,35 @@ pub fn put_after(out: &mut [u8], at: usize, text: &[u8], n: usize) -> usize
     put_number(out, a, n)
 }
 
+// Whether a byte is a digit.
+fn is_digit(b: u8) -> bool
+    ensures { result ≡ is_digit b }
+{
+    (b'0'..=b'9').contains(&b)
+}
+
+// What a text is that is no number, and where numbers have more than 32 bits.
+const NO_NUMBER: Option<u32> = None;
+
+const LIMIT: u64 = 4294967296;
+
 // The number that a text is: one or more digits, zeros in front allowed, of 32 bits. Any other text is none.
 // Stays: std's `parse` takes a `+` in front of the digits, and a `str`; document 01 has digits alone, and a text here is any bytes.
 pub fn number_in(text: &[u8]) -> Option<u32>
     ensures { result ≡ number_in text.now }
 {
     if text.is_empty() {
-        return None;
+        return NO_NUMBER;
     }
-    let mut n: u32 = 0;
+    let mut n: u64 = 0;
     for b in text {
-        if !b.is_ascii_digit() {
-            return None;
+        if !is_digit(*b) {
+            return NO_NUMBER;
         }
-        n = n.checked_mul(10)?.checked_add(u32::from(*b - b'0'))?;
+        n = n * 10 + u64::from(*b - b'0');
+        if LIMIT <= n {
+            return NO_NUMBER;
+        }
     }
-    Some(n)
+    Some(n as u32)
 }
