@@ -336,7 +336,11 @@ impl<'a> Items<'a> {
                 at,
                 next: Place(at.0 + 1 + len),
             },
-            None => no_item(Item::Bad, at),
+            None => Placed {
+                item: Item::Bad,
+                at,
+                next: at,
+            },
         }
     }
 

@@ -24,4 +24,4 @@ pub returns-in-Some : goal.returns-in-Some
 returns-in-Some c = let a = c.args in in-some a.self.version a.self.bytes.now a.at.0 c.if-at-lt-HEADER.false c.if-items-first.false c.wide-len.result c.wide-len.ensures c.if-len-eq0.false c.if-items-first-2.false c.has_marks.result (c.has_marks.ensures ∙ whole-marked a.self.version a.self.bytes.now) c.in-Some.item (c.in-Some.ensures)
 
 pub returns-in-None : goal.returns-in-None
-returns-in-None c = let a = c.args in c.no_item-in-None.ensures ∙ in-none a.self.version a.self.bytes.now a.at.0 c.if-at-lt-HEADER.false c.if-items-first.false c.wide-len.result c.wide-len.ensures c.if-len-eq0.false c.if-items-first-2.false c.has_marks.result (c.has_marks.ensures ∙ whole-marked a.self.version a.self.bytes.now) (c.in-None.ensures)
+returns-in-None c = let a = c.args in in-none a.self.version a.self.bytes.now a.at.0 c.if-at-lt-HEADER.false c.if-items-first.false c.wide-len.result c.wide-len.ensures c.if-len-eq0.false c.if-items-first-2.false c.has_marks.result (c.has_marks.ensures ∙ whole-marked a.self.version a.self.bytes.now) (c.in-None.ensures)
