@@ -1,8 +1,8 @@
 // The text that tells why a call is accepted or refused with 8, one piece at a time, put into a lent output: what stands first, then what each overload of the call's row has.
 #![tactic(auto)]
 
-ghost use Rattle.std.specs.Prelude.{◌≡◌, Bool, true, false, cond, List, [], map, ◌+◌, ◌/◌, ◌<◌, ◌≤◌, length, get_or, take};
-ghost use Rattle.conv.specs.Types.{Ty};
+ghost use Rattle.std.specs.Prelude.{◌≡◌, Bool, true, false, cond, leb, nat_lt, List, [], map, ◌+◌, ◌/◌, ◌<◌, ◌≤◌, length, get_or, take};
+ghost use Rattle.conv.specs.Types.{Ty, abstract_ty};
 ghost use Rattle.conv.specs.Rank.{both};
 ghost use Rattle.overload.specs.Overload.{fits};
 ghost use Rattle.overload.specs.Marks.{any_abstract};
@@ -13,7 +13,7 @@ ghost use Rattle.table.specs.Table.{Sound};
 ghost use Rattle.call_ty.specs.Calls.{marks_of, numbers};
 ghost use Rattle.call_ty.specs.inner.Codes.{Under};
 ghost use Rattle.listing.specs.Listing.{overload_at};
-ghost use Rattle.weigh.specs.Weigh.{first_by, first_miss};
+ghost use Rattle.weigh.specs.Weigh.{first_by, first_miss, Shaped};
 ghost use Rattle.choice.specs.inner.Chosen.{chosen_by};
 ghost use Rattle.reasons.specs.Reasons.{miss_line, dropped_line, chosen_line, pieces};
 ghost use Rattle.reasons.specs.inner.Told.{ruling_of, types_of, Told, piece_room};
@@ -64,6 +64,22 @@ fn missed_piece(
     reasons::miss_line(words, n, args, xs, &all[0..xs.len()], out, at)
 }
 
+// Whether each operand converts to its parameter.
+fn all_convert(ps: &[u8], xs: &[u8]) -> bool
+    requires { Shaped ps.now × (length xs.now ≡ length ps.now) }
+    ensures { result ≡ leb (length xs.now) (first_miss (map operand ps.now) (map operand xs.now)) }
+{
+    weigh::first_miss(ps, xs).is_none()
+}
+
+// Whether a parameter is abstract.
+fn has_abstract(ps: &[u8]) -> bool
+    requires { Shaped ps.now }
+    ensures { result ≡ nat_lt (first_by abstract_ty (map operand ps.now)) (length ps.now) }
+{
+    weigh::first_abstract(ps).is_some()
+}
+
 // The line of the overload at place j where it fits and is dropped; of any other overload nothing.
 fn lost_piece(
     row: usize,
@@ -80,7 +96,7 @@ fn lost_piece(
 {
     let all = listing::params(row, j);
     let ps = &all[0..xs.len()];
-    if !running || weigh::first_miss(ps, xs).is_some() || weigh::first_abstract(ps).is_none() {
+    if !running || !all_convert(ps, xs) || !has_abstract(ps) {
         return at;
     }
     reasons::dropped_line(args, ps, out, at)

@@ -233,11 +233,11 @@ module _ (w : List ℕ) (n : ℕ) where
       let e : v ≡ w = take_all 1024 w (let h = leb-false 1024 (length w) b in omega arith) in
       record { sound = ap (λ (x : List ℕ). soundb x n) e; keeps = λ s. copied s.high; room = ap (λ (x : List ℕ). free x n) e })
 
--- the part of a room that the copy fills
-pub filled : (w p z : List ℕ) (k : ℕ) → k ≡ min (length w) 1024 → p ≡ take k w → take k (p ++ drop k z) ≡ take 1024 w
-filled w p z k e h =
+-- the part of a room that the copy fills, whatever stands behind it
+pub filled : (w p y : List ℕ) (k : ℕ) → k ≡ min (length w) 1024 → p ≡ take k w → take k (p ++ y) ≡ take 1024 w
+filled w p y k e h =
     let l : length p ≡ k = ap length h ∙ length-take-le k w (omega (arith, e)) in
-    let s : take k (p ++ drop k z) ≡ take k w = take-append-le k p (drop k z) (omega arith) ∙ take_all k p (omega arith) ∙ h in
+    let s : take k (p ++ y) ≡ take k w = take-append-le k p y (omega arith) ∙ take_all k p (omega arith) ∙ h in
     s ∙ split (leb 1024 (length w))
     (λ b. let y = leb-true 1024 (length w) b in let q : k ≡ 1024 = omega (arith, e) in ap (λ i. take i w) q)
     (λ b. let y = leb-false 1024 (length w) b in take_all k w (omega (arith, e)) ∙ sym (take_all 1024 w (omega arith)))

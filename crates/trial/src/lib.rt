@@ -1,7 +1,7 @@
 // What a single call would answer. The call is made over a copy of the table, so that the table is only read.
 #![tactic(auto)]
 
-ghost use Rattle.std.specs.Prelude.{◌≡◌, ℕ, List, take};
+ghost use Rattle.std.specs.Prelude.{◌≡◌, ℕ, min, List, length, take};
 ghost use Rattle.std.specs.Fn.{FnOnceReturnsAtMut};
 ghost use Rattle.answer.specs.declared.Typed.{Typed};
 ghost use Rattle.ops_ty.specs.Ops.{type_unary_op, type_binary_op};
@@ -12,14 +12,24 @@ use table::{Answer, Typed};
 // The words of 256 entries: what stands behind them in a slice is never used.
 const WORDS: usize = 1024;
 
+// The first word that is copied.
+const FIRST: usize = 0;
+
+// How many of the words are copied.
+fn copied(words: &[u32]) -> usize
+    ensures { result ≡ min (length words.now) 1024 }
+{
+    words.len().min(WORDS)
+}
+
 // What a call answers over a copy of the words. It may write there, since nobody reads the copy afterwards.
 fn over_copy<F: FnOnce(&mut [u32]) -> Typed>(words: &[u32], call: F) -> Answer
     requires { F.IsAlwaysCallable call }
     ensures { (r : Typed) × (after : List ℕ) × FnOnceReturnsAtMut F.FnOnce call (take 1024 words.now) r after × (result ≡ r.answer) }
 {
     let mut room = [0u32; WORDS];
-    let k = words.len().min(WORDS);
-    room[..k].copy_from_slice(&words[..k]);
+    let k = copied(words);
+    room[FIRST..k].copy_from_slice(&words[FIRST..k]);
     call(&mut room[..k]).answer
 }
 

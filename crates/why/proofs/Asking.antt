@@ -15,8 +15,7 @@ use Rattle.names.specs.Names.Rule.{ruling, storing, bitcast, barrier}
 use Rattle.names.specs.Names.Named.{rule, unknown}
 use Rattle.names.specs.inner.Table.{numbered}
 use Rattle.answer.specs.Answer.{reason_no}
-use Rattle.answer.specs.declared.Reason.{Reason}
-use Rattle.answer.specs.declared.Reason.TheVariants.{Unsound, NoSuchType, Reference, Unknown, Template, Count, Operands, NoOverload, NoRoom, Framing, Stack, TooLong, RunningAbstract}
+use Rattle.answer.specs.declared.Reason.TheVariants.{TooLong}
 use Rattle.answer.specs.declared.TypeNo.{TypeNo}
 use Rattle.answer.specs.declared.Refusal.{Refusal}
 use Rattle.answer.specs.declared.Answer.{Answer}
@@ -107,22 +106,6 @@ module _ (w : List ℕ) (n : ℕ) (args : List ℕ) where
 
 -- CASE BY CASE of an answer, and of what is asked
 
--- 8 is the number of one reason alone
-pub not-eight : (r : Reason) → (r ≡ NoOverload → ⊥) → eqb (reason_no r) 8 ≡ false
-not-eight Unsound f = refl
-not-eight NoSuchType f = refl
-not-eight Reference f = refl
-not-eight Unknown f = refl
-not-eight Template f = refl
-not-eight Count f = refl
-not-eight Operands f = refl
-not-eight NoOverload f = absurd (f refl)
-not-eight (NoRoom k) f = refl
-not-eight Framing f = refl
-not-eight Stack f = refl
-not-eight TooLong f = refl
-not-eight RunningAbstract f = refl
-
 module _ {A : Type 0} (x y : A) (z : Refusal → A) (a : Answer) where
   pub by_value : {t : TypeNo} {m : ℕ} → a ≡ answers.Value t m → x ≡ by_answer a x y z
   unfolding by_answer
@@ -132,13 +115,13 @@ module _ {A : Type 0} (x y : A) (z : Refusal → A) (a : Answer) where
   unfolding by_answer
   by-none e = sym (ap (λ (b : Answer). by_answer b x y z) e)
 
-  pub by-eight : (q : Refusal) → a ≡ answers.Refused q → q.reason ≡ NoOverload → y ≡ by_answer a x y z
+  pub by-eight : (q : Refusal) → a ≡ answers.Refused q → eqb (reason_no q.reason) 8 ≡ true → y ≡ by_answer a x y z
   unfolding by_answer
   by-eight q e h = rw (e, h)
 
-  pub by-other : (q : Refusal) → a ≡ answers.Refused q → (q.reason ≡ NoOverload → ⊥) → z q ≡ by_answer a x y z
+  pub by-other : (q : Refusal) → a ≡ answers.Refused q → eqb (reason_no q.reason) 8 ≡ false → z q ≡ by_answer a x y z
   unfolding by_answer
-  by-other q e h = rw (e, not-eight q.reason h)
+  by-other q e h = rw (e, h)
 
 module _ {asked : Asked} where
   module _ {x : Option Verdict} (d : asked ≡ Ok x) where

@@ -1,10 +1,11 @@
 // Why a call is accepted or refused with 8, told into a lent output. The table is only read.
 #![tactic(auto)]
 
-ghost use Rattle.std.specs.Prelude.{◌≡◌, true, false, List, [], ◌∷◌, ℕ, ◌+◌, ◌*◌, ◌/◌, ◌<◌, ◌≤◌, length, get_or};
+ghost use Rattle.std.specs.Prelude.{◌≡◌, true, false, List, [], ◌∷◌, ℕ, ◌+◌, ◌*◌, ◌/◌, ◌<◌, ◌≤◌, length, get_or, eqb};
 ghost use Rattle.names.specs.inner.Table.{numbered};
 ghost use Rattle.overload.specs.Rows.Ruling.{by_row};
 ghost use Rattle.text.specs.Text.{Put, far};
+ghost use Rattle.answer.specs.Answer.{reason_no};
 ghost use Rattle.answer.specs.declared.Answer.{Answer};
 ghost use Rattle.spell.specs.Reply.{refuse_spelling};
 ghost use Rattle.ops_ty.specs.Ops.{unary_ruling, binary_row, type_unary_op, type_binary_op};
@@ -45,16 +46,26 @@ fn said(rule: Option<u8>, accepted: bool) -> Option<Verdict>
     rule.map(|rule| Verdict { rule, accepted })
 }
 
+// Whether a reason is that no overload fits.
+fn none_fits(reason: Reason) -> bool
+    ensures { result ≡ eqb (reason_no reason) 8 }
+{
+    matches!(reason, Reason::NoOverload)
+}
+
 // By the answer of a call that has this rule; of one without, nothing is told.
 fn told_by(a: Answer, rule: Option<u8>) -> Asked
     ensures { result ≡ by_answer a (Ok (said rule true)) (Ok (said rule false)) (λ r. Err r) }
 {
     match a {
         Answer::Value(_, _) | Answer::NoValue(_) => Ok(said(rule, true)),
-        Answer::Refused(r) => match r.reason {
-            Reason::NoOverload => Ok(said(rule, false)),
-            _ => Err(r),
-        },
+        Answer::Refused(r) => {
+            if none_fits(r.reason) {
+                Ok(said(rule, false))
+            } else {
+                Err(r)
+            }
+        }
     }
 }
 
