@@ -8,7 +8,8 @@ use Rattle.text.specs.Text.{Put}
 use Rattle.text.proofs.OneReply.{one-put}
 use Rattle.desk.specs.declared.Query.{Query}
 use Rattle.desk.specs.Desk.{desk_pieces}
-use Rattle.desk.specs.inner.Code.{pieces_of, Queries, Counted}
+use Rattle.desk.specs.inner.Code.{pieces_of, all_pieces, Queries, Counted}
+use Rattle.std.specs.Prelude.{Option}
 use Rattle.std.proofs.Common.{Some, None}
 
 module _ (profile : ℕ) (s : List ℕ) {q : Query} {vals words : List ℕ} (t : Queries (desk_pieces profile s) (Some q) vals words) where
@@ -24,6 +25,10 @@ module _ (profile : ℕ) (s : List ℕ) {q : Query} {vals words : List ℕ} (t :
 -- where nothing is asked, nothing is told
 pub told-none : (profile : ℕ) (s : List ℕ) {vals words : List ℕ} → Queries (desk_pieces profile s) None vals words → desk_pieces profile s ≡ []
 told-none profile s t = sym t.pieces
+
+-- any two answers, none among them, come to the same pieces
+pub one-told : (profile : ℕ) (s : List ℕ) {o o' : Option Query} {vals words vals' words' : List ℕ} → Queries (desk_pieces profile s) o vals words → Queries (desk_pieces profile s) o' vals' words' → all_pieces o vals words ≡ all_pieces o' vals' words'
+one-told profile s t t' = t.pieces ∙ sym t'.pieces
 
 -- so with two queries
 module _ (profile : ℕ) (s : List ℕ) {q q' : Query} {vals words vals' words' : List ℕ} (t : Queries (desk_pieces profile s) (Some q) vals words) (t' : Queries (desk_pieces profile s) (Some q') vals' words') where

@@ -4,7 +4,8 @@
 
 mod before;
 
-ghost use Rattle.std.specs.Prelude.{◌≡◌, [], Some, None, ◌+◌, ◌/◌, ◌<◌, ◌≤◌, length, get_or};
+ghost use Rattle.std.specs.Prelude.{◌≡◌, [], Some, None, ◌+◌, ◌/◌, ◌<◌, ◌≤◌, length, get_or, eqb};
+ghost use Rattle.answer.specs.Answer.{reason_no};
 ghost use Rattle.std.specs.Fn.{FnOnceReturnsAt};
 ghost use Rattle.why.specs.inner.Asks.{Asked};
 ghost use Rattle.table.specs.Table.{Sound};
@@ -55,16 +56,20 @@ fn is_item(item: Item) -> bool
     !matches!(item, Item::End | Item::Bad)
 }
 
+// Whether a reason is that no overload fits.
+fn none_fits(reason: Reason) -> bool
+    ensures { result ≡ eqb (reason_no reason) 8 }
+{
+    matches!(reason, Reason::NoOverload)
+}
+
 // Whether what stands at a place of a sheet of `size` bytes is the item that is told, by the sheet's answer.
 fn is_told(a: Answer, size: usize, x: Placed) -> bool
     ensures { result ≡ is_told a size x }
 {
     match a {
         Answer::Value(_, _) | Answer::NoValue(_) => is_item(x.item) & (x.next.0 == size),
-        Answer::Refused(r) => match r.reason {
-            Reason::NoOverload => x.at.0 == r.place.0,
-            _ => false,
-        },
+        Answer::Refused(r) => none_fits(r.reason) & (x.at.0 == r.place.0),
     }
 }
 

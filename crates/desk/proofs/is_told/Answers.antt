@@ -9,7 +9,6 @@ use Rattle.answer.specs.declared.Answer.{Answer}
 use Rattle.answer.specs.declared.Answer.TheVariants.{Value, NoValue}
 use Rattle.frame.specs.Frame.{is_item}
 use Rattle.frame.specs.declared.Placed.{Placed}
-use Rattle.why.proofs.Asking.{not-eight}
 use Rattle.desk.specs.Told.{is_told}
 use Rattle.desk.proofs.is_told.Goals as goal
 
@@ -20,10 +19,6 @@ accepted a size x h = ⊎_elim (λ (v : (t : TypeNo) × (m : ℕ) × (a ≡ Valu
 pub returns-in-Value : goal.returns-in-Value
 returns-in-Value c = let a = c.args in rw c.is_item.ensures (accepted a.a a.size a.x c.in-Value.is)
 
-pub returns-in-NoOverload : goal.returns-in-NoOverload
+pub returns-in-Refused : goal.returns-in-Refused
 unfolding is_told
-returns-in-NoOverload c = rw (c.in-Refused.is, c.in-NoOverload.is)
-
-pub returns-in_default : goal.returns-in_default
-unfolding is_told
-returns-in_default c = rw (c.in-Refused.is, not-eight c.in-Refused.r.reason c.in_default.not-NoOverload)
+returns-in-Refused c = rw (c.in-Refused.is, c.none_fits.ensures)
